@@ -1,0 +1,4 @@
+-- Laws and tactics that other crates cite.
+pub mod Integer
+pub mod Poly
+pub mod Ring
