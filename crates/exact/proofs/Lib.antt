@@ -2,3 +2,5 @@
 pub mod Integer
 pub mod Poly
 pub mod Ring
+pub mod Order
+pub mod Field

@@ -2,7 +2,7 @@
 -- `p ·x+ q` is p · x + q, x the first variable, p over all variables and q over the later ones.
 -- Assumes nothing.
 use mathlib.Core.Path.{_≡_, refl, sym, _∙_, ap, ap₂}
-use mathlib.Core.Bool.{Bool, true, false, cond}
+use mathlib.Core.Bool.{Bool, true, false, cond, _&&_}
 use mathlib.Core.List.{List, [], _∷_}
 use Prim.Native.Nat.{ℕ, zero, suc}
 use lib.Dec.{T, eqb, eqb→eq}
@@ -34,26 +34,22 @@ null : (c : ℤ) → T (isNull c) → c ≡ pos 0
 null (pos n) t = ap pos (eqb→eq n 0 t)
 null (negsuc n) t = absurd t
 
-abbrev both : Bool → Bool → Bool
-both true b = b
-both false b = false
+pub and-left : (a b : Bool) → T (a && b) → T a
+and-left true b t = tt
+and-left false b t = t
 
-both-0 : (a b : Bool) → T (both a b) → T a
-both-0 true b t = tt
-both-0 false b t = t
-
-both-1 : (a b : Bool) → T (both a b) → T b
-both-1 true b t = t
-both-1 false b t = absurd t
+pub and-right : (a b : Bool) → T (a && b) → T b
+and-right true b t = t
+and-right false b t = absurd t
 
 abbrev pub isZero : Poly → Bool
 isZero (con c) = isNull c
-isZero (p ·x+ q) = both (isZero p) (isZero q)
+isZero (p ·x+ q) = isZero p && isZero q
 
 pub zero-value : (p : Poly) (ρ : List ℤ) → T (isZero p) → value p ρ ≡ pos 0
 zero-value (con c) ρ t = null c t
 zero-value (p ·x+ q) ρ t =
-    ap₂ (λ x y. x *ℤ first ρ +ℤ y) (zero-value p ρ (both-0 (isZero p) (isZero q) t)) (zero-value q (later ρ) (both-1 (isZero p) (isZero q) t))
+    ap₂ (λ x y. x *ℤ first ρ +ℤ y) (zero-value p ρ (and-left (isZero p) (isZero q) t)) (zero-value q (later ρ) (and-right (isZero p) (isZero q) t))
     ∙ ap (λ x. x +ℤ pos 0) (zero-*ℤ (first ρ))
 
 -- p · x + q, where a constant stays one

@@ -1,5 +1,5 @@
 -- The ring tactic. `Term ρ z` is z written with +, −, ·, numerals and the variables of ρ; `search terms` finds it.
--- `ring ρ s t tt` proves a ≡ b where the terms s of a and t of b have the same normal form.
+-- `ring ρ (search terms depth 20 fits 9999) tt` proves a ≡ b where both sides have the same normal form.
 -- Assumes nothing.
 use mathlib.Core.Path.{_≡_, refl, sym, _∙_, ap, ap₂}
 use mathlib.Core.List.{List, [], _∷_}
@@ -21,12 +21,10 @@ pub data Term (ρ : List ℤ) : ℤ → Type 0 where
   mul : {a b : ℤ} → Term ρ a → Term ρ b → Term ρ (a *ℤ b)
   neg : {a : ℤ} → Term ρ a → Term ρ (negℤ a)
 
-pub ruleset terms = (here, there, var, num, add, sub, mul, neg, tt)
-
-abbrev minus : Poly → Poly
+abbrev pub minus : Poly → Poly
 minus p = scale (negsuc 0) p
 
-minus-value : (p : Poly) (ρ : List ℤ) → value (minus p) ρ ≡ negℤ (value p ρ)
+pub minus-value : (p : Poly) (ρ : List ℤ) → value (minus p) ρ ≡ negℤ (value p ρ)
 unfolding one
 minus-value p ρ =
     scale-value (negsuc 0) p ρ ∙ neg-* (pos 1) (value p ρ)
@@ -60,12 +58,15 @@ normal-value {ρ} (sub s t) =
 normal-value {ρ} (mul s t) = times-value (normal s) (normal t) ρ ∙ ap₂ (λ x y. x *ℤ y) (normal-value s) (normal-value t)
 normal-value {ρ} (neg t) = minus-value (normal t) ρ ∙ ap negℤ (normal-value t)
 
-pub ring : (ρ : List ℤ) {a b : ℤ} (s : Term ρ a) (t : Term ρ b) → T (isZero (normal (sub s t))) → a ≡ b
-ring ρ {a} {b} s t h =
+-- both sides of an identity
+pub data Sides (ρ : List ℤ) : ℤ → ℤ → Type 0 where
+  sides : {a b : ℤ} → Term ρ a → Term ρ b → Sides ρ a b
+
+pub ruleset terms = (here, there, var, num, add, sub, mul, neg, sides, tt)
+
+abbrev pub gap : {ρ : List ℤ} {a b : ℤ} → Sides ρ a b → Poly
+gap (sides s t) = normal (sub s t)
+
+pub ring : (ρ : List ℤ) {a b : ℤ} (s : Sides ρ a b) → T (isZero (gap s)) → a ≡ b
+ring ρ (sides {a = a} {b = b} s t) h =
     difference a b (sym (normal-value (sub s t)) ∙ zero-value (normal (sub s t)) ρ h)
-
-example₁ : (a b : ℤ) → (a +ℤ b) *ℤ (a -ℤ b) ≡ a *ℤ a -ℤ b *ℤ b
-example₁ a b = ring (a ∷ b ∷ []) (search terms depth 20 fits 9999) (search terms depth 20 fits 9999) tt
-
-example₂ : (a b c : ℤ) → pos 2 *ℤ a *ℤ (b -ℤ c) +ℤ pos 3 ≡ pos 3 -ℤ (c -ℤ b) *ℤ (a +ℤ a)
-example₂ a b c = ring (a ∷ b ∷ c ∷ []) (search terms depth 20 fits 9999) (search terms depth 20 fits 9999) tt

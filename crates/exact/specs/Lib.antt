@@ -1,0 +1,3 @@
+-- Definitions that contracts and theorems cite.
+pub mod Fraction
+pub mod Rounding
