@@ -2,16 +2,16 @@
 -- `ring ρ (search terms depth 20 fits 9999) tt` proves a ≡ b where both sides have the same normal form.
 -- Assumes nothing.
 use mathlib.Core.Path.{_≡_, refl, sym, _∙_, ap, ap₂}
-use mathlib.Core.List.{List, [], _∷_}
-use Prim.Native.Nat.{ℕ}
+use mathlib.Core.List.{List, [], _∷_, map}
+use Prim.Native.Nat.{ℕ, _+_, _*_}
 use lib.Dec.{T, leb}
-use lib.IntN.{ℤ, pos, negsuc, negℤ, _+ℤ_, _-ℤ_, _*ℤ_, +ℤ-idl, +ℤ-idr, *ℤ-comm, *ℤ-one, zero-*ℤ, one}
+use lib.IntN.{ℤ, pos, negsuc, negℤ, natAbs, _+ℤ_, _-ℤ_, _*ℤ_, +ℤ-idl, +ℤ-idr, *ℤ-comm, *ℤ-one, zero-*ℤ, one}
 use Rattle.exact.proofs.Integer.{difference, neg-*}
 use Rattle.exact.proofs.Poly.{Poly, con, _·x+_, value, plus, scale, times, isZero, plus-value, scale-value, times-value, zero-value}
 
-pub data Var : ℤ → List ℤ → Type 0 where
-  here : {x : ℤ} {ρ : List ℤ} → Var x (x ∷ ρ)
-  there : {x y : ℤ} {ρ : List ℤ} → Var x ρ → Var x (y ∷ ρ)
+pub data Var {A : Type 0} : A → List A → Type 0 where
+  here : {x : A} {ρ : List A} → Var x (x ∷ ρ)
+  there : {x y : A} {ρ : List A} → Var x ρ → Var x (y ∷ ρ)
 
 pub data Term (ρ : List ℤ) : ℤ → Type 0 where
   var : {x : ℤ} → Var x ρ → Term ρ x
@@ -70,3 +70,32 @@ gap (sides s t) = normal (sub s t)
 pub ring : (ρ : List ℤ) {a b : ℤ} (s : Sides ρ a b) → T (isZero (gap s)) → a ≡ b
 ring ρ (sides {a = a} {b = b} s t) h =
     difference a b (sym (normal-value (sub s t)) ∙ zero-value (normal (sub s t)) ρ h)
+
+-- ---- the same on ℕ: a sum or a product of natural numbers is that of the integers
+
+pub data Count (ρ : List ℕ) : ℕ → Type 0 where
+  count-var : {x : ℕ} → Var x ρ → Count ρ x
+  count-num : {n : ℕ} → T (leb 0 n) → Count ρ n
+  count-add : {a b : ℕ} → Count ρ a → Count ρ b → Count ρ (a + b)
+  count-mul : {a b : ℕ} → Count ρ a → Count ρ b → Count ρ (a * b)
+
+pub data Counts (ρ : List ℕ) : ℕ → ℕ → Type 0 where
+  count-sides : {a b : ℕ} → Count ρ a → Count ρ b → Counts ρ a b
+
+pub ruleset counts = (here, there, count-var, count-num, count-add, count-mul, count-sides, tt)
+
+abbrev cast-var : {x : ℕ} {ρ : List ℕ} → Var x ρ → Var (pos x) (map pos ρ)
+cast-var here = here
+cast-var (there v) = there (cast-var v)
+
+abbrev cast : {ρ : List ℕ} {n : ℕ} → Count ρ n → Term (map pos ρ) (pos n)
+cast (count-var v) = var (cast-var v)
+cast (count-num t) = num t
+cast (count-add s t) = add (cast s) (cast t)
+cast (count-mul s t) = mul (cast s) (cast t)
+
+abbrev pub cast-sides : {ρ : List ℕ} {a b : ℕ} → Counts ρ a b → Sides (map pos ρ) (pos a) (pos b)
+cast-sides (count-sides s t) = sides (cast s) (cast t)
+
+pub ring-ℕ : (ρ : List ℕ) {a b : ℕ} (s : Counts ρ a b) → T (isZero (gap (cast-sides s))) → a ≡ b
+ring-ℕ ρ s h = ap natAbs (ring (map pos ρ) (cast-sides s) h)
