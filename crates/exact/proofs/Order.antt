@@ -95,8 +95,14 @@ pub ≤-of-≡ : {a b : ℤ} → a ≡ b → a ≤ℤ b
 pub pos-≤ : {m n : ℕ} → m ≤ n → pos m ≤ℤ pos n
 pos-≤ {m} {n} h = record { le = le→leb m n h }
 
+pub pos-< : {m n : ℕ} → m < n → pos m <ℤ pos n
+pos-< {m} {n} h = record { lt = lt→ltb m n h }
+
 pub ≤-pos : {m n : ℕ} → pos m ≤ℤ pos n → m ≤ n
 ≤-pos {m} {n} h = leb→le m n (h .le)
+
+pub <-pos : {m n : ℕ} → pos m <ℤ pos n → m < n
+<-pos {m} {n} h = ltb→lt m n (h .lt)
 
 pub pos-injective : {m n : ℕ} → pos m ≡ pos n → m ≡ n
 pos-injective {m} {n} e = ap natAbs e
@@ -148,6 +154,10 @@ pub <-of-next : {a b : ℤ} → (a +ℤ pos 1) ≤ℤ b → a <ℤ b
             let z : 1 + n ≡ 0 = pos-injective (ring (a ∷ pos n ∷ []) {a = pos 1 +ℤ pos n} {b = (a +ℤ pos 1) +ℤ pos n -ℤ a} (search terms depth 20 fits 9999) tt ∙ ap (λ x. x -ℤ a) (sym e) ∙ ring (a ∷ []) {a = a -ℤ a} {b = pos 0} (search terms depth 20 fits 9999) tt) in
             omega arith
 
+-- a whole number below b + 1 is at most b
+pub ≤-of-< : {a b : ℤ} → a <ℤ (b +ℤ pos 1) → a ≤ℤ b
+≤-of-< {a} {b} h = ≤-by (b +ℤ pos 1 -ℤ (a +ℤ pos 1)) (ring (a ∷ b ∷ []) (search terms depth 20 fits 9999) tt) (≤-difference (<-next h))
+
 -- the certificate
 pub <-by : {a b : ℤ} (c : ℤ) → b -ℤ a ≡ c → pos 0 <ℤ c → a <ℤ b
 <-by {a} {b} c e h =
@@ -176,9 +186,6 @@ pub ≤-antisym : {a b : ℤ} → a ≤ℤ b → b ≤ℤ a → a ≡ b
         absurd (<-≤-clash (<-by (pos (suc n)) (ap (λ x. x -ℤ a) e ∙ ring (a ∷ pos (suc n) ∷ []) {a = a +ℤ pos (suc n) -ℤ a} {b = pos (suc n)} (search terms depth 20 fits 9999) tt) (record { lt = lt→ltb 0 (suc n) (omega arith) })) k)
 
 -- ---- above 0
-
-pub positive : {n : ℕ} → 0 < n → pos 0 <ℤ pos n
-positive {n} h = record { lt = lt→ltb 0 n h }
 
 pub positive-lit : {n : ℕ} → T (ltb 0 n) → pos 0 <ℤ pos n
 positive-lit t = record { lt = t }
