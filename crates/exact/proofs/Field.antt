@@ -103,6 +103,3 @@ unfolding _-ℚ_
 field ρ (ratio-sides {x = x} {y = y} s t) h =
     record { cross = difference (x .num *ℤ y .den) (y .num *ℤ x .den)
         (sym (means (dif s t) .top) ∙ zero-value (cross-gap (ratio-sides s t)) ρ h) }
-
-example : (x y : Fraction) → (x +ℚ y) *ℚ (x -ℚ y) ≈ℚ x *ℚ x -ℚ y *ℚ y
-example x y = field (x .num ∷ x .den ∷ y .num ∷ y .den ∷ []) (search ratios depth 20 fits 9999) tt

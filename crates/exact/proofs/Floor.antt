@@ -1,6 +1,6 @@
 -- Floor division: d·q ≤ n < d·(q + 1), that this determines q, and what follows; the floor of a fraction and the rounding.
 -- Assumes nothing.
-use mathlib.Core.Path.{_≡_, refl, sym, _∙_, ap, subst, subst⁻¹}
+use mathlib.Core.Path.{_≡_, refl, sym, _∙_, ap, subst, subst⁻¹, subst₂}
 use mathlib.Core.List.{List, [], _∷_}
 use mathlib.Core.Logic.{_⊎_, inl, inr}
 use Prim.Native.Nat.{ℕ, suc, _+_, _*_, _/_, _%_, _≤_, _<_}
@@ -33,12 +33,16 @@ pub quotient : (n : ℤ) {d : ℕ} → 0 < d → Quotient n d (floorDiv n d)
 unfolding floorDiv
 quotient (pos n) {d} h = record { low = Z.pos-≤ (div-mul-le-self n d); high = Z.pos-< (rw mul-comm (lt-mul-div-succ n h)) }
 quotient (negsuc n) {d} h =
-    let q : ℤ = pos (n / d) in
-    let above : (pos n +ℤ pos 1) ≤ℤ ((q +ℤ pos 1) *ℤ pos d) = Z.<-next (Z.pos-< (rw mul-comm (lt-mul-div-succ n h))) in
-    let below : (q *ℤ pos d) ≤ℤ pos n = Z.pos-≤ (div-mul-le-self n d) in
-    rw (negsuc-is n, negsuc-is (n / d)) (record {
-        low = Z.≤-by _ (ring (pos n ∷ pos d ∷ q ∷ []) {a = negℤ (pos n +ℤ pos 1) -ℤ negℤ (q +ℤ pos 1) *ℤ pos d} {b = (q +ℤ pos 1) *ℤ pos d -ℤ (pos n +ℤ pos 1)} (search terms depth 20 fits 9999) tt) (Z.≤-difference above);
-        high = Z.<-of-next (Z.≤-by _ (ring (pos n ∷ pos d ∷ q ∷ []) {a = (negℤ (q +ℤ pos 1) +ℤ pos 1) *ℤ pos d -ℤ (negℤ (pos n +ℤ pos 1) +ℤ pos 1)} {b = pos n -ℤ q *ℤ pos d} (search terms depth 20 fits 9999) tt) (Z.≤-difference below)) })
+    subst₂ (λ x y. Quotient x d y) (sym (negsuc-is n)) (sym (negsuc-is (n / d)))
+    (record { low = Z.≤-by _ (ring (pos n ∷ pos d ∷ q ∷ []) {b = (q +ℤ pos 1) *ℤ pos d -ℤ (pos n +ℤ pos 1)} (search terms depth 20 fits 9999) tt) (Z.≤-difference above);
+        high = Z.<-of-next (Z.≤-by _ (ring (pos n ∷ pos d ∷ q ∷ []) {b = pos n -ℤ q *ℤ pos d} (search terms depth 20 fits 9999) tt) (Z.≤-difference below)) })
+  where
+    q : ℤ
+    q = pos (n / d)
+    above : (pos n +ℤ pos 1) ≤ℤ ((q +ℤ pos 1) *ℤ pos d)
+    above = Z.<-next (Z.pos-< (rw mul-comm (lt-mul-div-succ n h)))
+    below : (q *ℤ pos d) ≤ℤ pos n
+    below = Z.pos-≤ (div-mul-le-self n d)
 
 -- z with z·d ≤ n is at most the quotient
 pub quotient-greatest : {n : ℤ} {d : ℕ} {q : ℤ} (z : ℤ) → Quotient n d q → (z *ℤ pos d) ≤ℤ n → z ≤ℤ q
@@ -106,8 +110,7 @@ floor-mono x y px py h =
 -- ---- the rounding
 
 proper-half : Proper half
-unfolding half
-proper-half = Q.proper-over (pos 1) (pos 2) (Z.positive-lit tt)
+proper-half = search positivity
 
 pub round-keeps-order : RoundKeepsOrder
 unfolding round
@@ -119,7 +122,7 @@ round-≈ x y px py e =
     Z.≤-antisym (round-keeps-order x y px py (Q.≤-of-≈ e)) (round-keeps-order y x py px (Q.≤-of-≈ (Q.≈-sym e)))
 
 pub round-is-near : RoundIsNear
-unfolding round half
+unfolding round
 round-is-near x px = (above (Q.≤-or-< (whole (round x +ℤ pos 1)) (x +ℚ half)), g .not-above)
   where
     g : Greatest (x +ℚ half) (round x)
@@ -128,7 +131,7 @@ round-is-near x px = (above (Q.≤-or-< (whole (round x +ℤ pos 1)) (x +ℚ hal
     above (inl h) = absurd (Z.<-≤-clash (Z.<-of-next (≤ℤ-refl (round x +ℤ pos 1))) (g .greatest (round x +ℤ pos 1) h))
     above (inr h) =
         Q.<-by (Q.proper-- px proper-half) (Q.proper-whole (round x)) (whole (round x +ℤ pos 1) -ℚ (x +ℚ half)) (Q.proper-- (Q.proper-whole (round x +ℤ pos 1)) (Q.proper-+ px proper-half))
-        (field (x .num ∷ x .den ∷ round x ∷ []) {x = whole (round x) -ℚ (x -ℚ (pos 1 over pos 2))} {y = whole (round x +ℤ pos 1) -ℚ (x +ℚ (pos 1 over pos 2))} (search ratios depth 20 fits 9999) tt) (Q.positive-difference h)
+        (field (x .num ∷ x .den ∷ round x ∷ []) (search ratios depth 20 fits 9999) tt) (Q.positive-difference h)
 
 -- whole numbers in order
 pub whole-< : (a b : ℤ) → whole a <ℚ whole b → a <ℤ b
@@ -137,20 +140,19 @@ whole-< a b h = Z.<-cancel (Z.nonneg-pos 1) (h .cross)
 
 -- nothing else is so near
 pub round-unique : (x : Fraction) (k : ℤ) → Proper x → x -ℚ half <ℚ whole k → whole k ≤ℚ x +ℚ half → round x ≡ k
-unfolding round half
+unfolding round
 round-unique x k px low high =
     Z.≤-antisym (not-above (round-is-near x px .1)) (floor-greatest (x +ℚ half) (Q.proper-+ px proper-half) .greatest k high)
   where
     not-above : whole (round x) ≤ℚ x +ℚ half → round x ≤ℤ k
     not-above h =
         Z.≤-of-< (whole-< (round x) (k +ℤ pos 1) (Q.<-by (Q.proper-whole (round x)) (Q.proper-whole (k +ℤ pos 1)) ((whole k -ℚ (x -ℚ half)) +ℚ (x +ℚ half -ℚ whole (round x))) (search (propers, proper-half))
-        (field (x .num ∷ x .den ∷ round x ∷ k ∷ []) {x = whole (k +ℤ pos 1) -ℚ whole (round x)} {y = (whole k -ℚ (x -ℚ (pos 1 over pos 2))) +ℚ (x +ℚ (pos 1 over pos 2) -ℚ whole (round x))} (search ratios depth 20 fits 9999) tt)
+        (field (x .num ∷ x .den ∷ round x ∷ k ∷ []) (search ratios depth 20 fits 9999) tt)
         (Q.positive-+ (search (propers, proper-half)) (search (propers, proper-half)) (Q.positive-difference low) (Q.nonneg-difference h))))
 
 -- a whole number reads as itself
 pub round-whole : (z : ℤ) → round (whole z) ≡ z
-unfolding half
 round-whole z =
     round-unique (whole z) z (Q.proper-whole z)
-    (Q.<-by (search (propers, proper-half)) (search propers) half proper-half (field (z ∷ []) {x = whole z -ℚ (whole z -ℚ (pos 1 over pos 2))} {y = pos 1 over pos 2} (search ratios depth 20 fits 9999) tt) (Q.positive-over (pos 1) (pos 2) (Z.positive-lit tt)))
-    (Q.≤-by (search propers) (search (propers, proper-half)) half proper-half (field (z ∷ []) {x = whole z +ℚ (pos 1 over pos 2) -ℚ whole z} {y = pos 1 over pos 2} (search ratios depth 20 fits 9999) tt) (Q.nonneg-over (pos 1) (pos 2) (Z.nonneg-pos 1)))
+    (Q.<-by (search (propers, proper-half)) (search propers) half proper-half (field (z ∷ []) (search ratios depth 20 fits 9999) tt) (Q.positive-over (pos 1) (pos 2) (Z.positive-lit tt)))
+    (Q.≤-by (search propers) (search (propers, proper-half)) half proper-half (field (z ∷ []) (search ratios depth 20 fits 9999) tt) (Q.nonneg-over (pos 1) (pos 2) (Z.nonneg-pos 1)))

@@ -6,3 +6,4 @@ pub mod Order
 pub mod Field
 pub mod Fractions
 pub mod Floor
+pub mod Identities

@@ -15,7 +15,7 @@ unfoldable pub floor : Fraction → ℤ
 floor x = floorDiv (x .num) (natAbs (x .den))
 
 -- document 01, "Rounding": the greatest whole number not above the exact value plus one half
-unfoldable pub half : Fraction
+abbrev pub half : Fraction
 half = pos 1 over pos 2
 
 unfoldable pub round : Fraction → ℤ
@@ -34,4 +34,4 @@ abbrev pub RoundKeepsOrder : Type 0
 RoundKeepsOrder = (x y : Fraction) → Proper x → Proper y → x ≤ℚ y → round x ≤ℤ round y
 
 abbrev pub RoundIsNear : Type 0
-RoundIsNear = (x : Fraction) → Proper x → (x -ℚ half <ℚ whole (round x)) × (whole (round x) ≤ℚ x +ℚ half)
+RoundIsNear = (x : Fraction) → Proper x → (x -ℚ (pos 1 over pos 2) <ℚ whole (round x)) × (whole (round x) ≤ℚ x +ℚ (pos 1 over pos 2))

@@ -1,0 +1,2 @@
+-- Theorems and laws that other crates cite.
+pub mod Readings

@@ -1,0 +1,19 @@
+-- Document 01, "The calls": one answer that is either its result or a refusal with a number and a place.
+-- Assumes nothing.
+use Prim.Native.Nat.{ℕ}
+use mathlib.Core.Bool.{Bool, true, false}
+
+pub data Answer (A : Type 0) : Type 0 where
+  gives : A → Answer A
+  refused : ℕ → ℕ → Answer A
+
+-- one row of the refusal table: its condition, number and place
+unfoldable pub row : Bool → ℕ → ℕ → Answer (Unit {0})
+row true number place = refused number place
+row false number place = gives tt
+
+-- the search ends at the first fault
+infixr 3 _then_
+unfoldable pub _then_ : {A : Type 0} → Answer (Unit {0}) → Answer A → Answer A
+gives u then a = a
+refused number place then a = refused number place

@@ -1,0 +1,8 @@
+-- Document 01 in definitions, in the document's order.
+pub mod Answer
+pub mod Points
+pub mod Interpolant
+pub mod Shape
+pub mod Check
+pub mod Read
+pub mod Readings

@@ -1,0 +1,1 @@
+// Factor curves through rated points.
