@@ -1,2 +1,3 @@
 -- Theorems and laws that other crates cite.
 pub mod Readings
+pub mod ClosedForm

@@ -6,8 +6,7 @@ use mathlib.Core.Logic.{_⊎_, inl, inr}
 use lib.IntN.{ℤ, pos, _+ℤ_, _-ℤ_, _*ℤ_}
 use lib.Signed.{_≤ℤ_, _<ℤ_, ≤ℤ-refl}
 use Rattle.exact.specs.Fraction.{Fraction, Proper, _over_, whole, _+ℚ_, _-ℚ_, _*ℚ_, _/ℚ_, _≈ℚ_, _≤ℚ_, _<ℚ_}
-use Rattle.exact.proofs.Integer.{difference}
-use Rattle.exact.proofs.Ring.{ring, terms}
+use Rattle.exact.proofs.Ring.{ring, terms, combined}
 use Rattle.exact.proofs.Order as Z
 use Rattle.exact.proofs.Order.{signs}
 use Rattle.exact.proofs.Field.{field, ratios}
@@ -111,12 +110,6 @@ pub ≈-sym : {x y : Fraction} → x ≈ℚ y → y ≈ℚ x
 
 pub ≈-of-≡ : {x y : Fraction} → x ≡ y → x ≈ℚ y
 ≈-of-≡ {x} e = subst (λ z. x ≈ℚ z) e (≈-refl x)
-
--- a − b is a combination of differences that are 0
-combined : (a b p q r s k l : ℤ) → p ≡ q → r ≡ s → a -ℤ b ≡ k *ℤ (p -ℤ q) +ℤ l *ℤ (r -ℤ s) → a ≡ b
-combined a b p q r s k l e f h =
-    difference a b (h ∙ ap₂ (λ x y. k *ℤ (x -ℤ q) +ℤ l *ℤ (y -ℤ s)) e f
-    ∙ ring (q ∷ s ∷ k ∷ l ∷ []) {a = k *ℤ (q -ℤ q) +ℤ l *ℤ (s -ℤ s)} {b = pos 0} (search terms depth 20 fits 9999) tt)
 
 pub ≈-trans : {x y z : Fraction} → Proper y → x ≈ℚ y → y ≈ℚ z → x ≈ℚ z
 ≈-trans {x} {y} {z} py h k =

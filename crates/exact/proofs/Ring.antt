@@ -71,6 +71,12 @@ pub ring : (ρ : List ℤ) {a b : ℤ} (s : Sides ρ a b) → T (isZero (gap s))
 ring ρ (sides {a = a} {b = b} s t) h =
     difference a b (sym (normal-value (sub s t)) ∙ zero-value (normal (sub s t)) ρ h)
 
+-- a − b is a combination of differences that are 0
+pub combined : (a b p q r s k l : ℤ) → p ≡ q → r ≡ s → a -ℤ b ≡ k *ℤ (p -ℤ q) +ℤ l *ℤ (r -ℤ s) → a ≡ b
+combined a b p q r s k l e f h =
+    difference a b (h ∙ ap₂ (λ x y. k *ℤ (x -ℤ q) +ℤ l *ℤ (y -ℤ s)) e f
+    ∙ ring (q ∷ s ∷ k ∷ l ∷ []) {a = k *ℤ (q -ℤ q) +ℤ l *ℤ (s -ℤ s)} {b = pos 0} (search terms depth 20 fits 9999) tt)
+
 -- ---- the same on ℕ: a sum or a product of natural numbers is that of the integers
 
 pub data Count (ρ : List ℕ) : ℕ → Type 0 where
