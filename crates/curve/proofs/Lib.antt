@@ -1,3 +1,4 @@
 -- Theorems and laws that other crates cite.
 pub mod Readings
 pub mod ClosedForm
+pub mod Walk
