@@ -2,3 +2,4 @@
 pub mod Readings
 pub mod ClosedForm
 pub mod Walk
+pub mod Inside

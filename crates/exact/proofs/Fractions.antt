@@ -1,11 +1,14 @@
 -- Laws of fractions. An inequality is a certificate: the difference of its sides equals, by the field tactic, what is not negative.
 -- Assumes nothing.
 use mathlib.Core.Path.{_≡_, refl, sym, _∙_, ap, ap₂, subst, subst⁻¹}
+use mathlib.Core.Bool.{Bool, true, false}
 use mathlib.Core.List.{List, [], _∷_}
 use mathlib.Core.Logic.{_⊎_, inl, inr}
+use lib.Dec.{T}
 use lib.IntN.{ℤ, pos, _+ℤ_, _-ℤ_, _*ℤ_}
 use lib.Signed.{_≤ℤ_, _<ℤ_, ≤ℤ-refl}
-use Rattle.exact.specs.Fraction.{Fraction, Proper, _over_, whole, _+ℚ_, _-ℚ_, _*ℚ_, _/ℚ_, _≈ℚ_, _≤ℚ_, _<ℚ_}
+use Rattle.exact.specs.Fraction.{Fraction, Proper, _over_, whole, _+ℚ_, _-ℚ_, _*ℚ_, _/ℚ_, _≈ℚ_, _≤ℚ_, _<ℚ_, leℚ, ltℚ, eqℚ}
+use Rattle.exact.proofs.Poly.{and-left, and-right}
 use Rattle.exact.proofs.Ring.{ring, terms, combined}
 use Rattle.exact.proofs.Order as Z
 use Rattle.exact.proofs.Order.{signs}
@@ -157,6 +160,28 @@ pub ≤-or-< : (x y : Fraction) → (x ≤ℚ y) ⊎ (y <ℚ x)
 
 pub <-≤-clash : {x y : Fraction} → x <ℚ y → y ≤ℚ x → ⊥
 <-≤-clash h k = Z.<-≤-clash (h .cross) (k .cross)
+
+-- the tests decide the comparisons
+pub ltℚ-yes : {x y : Fraction} → T (ltℚ x y) → x <ℚ y
+unfolding ltℚ
+ltℚ-yes t = record { cross = record { lt = t } }
+
+pub leℚ-yes : {x y : Fraction} → T (leℚ x y) → x ≤ℚ y
+unfolding leℚ
+leℚ-yes t = record { cross = record { le = t } }
+
+pub eqℚ-yes : {x y : Fraction} → T (eqℚ x y) → x ≈ℚ y
+unfolding eqℚ
+eqℚ-yes {x} {y} t =
+    ≤-antisym (leℚ-yes (and-left (leℚ x y) (leℚ y x) t)) (leℚ-yes (and-right (leℚ x y) (leℚ y x) t))
+
+pub ltℚ-no : {x y : Fraction} → y ≤ℚ x → ltℚ x y ≡ false
+unfolding ltℚ
+ltℚ-no {x} {y} h = decide (ltℚ x y) refl
+  where
+    decide : (b : Bool) → ltℚ x y ≡ b → b ≡ false
+    decide false e = refl
+    decide true e = absurd (<-≤-clash (ltℚ-yes {x = x} {y = y} (subst⁻¹ T e tt)) h)
 
 -- an equal fraction has the same sign
 pub nonneg-≈ : {x y : Fraction} → Proper x → Proper y → x ≈ℚ y → NonNeg y → NonNeg x
