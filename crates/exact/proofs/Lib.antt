@@ -4,3 +4,4 @@ pub mod Poly
 pub mod Ring
 pub mod Order
 pub mod Field
+pub mod Signed
