@@ -5,3 +5,4 @@ pub mod Ring
 pub mod Order
 pub mod Field
 pub mod Signed
+pub mod Size

@@ -1,3 +1,4 @@
 -- Definitions that contracts and theorems cite.
 pub mod Fraction
 pub mod Rounding
+pub mod MulDiv
