@@ -7,3 +7,5 @@ pub mod Field
 pub mod Fractions
 pub mod Floor
 pub mod Identities
+pub mod Signed
+pub mod Size

@@ -2,3 +2,4 @@
 pub mod Fraction
 pub mod Rounding
 pub mod Identities
+pub mod MulDiv

@@ -1,1 +1,84 @@
-// Exact arithmetic.
+// Exact arithmetic: floor division, and the quotient of a product that may pass 64 bits.
+ghost use mathlib.Core.Path.{_≡_};
+ghost use mathlib.Core.Bool.{cond};
+ghost use Prim.Native.Nat.{_*_, _/_, _^_, _<_};
+ghost use lib.IntN.{pos, negsuc, natAbs, _-ℤ_};
+ghost use lib.Signed.{_<ℤ_};
+ghost use Rattle.exact.specs.Rounding.{floorDiv};
+ghost use Rattle.exact.specs.MulDiv.{Divided, Step, Scaled};
+
+// -1 - z where `negative`, else z.
+fn flip(z: i64, negative: bool) -> i64
+    ensures { λ r. ⌜ r ≡ cond negative (negsuc 0 -ℤ z) z ⌝ }
+{
+    if negative { -1 - z } else { z }
+}
+
+// n / d, rounded down. `/` truncates, so a negative n goes by -1 - (-1 - n) / d.
+pub fn floor_div(n: i64, d: i64) -> i64
+    requires { ⌜ pos 0 <ℤ d ⌝ }
+    ensures { λ r. ⌜ r ≡ floorDiv n (natAbs d) ⌝ }
+{
+    let negative = n < 0;
+    flip(flip(n, negative) / d, negative)
+}
+
+// Bases for the digits of y, 2^26 and 2^16. A step fits 64 bits where c * base is at most 2^63.
+const WIDE: u64 = 0x400_0000;
+
+const NARROW: u64 = 0x1_0000;
+
+// Quotient and remainder of x * y by c, with y the digits so far.
+struct Partial {
+    q: u64,
+    r: u64,
+}
+
+// The digits so far in one division.
+fn start(x: u64, y: u64, c: u64) -> Partial
+    requires { ⌜ (x * y < 2 ^ 64) × (0 < c) ⌝ }
+    ensures { λ s. ⌜ Divided (x * y) c (s .q) (s .r) ⌝ }
+{
+    let n = x * y;
+    Partial { q: n / c, r: n % c }
+}
+
+// One digit more: to y, from y / base.
+fn step(p: Partial, x: u64, y: u64, c: u64, base: u64) -> Partial
+    requires { ⌜ Step x y c base (p .q) (p .r) ⌝ }
+    ensures { λ s. ⌜ Divided (x * y) c (s .q) (s .r) ⌝ }
+{
+    let n = p.r * base + x * (y % base);
+    Partial {
+        q: p.q * base + n / c,
+        r: n % c,
+    }
+}
+
+// x * y / c, rounded down.
+pub fn mul_div(x: u64, y: u64, c: u64) -> u64
+    requires { ⌜ Scaled x y c ⌝ }
+    ensures { λ r. ⌜ r ≡ x * y / c ⌝ }
+{
+    // the product fits: 47 + 17 bits, or 32 + 32
+    if y < 0x2_0000 {
+        return x * y / c;
+    }
+    if x < 0x1_0000_0000 {
+        if y < 0x1_0000_0000 {
+            return x * y / c;
+        }
+    }
+    if c < 0x20_0000_0000 {
+        let high = start(x, y / WIDE, c);
+        return step(high, x, y, c, WIDE).q;
+    }
+    let z = y / NARROW;
+    if z < 0x2_0000 {
+        let high = start(x, z, c);
+        return step(high, x, y, c, NARROW).q;
+    }
+    let top = start(x, z / NARROW, c);
+    let high = step(top, x, z, c, NARROW);
+    step(high, x, y, c, NARROW).q
+}
