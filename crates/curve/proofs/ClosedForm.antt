@@ -6,7 +6,7 @@ use mathlib.Core.List.{List, [], _∷_}
 use mathlib.Core.Logic.{_⊎_, inl, inr}
 use lib.IntN.{ℤ, pos, _+ℤ_, _-ℤ_, _*ℤ_}
 use lib.Signed.{_≤ℤ_, _<ℤ_}
-use Rattle.exact.specs.Fraction.{Fraction, Proper, _over_, whole, _+ℚ_, _-ℚ_, _*ℚ_, _/ℚ_, _≈ℚ_}
+use Rattle.exact.specs.Fraction.{Fraction, Proper, _over_, whole, _+ℚ_, _-ℚ_, _*ℚ_, _/ℚ_, _≈ℚ_, _<ℚ_}
 use Rattle.exact.proofs.Ring.{ring, terms}
 use Rattle.exact.proofs.Order as Z
 use Rattle.exact.proofs.Order.{signs}
@@ -29,7 +29,7 @@ numerator L R H p q d₀ d₁ r =
 abbrev denominator : (p q r : Fraction) → Fraction
 denominator p q r = whole (pos 1) +ℚ (r -ℚ whole (pos 3)) *ℚ (p *ℚ q)
 
-ruleset congruence = (Q.≈-+, Q.≈--, Q.≈-*, Q.≈-/, Q.≈-refl)
+pub ruleset congruence = (Q.≈-+, Q.≈--, Q.≈-*, Q.≈-/, Q.≈-refl)
 
 -- v has a denominator above 0, and is the number x
 pub record Closed (v x : Fraction) : Type 0 where
@@ -75,12 +75,12 @@ W-positive h t h-pos ht hu ha hb =
     blend-positive ha hb ht hu (subst (λ x. pos 0 <ℤ x) (ring (h ∷ t ∷ []) {a = h} {b = t +ℤ (h -ℤ t)} (search terms depth 20 fits 9999) tt) h-pos)
 
 module _ {h left right : ℤ} {d₀ d₁ : Fraction} {S e₀ g e₁ : ℤ} (n : Normal h left right d₀ d₁ S e₀ g e₁) (S-pos : pos 0 <ℤ S) (h-pos : pos 0 <ℤ h) where
-  F-≈ : whole (right -ℤ left) ≈ℚ whole h *ℚ (g over S)
+  pub F-≈ : whole (right -ℤ left) ≈ℚ whole h *ℚ (g over S)
   F-≈ =
       Q.≈-trans {y = whole h *ℚ ((right -ℤ left) over h)} (search propers)
       (field (left ∷ right ∷ h ∷ []) (search ratios depth 20 fits 9999) tt) (let e = n .chord-slope in search congruence)
 
-  right-≈ : whole right ≈ℚ whole left +ℚ whole h *ℚ (g over S)
+  pub right-≈ : whole right ≈ℚ whole left +ℚ whole h *ℚ (g over S)
   right-≈ =
       Q.≈-trans {y = whole left +ℚ whole (right -ℤ left)} (search propers)
       (field (left ∷ right ∷ []) (search ratios depth 20 fits 9999) tt) (let e = F-≈ in search congruence)
@@ -104,13 +104,34 @@ module _ {h left right : ℤ} {d₀ d₁ : Fraction} {S e₀ g e₁ : ℤ} (n : 
       (Q.positive-≈ {y = B h t e₀ g e₁ over (g *ℤ (h *ℤ h))} (search positivity depth 9) (search positivity) (field (e₀ ∷ g ∷ e₁ ∷ S ∷ t ∷ h ∷ []) (search ratios depth 30 fits 9999) tt) (Q.positive-over _ _ hB))
       (Q.≈-trans {y = whole left +ℚ (whole h *ℚ (g over S)) *ℚ (A h t e₀ g over B h t e₀ g e₁)} (search propers) (field (e₀ ∷ g ∷ e₁ ∷ S ∷ left ∷ t ∷ h ∷ []) (search ratios depth 30 fits 9999) tt) (search congruence))
 
-pub convex-closed : {h left right : ℤ} {d₀ d₁ : Fraction} {S a g b : ℤ} (n : Normal h left right d₀ d₁ S (g -ℤ b) g (g +ℤ a)) → pos 0 <ℤ S → pos 0 <ℤ h → (t : ℤ) → pos 0 ≤ℤ t → pos 0 ≤ℤ (h -ℤ t) → Proper d₀ → Proper d₁ → pos 0 <ℤ a → pos 0 <ℤ b → Closed (I.rational h left right t d₀ d₁ (I.r-convex h left right t d₀ d₁)) (whole left +ℚ (((g -ℤ b) *ℤ t) over S) +ℚ ((b *ℤ t *ℤ (b *ℤ t)) over (S *ℤ W h t a b)))
-unfolding I.r-convex I.chord
-convex-closed {h} {left} {right} {d₀} {d₁} {S} {a} {g} {b} n S-pos h-pos t t-low t-high p₀ p₁ a-pos b-pos =
-    let over-b : (right -ℤ left) over h -ℚ d₀ ≈ℚ b over S = Q.≈-trans {y = g over S -ℚ (g -ℤ b) over S} (search propers) (Q.≈-- (n .chord-slope) (n .left-slope)) (field (g ∷ b ∷ S ∷ []) (search ratios depth 20 fits 9999) tt) in
-    let over-a : d₁ -ℚ (right -ℤ left) over h ≈ℚ a over S = Q.≈-trans {y = (g +ℤ a) over S -ℚ g over S} (search propers) (Q.≈-- (n .right-slope) (n .chord-slope)) (field (g ∷ a ∷ S ∷ []) (search ratios depth 20 fits 9999) tt) in
-    let a-positive = Q.positive-≈ (search propers) (search propers) over-a (Q.positive-over a S a-pos) in
-    let b-positive = Q.positive-≈ (search propers) (search propers) over-b (Q.positive-over b S b-pos) in
-    transfer h left right t (whole left +ℚ whole h *ℚ (g over S)) ((g -ℤ b) over S) ((g +ℤ a) over S) (whole (pos 1) +ℚ (a over S) /ℚ (b over S) +ℚ (b over S) /ℚ (a over S)) h-pos p₀ p₁ (search positivity) (search propers) (search propers) (search propers) (search positivity) (right-≈ n S-pos h-pos) (n .left-slope) (n .right-slope) (search congruence depth 9 fits 9999)
-    (Q.positive-≈ {y = (W h t a b *ℤ W h t b a) over (a *ℤ b *ℤ (h *ℤ h))} (search positivity depth 9) (search positivity) (field (a ∷ b ∷ S ∷ t ∷ h ∷ []) (search ratios depth 30 fits 9999) tt) (Q.positive-over _ _ (Z.positive-* (W-positive h t h-pos t-low t-high a-pos b-pos) (W-positive h t h-pos t-low t-high b-pos a-pos))))
-    (field (a ∷ g ∷ b ∷ S ∷ left ∷ t ∷ h ∷ []) (search ratios depth 30 fits 9999) tt)
+-- the same by the slopes' distances from the chord: a = e₁ − g above it and b = g − e₀ below
+pub record Around (h left right : ℤ) (d₀ d₁ : Fraction) (S a g b : ℤ) : Type 0 where
+  pub normal : Normal h left right d₀ d₁ S (g -ℤ b) g (g +ℤ a)
+
+module _ {h left right : ℤ} {d₀ d₁ : Fraction} {S a g b : ℤ} (n : Around h left right d₀ d₁ S a g b) (S-pos : pos 0 <ℤ S) (h-pos : pos 0 <ℤ h) (p₀ : Proper d₀) (p₁ : Proper d₁) where
+  below-chord : (right -ℤ left) over h -ℚ d₀ ≈ℚ b over S
+  below-chord =
+      Q.≈-trans {y = g over S -ℚ (g -ℤ b) over S} (search propers) (Q.≈-- (n .normal .chord-slope) (n .normal .left-slope)) (field (g ∷ b ∷ S ∷ []) (search ratios depth 20 fits 9999) tt)
+
+  above-chord : d₁ -ℚ (right -ℤ left) over h ≈ℚ a over S
+  above-chord =
+      Q.≈-trans {y = (g +ℤ a) over S -ℚ g over S} (search propers) (Q.≈-- (n .normal .right-slope) (n .normal .chord-slope)) (field (g ∷ a ∷ S ∷ []) (search ratios depth 20 fits 9999) tt)
+
+  pub b-positive : d₀ <ℚ (right -ℤ left) over h → pos 0 <ℤ b
+  unfolding _over_
+  b-positive k = Q.positive-≈ {x = b over S} (search propers) (search propers) (Q.≈-sym below-chord) (Q.positive-difference k) .sign
+
+  pub a-positive : (right -ℤ left) over h <ℚ d₁ → pos 0 <ℤ a
+  unfolding _over_
+  a-positive k = Q.positive-≈ {x = a over S} (search propers) (search propers) (Q.≈-sym above-chord) (Q.positive-difference k) .sign
+
+  pub convex-closed : (t : ℤ) → pos 0 ≤ℤ t → pos 0 ≤ℤ (h -ℤ t) → d₀ <ℚ (right -ℤ left) over h → (right -ℤ left) over h <ℚ d₁ → Closed (I.rational h left right t d₀ d₁ (I.r-convex h left right t d₀ d₁)) (whole left +ℚ (((g -ℤ b) *ℤ t) over S) +ℚ ((b *ℤ t *ℤ (b *ℤ t)) over (S *ℤ W h t a b)))
+  unfolding I.r-convex I.chord
+  convex-closed t t-low t-high low high =
+      let over-b = below-chord in
+      let over-a = above-chord in
+      let a-pos = a-positive high in
+      let b-pos = b-positive low in
+      transfer h left right t (whole left +ℚ whole h *ℚ (g over S)) ((g -ℤ b) over S) ((g +ℤ a) over S) (whole (pos 1) +ℚ (a over S) /ℚ (b over S) +ℚ (b over S) /ℚ (a over S)) h-pos p₀ p₁ (search positivity) (search propers) (search propers) (search propers) (search positivity) (right-≈ (n .normal) S-pos h-pos) (n .normal .left-slope) (n .normal .right-slope) (search congruence depth 9 fits 9999)
+      (Q.positive-≈ {y = (W h t a b *ℤ W h t b a) over (a *ℤ b *ℤ (h *ℤ h))} (search positivity depth 9) (search positivity) (field (a ∷ b ∷ S ∷ t ∷ h ∷ []) (search ratios depth 30 fits 9999) tt) (Q.positive-over _ _ (Z.positive-* (W-positive h t h-pos t-low t-high a-pos b-pos) (W-positive h t h-pos t-low t-high b-pos a-pos))))
+      (field (a ∷ g ∷ b ∷ S ∷ left ∷ t ∷ h ∷ []) (search ratios depth 30 fits 9999) tt)

@@ -45,8 +45,8 @@ module _ (h left t t' S a g b : ℤ) (h-pos : pos 0 <ℤ h) (in-t : In h t) (in-
   tangent-below =
       let w = W-positive h t h-pos (in-t .low) (in-t .high) a-pos b-pos in
       let w' = W-positive h t' h-pos (in-t' .low) (in-t' .high) a-pos b-pos in
-      Q.≤-by (search positivity) (search positivity)
+      Q.≤-by (search (propers, signs) depth 9) (search (propers, signs) depth 9)
       (((b *ℤ (t' *ℤ W h t a b -ℤ t *ℤ W h t' a b)) *ℤ (b *ℤ (t' *ℤ W h t a b -ℤ t *ℤ W h t' a b))) over (S *ℤ (W h t' a b *ℤ (W h t a b *ℤ W h t a b))))
       (search positivity)
       (field (a ∷ b ∷ g ∷ S ∷ left ∷ t ∷ t' ∷ h ∷ []) (search ratios depth 30 fits 9999) tt)
-      (Q.nonneg-over _ _ (Z.nonneg-square _))
+      (search (Q.nonneg-over, Z.nonneg-square))

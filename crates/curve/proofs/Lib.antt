@@ -3,3 +3,4 @@ pub mod Readings
 pub mod ClosedForm
 pub mod Walk
 pub mod Inside
+pub mod Curves

@@ -6,7 +6,7 @@ use lib.IntN.{ℤ, pos, _-ℤ_}
 use Rattle.exact.specs.Fraction.{Fraction, _over_, whole, leℚ, ltℚ, eqℚ}
 use Rattle.curve.specs.Points.{Point, gradient, Segment, Shape, rising, convex}
 
-abbrev 0ℚ : Fraction
+abbrev pub 0ℚ : Fraction
 0ℚ = whole (pos 0)
 
 module _ (h F : ℤ) (d₀ d₁ : Fraction) where

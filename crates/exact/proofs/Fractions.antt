@@ -162,6 +162,10 @@ pub <-≤-clash : {x y : Fraction} → x <ℚ y → y ≤ℚ x → ⊥
 <-≤-clash h k = Z.<-≤-clash (h .cross) (k .cross)
 
 -- the tests decide the comparisons
+pub T-true : (b : Bool) → T b → b ≡ true
+T-true true t = refl
+T-true false t = absurd t
+
 pub ltℚ-yes : {x y : Fraction} → T (ltℚ x y) → x <ℚ y
 unfolding ltℚ
 ltℚ-yes t = record { cross = record { lt = t } }
@@ -174,6 +178,10 @@ pub eqℚ-yes : {x y : Fraction} → T (eqℚ x y) → x ≈ℚ y
 unfolding eqℚ
 eqℚ-yes {x} {y} t =
     ≤-antisym (leℚ-yes (and-left (leℚ x y) (leℚ y x) t)) (leℚ-yes (and-right (leℚ x y) (leℚ y x) t))
+
+pub ltℚ-true : {x y : Fraction} → x <ℚ y → ltℚ x y ≡ true
+unfolding ltℚ
+ltℚ-true h = T-true _ (h .cross .lt)
 
 pub ltℚ-no : {x y : Fraction} → y ≤ℚ x → ltℚ x y ≡ false
 unfolding ltℚ
