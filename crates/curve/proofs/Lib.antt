@@ -4,3 +4,4 @@ pub mod ClosedForm
 pub mod Walk
 pub mod Inside
 pub mod Curves
+pub mod Segments
