@@ -5,3 +5,4 @@ pub mod Walk
 pub mod Inside
 pub mod Curves
 pub mod Segments
+pub mod Accepted
