@@ -78,12 +78,12 @@ module _ {h left right : ℤ} {d₀ d₁ : Fraction} {S e₀ g e₁ : ℤ} (n : 
   pub F-≈ : whole (right -ℤ left) ≈ℚ whole h *ℚ (g over S)
   F-≈ =
       Q.≈-trans {y = whole h *ℚ ((right -ℤ left) over h)} (search propers)
-      (field (left ∷ right ∷ h ∷ []) (search ratios depth 20 fits 9999) tt) (let e = n .chord-slope in search congruence)
+      (field (left ∷ right ∷ h ∷ []) (search ratios depth 30 fits 9999) tt) (let e = n .chord-slope in search congruence)
 
   pub right-≈ : whole right ≈ℚ whole left +ℚ whole h *ℚ (g over S)
   right-≈ =
       Q.≈-trans {y = whole left +ℚ whole (right -ℤ left)} (search propers)
-      (field (left ∷ right ∷ []) (search ratios depth 20 fits 9999) tt) (let e = F-≈ in search congruence)
+      (field (left ∷ right ∷ []) (search ratios depth 30 fits 9999) tt) (let e = F-≈ in search congruence)
 
   -- g has the sign of F
   pub g-positive : pos 0 <ℤ (right -ℤ left) → pos 0 <ℤ g
@@ -111,11 +111,11 @@ pub record Around (h left right : ℤ) (d₀ d₁ : Fraction) (S a g b : ℤ) : 
 module _ {h left right : ℤ} {d₀ d₁ : Fraction} {S a g b : ℤ} (n : Around h left right d₀ d₁ S a g b) (S-pos : pos 0 <ℤ S) (h-pos : pos 0 <ℤ h) (p₀ : Proper d₀) (p₁ : Proper d₁) where
   below-chord : (right -ℤ left) over h -ℚ d₀ ≈ℚ b over S
   below-chord =
-      Q.≈-trans {y = g over S -ℚ (g -ℤ b) over S} (search propers) (Q.≈-- (n .normal .chord-slope) (n .normal .left-slope)) (field (g ∷ b ∷ S ∷ []) (search ratios depth 20 fits 9999) tt)
+      Q.≈-trans {y = g over S -ℚ (g -ℤ b) over S} (search propers) (Q.≈-- (n .normal .chord-slope) (n .normal .left-slope)) (field (g ∷ b ∷ S ∷ []) (search ratios depth 30 fits 9999) tt)
 
   above-chord : d₁ -ℚ (right -ℤ left) over h ≈ℚ a over S
   above-chord =
-      Q.≈-trans {y = (g +ℤ a) over S -ℚ g over S} (search propers) (Q.≈-- (n .normal .right-slope) (n .normal .chord-slope)) (field (g ∷ a ∷ S ∷ []) (search ratios depth 20 fits 9999) tt)
+      Q.≈-trans {y = (g +ℤ a) over S -ℚ g over S} (search propers) (Q.≈-- (n .normal .right-slope) (n .normal .chord-slope)) (field (g ∷ a ∷ S ∷ []) (search ratios depth 30 fits 9999) tt)
 
   pub b-positive : d₀ <ℚ (right -ℤ left) over h → pos 0 <ℤ b
   unfolding _over_

@@ -191,8 +191,8 @@ module _ {h left right : ℤ} {d₀ d₁ : Fraction} {S a g b : ℤ} (n : Around
   pub convex-bends : Bend ((right -ℤ left) over h) d₀ d₁ → Bends h left right d₀ d₁ (λ t. I.convex-curve h left right t d₀ d₁) (λ t. tangent h left right d₀ d₁ S a g b t)
   convex-bends (straight e₀ e₁) =
       bends-by (λ t. whole left +ℚ ((right -ℤ left) over h) *ℚ whole t) (λ t. (right -ℤ left) over h) (λ t i. straight-value t e₀) (λ t i. search propers) (λ t i. search propers)
-      (λ t t' i i'. Q.≤-of-≈ (field (left ∷ right ∷ h ∷ t ∷ t' ∷ []) (search ratios depth 20 fits 9999) tt))
-      (field (left ∷ right ∷ h ∷ []) (search ratios depth 20 fits 9999) tt) (field (left ∷ right ∷ h ∷ []) (search ratios depth 20 fits 9999) tt)
+      (λ t t' i i'. Q.≤-of-≈ (field (left ∷ right ∷ h ∷ t ∷ t' ∷ []) (search ratios depth 30 fits 9999) tt))
+      (field (left ∷ right ∷ h ∷ []) (search ratios depth 30 fits 9999) tt) (field (left ∷ right ∷ h ∷ []) (search ratios depth 20 fits 9999) tt)
       (Q.≈-sym e₀) e₁
   convex-bends (bent low high) =
       let a-pos = a-positive n S-pos h-pos p₀ p₁ high in

@@ -6,3 +6,4 @@ pub mod Inside
 pub mod Curves
 pub mod Segments
 pub mod Accepted
+pub mod Relations

@@ -66,17 +66,17 @@ module _ (s : Segment) where
   unfolding gradient
   normal =
       record {
-          left-slope = field (s .left .slope ∷ gap ∷ []) (search ratios depth 20 fits 9999) tt;
-          right-slope = field (s .right .slope ∷ gap ∷ []) (search ratios depth 20 fits 9999) tt;
-          chord-slope = field (rise ∷ gap ∷ []) (search ratios depth 20 fits 9999) tt }
+          left-slope = field (s .left .slope ∷ gap ∷ []) (search ratios depth 30 fits 9999) tt;
+          right-slope = field (s .right .slope ∷ gap ∷ []) (search ratios depth 30 fits 9999) tt;
+          chord-slope = field (rise ∷ gap ∷ []) (search ratios depth 30 fits 9999) tt }
 
   pub around : Around gap (pos (s .left .value)) (pos (s .right .value)) (gradient (s .left)) (gradient (s .right)) S a g b
   unfolding gradient
   around =
       record { normal = record {
-          left-slope = field (s .left .slope ∷ rise ∷ gap ∷ []) (search ratios depth 20 fits 9999) tt;
-          right-slope = field (s .right .slope ∷ rise ∷ gap ∷ []) (search ratios depth 20 fits 9999) tt;
-          chord-slope = field (rise ∷ gap ∷ []) (search ratios depth 20 fits 9999) tt } }
+          left-slope = field (s .left .slope ∷ rise ∷ gap ∷ []) (search ratios depth 30 fits 9999) tt;
+          right-slope = field (s .right .slope ∷ rise ∷ gap ∷ []) (search ratios depth 30 fits 9999) tt;
+          chord-slope = field (rise ∷ gap ∷ []) (search ratios depth 30 fits 9999) tt } }
 
   -- the curve and, of the convex one, its slope, at a distance from the left end
   abbrev pub curve-at : Shape → ℤ → Fraction
@@ -86,7 +86,7 @@ module _ (s : Segment) where
   abbrev pub slope-at : ℤ → Fraction
   slope-at t = tangent gap (pos (s .left .value)) (pos (s .right .value)) (gradient (s .left)) (gradient (s .right)) S a g b t
 
-proper-gradient : (p : Point) → Proper (gradient p)
+pub proper-gradient : (p : Point) → Proper (gradient p)
 unfolding gradient
 proper-gradient p = Q.proper-over (p .slope) (pos 100) (Z.positive-lit tt)
 

@@ -6,3 +6,4 @@ pub mod Shape
 pub mod Check
 pub mod Read
 pub mod Readings
+pub mod Laws
