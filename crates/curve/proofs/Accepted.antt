@@ -3,6 +3,7 @@
 use mathlib.Core.Path.{_≡_, refl, sym, _∙_, ap, subst, subst⁻¹}
 use mathlib.Core.Bool.{Bool, true, false, not, _&&_, _||_}
 use mathlib.Core.List.{List, [], _∷_}
+use mathlib.Core.Logic.{_⊎_, inl, inr, ⊎-elim}
 use mathlib.Core.Option.{Option, none, some}
 use Prim.Native.Nat.{ℕ, suc, _+_, _-_, _≤_, _<_}
 use native.Mathlib.Omega.{arith}
@@ -18,6 +19,7 @@ use Rattle.curve.specs.Shape.{has-shape}
 use Rattle.curve.specs.Check.{bad-lengths, bad-code, bad-area, bad-value, bad-slope, point-rows, segment-rows, curve-rows, Accepted}
 use Rattle.curve.specs.Read.{taken, value-in, outside, exact-value}
 use Rattle.curve.proofs.Segments.{Good}
+use Rattle.curve.proofs.Indexed.{segment, linked-at, stop-at, stop-somewhere}
 use Rattle.curve.proofs.Walk.{Chain, end, link, between, last-area, stop, taken-is-stop}
 
 -- ---- rows that are passed
@@ -108,6 +110,10 @@ pub record View (areas values : List ℕ) (slopes : List ℤ) (code : ℕ) : Typ
   pub linked : Chain (Good (shape-of code)) first (second ∷ others)
   pub start : getD areas 0 0 ≡ first .area
   pub finish : getD areas (length areas - 1) 0 ≡ last-area second others
+  -- by index
+  pub good-at : (i : ℕ) → suc i < length areas → Good (shape-of code) (segment areas values slopes i)
+  pub taken-at : (k x : ℕ) → suc k < length areas → getD areas k 0 ≤ x → (x < getD areas (suc k) 0) ⊎ (suc (suc k) ≡ length areas) → stop first second others x ≡ segment areas values slopes k
+  pub taken-somewhere : (x : ℕ) → (k : ℕ) × (suc k < length areas) × (stop first second others x ≡ segment areas values slopes k)
 
 finishes : (a v : ℕ) (s : ℤ) (areas values : List ℕ) (slopes : List ℤ) → length areas ≡ length values → length areas ≡ length slopes → getD (a ∷ areas) (length areas) 0 ≡ last-area (record { area = a; value = v; slope = s }) (points areas values slopes)
 unfolding points
@@ -129,14 +135,19 @@ view-of (a ∷ a' ∷ areas) (v ∷ v' ∷ values) (s ∷ s' ∷ slopes) code e 
     let q : Point = record { area = a'; value = v'; slope = s' } in
     let ps = points areas values slopes in
     let m = passed 0 none p (q ∷ ps) pr in
+    let c = chain (shape-of code) 1 0 p (q ∷ ps) (m .limits) (m .later) sr in
+    let G = Good (shape-of code) in
     record {
         first = p;
         second = q;
         others = ps;
         are = refl;
-        linked = chain (shape-of code) 1 0 p (q ∷ ps) (m .limits) (m .later) sr;
+        linked = c;
         start = refl;
-        finish = ap (λ (n : ℕ). getD (a ∷ a' ∷ areas) n 0) (one-less (length areas)) ∙ finishes a' v' s' areas values slopes (omega arith) (omega arith) }
+        finish = ap (λ (n : ℕ). getD (a ∷ a' ∷ areas) n 0) (one-less (length areas)) ∙ finishes a' v' s' areas values slopes (omega arith) (omega arith);
+        good-at = λ i n. linked-at G (λ s g. g .ordered) i a v s (a' ∷ areas) (v' ∷ values) (s' ∷ slopes) (omega arith) (omega arith) c (omega arith);
+        taken-at = λ k x n low high. stop-at G (λ s g. g .ordered) k a a' v v' s s' areas values slopes x (omega arith) (omega arith) c (omega arith) low (⊎-elim (λ (w : x < getD (a' ∷ areas) k 0). inl w) (λ (w : suc (suc k) ≡ suc (suc (length areas))). inr (omega arith)) high);
+        taken-somewhere = λ x. let k = stop-somewhere G (λ s g. g .ordered) a a' v v' s s' areas values slopes x (omega arith) (omega arith) in (k .0, (let h = k .1 in omega arith), k .2) }
   where
     one-less : (n : ℕ) → suc (suc n) - 1 ≡ suc n
     one-less n = omega arith
@@ -146,22 +157,34 @@ module _ {areas values : List ℕ} {slopes : List ℤ} {code : ℕ} (k : Accepte
   unfolding curve-rows
   lengths-passed = row-passed (bad-lengths (length areas) (length values) (length slopes)) 1 0 _ tt (k .none-applies)
 
-  pub view : View areas values slopes code
-  unfolding curve-rows bad-lengths
-  view =
+  -- row 1, as facts
+  pub record Lengths : Type 0 where
+    pub values-too : length areas ≡ length values
+    pub slopes-too : length areas ≡ length slopes
+    pub least : 2 ≤ length areas
+    pub most : length areas ≤ 64
+
+  pub lengths : Lengths
+  unfolding bad-lengths
+  lengths =
       let n = length areas in
       let differ₀ = not (eqb n (length values)) in
       let differ₁ = not (eqb n (length slopes)) in
-      let rows = point-rows 0 none (points areas values slopes) in
-      let segs = segment-rows 0 (shape-of code) (segments (points areas values slopes)) in
-      let after = then-rest (row (bad-code code) 2 0) (rows then segs) tt (then-rest (row (bad-lengths n (length values) (length slopes)) 1 0) (row (bad-code code) 2 0 then rows then segs) tt (k .none-applies)) in
       let few = or-left (differ₀ || differ₁ || ltb n 2) (ltb 64 n) lengths-passed in
       let same = or-left (differ₀ || differ₁) (ltb n 2) few in
-      view-of areas values slopes code
-      (eqb-true n (length values) (not-false (eqb n (length values)) (or-left differ₀ differ₁ same)))
-      (eqb-true n (length slopes) (not-false (eqb n (length slopes)) (or-right differ₀ differ₁ same)))
-      (ltb-false n 2 (or-right (differ₀ || differ₁) (ltb n 2) few))
-      (then-first rows segs tt after) (then-rest rows segs tt after)
+      record {
+          values-too = eqb-true n (length values) (not-false (eqb n (length values)) (or-left differ₀ differ₁ same));
+          slopes-too = eqb-true n (length slopes) (not-false (eqb n (length slopes)) (or-right differ₀ differ₁ same));
+          least = ltb-false n 2 (or-right (differ₀ || differ₁) (ltb n 2) few);
+          most = ltb-false 64 n (or-right (differ₀ || differ₁ || ltb n 2) (ltb 64 n) lengths-passed) }
+
+  pub view : View areas values slopes code
+  unfolding curve-rows
+  view =
+      let rows = point-rows 0 none (points areas values slopes) in
+      let segs = segment-rows 0 (shape-of code) (segments (points areas values slopes)) in
+      let after = then-rest (row (bad-code code) 2 0) (rows then segs) tt (then-rest (row (bad-lengths (length areas) (length values) (length slopes)) 1 0) (row (bad-code code) 2 0 then rows then segs) tt (k .none-applies)) in
+      view-of areas values slopes code (lengths .values-too) (lengths .slopes-too) (lengths .least) (then-first rows segs tt after) (then-rest rows segs tt after)
 
 pub code-passed : {areas values : List ℕ} {slopes : List ℤ} {code : ℕ} → Accepted areas values slopes code → bad-code code ≡ false
 unfolding curve-rows

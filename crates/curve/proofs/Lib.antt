@@ -7,3 +7,4 @@ pub mod Curves
 pub mod Segments
 pub mod Accepted
 pub mod Relations
+pub mod Indexed
