@@ -8,3 +8,4 @@ pub mod Segments
 pub mod Accepted
 pub mod Relations
 pub mod Indexed
+pub mod Laws

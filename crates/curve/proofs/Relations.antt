@@ -71,7 +71,7 @@ pub record Convex (s : Segment) (x : ℕ) (s' : Segment) (y : ℕ) : Type 0 wher
   pub leftwards : Below s' y s x
   pub slopes : slope s x ≤ℚ slope s' y
 
-slope-proper : (s : Segment) (x : ℕ) → Reads (Good convex) s x → Proper (slope s x)
+pub slope-proper : (s : Segment) (x : ℕ) → Reads (Good convex) s x → Proper (slope s x)
 slope-proper s x r = segment-bends s (r .good) .proper (distance s x) (within s x (r .low) (r .high))
 
 -- from x to y to z, where the slope at y is on the side of z
@@ -156,3 +156,14 @@ convex-join p q r g g' =
 pub tangents-support : {p q : Point} {ps : List Point} → Chain (Good convex) p (q ∷ ps) → (x y : ℕ) → p .area ≤ x → x ≤ y → y ≤ last-area q ps → Convex (stop p q ps x) x (stop p q ps y) y
 tangents-support c x y low order high =
     across (Good convex) (λ s g. g .ordered) Convex convex-inside convex-join convex-trans x y c low order high
+
+-- the slope in a segment is between those of its ends
+pub slope-above : (s : Segment) (x : ℕ) → Reads (Good convex) s x → gradient (s .left) ≤ℚ slope s x
+slope-above s x r =
+    let l = corner-left (s .left) (s .right) (r .good) in
+    Q.≤-trans (proper-gradient (s .left)) (slope-proper s (s .left .area) l) (slope-proper s x r) (Q.≤-of-≈ (Q.≈-sym (slope-left s (r .good)))) (convex-inside s (s .left .area) x l r (r .low) .slopes)
+
+pub slope-below : (s : Segment) (x : ℕ) → Reads (Good convex) s x → slope s x ≤ℚ gradient (s .right)
+slope-below s x r =
+    let l = corner-right (s .left) (s .right) (r .good) in
+    Q.≤-trans (slope-proper s x r) (slope-proper s (s .right .area) l) (proper-gradient (s .right)) (convex-inside s x (s .right .area) r l (r .high) .slopes) (Q.≤-of-≈ (slope-right s (r .good)))
