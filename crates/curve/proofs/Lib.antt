@@ -9,3 +9,4 @@ pub mod Accepted
 pub mod Relations
 pub mod Indexed
 pub mod Laws
+pub mod Machine
