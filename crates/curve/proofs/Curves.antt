@@ -91,10 +91,10 @@ through : {v w x y : Fraction} → Closed v x → Closed w y → Proper x → Pr
 through a b px py h =
     Q.≤-trans (a .proper) px (b .proper) (Q.≤-of-≈ (a .same)) (Q.≤-trans px py (b .proper) h (Q.≤-of-≈ (Q.≈-sym (b .same))))
 
-end-left : {h : ℤ} → pos 0 <ℤ h → In h (pos 0)
+pub end-left : {h : ℤ} → pos 0 <ℤ h → In h (pos 0)
 end-left {h} hp = record { low = Z.nonneg-pos 0; high = Z.≤-difference (Z.<-weak hp) }
 
-end-right : {h : ℤ} → pos 0 <ℤ h → In h h
+pub end-right : {h : ℤ} → pos 0 <ℤ h → In h h
 end-right {h} hp = record { low = Z.<-weak hp; high = Z.≤-difference (≤ℤ-refl h) }
 
 -- v joins the ends as its closed form x does
@@ -112,11 +112,11 @@ module _ {h left right : ℤ} {d₀ d₁ : Fraction} {S e₀ g e₁ : ℤ} (n : 
   -- ---- rising
 
   -- a slope that is not negative has a numerator over S that is not
-  over-S : {d : Fraction} {e : ℤ} → Proper d → d ≈ℚ e over S → NonNeg d → pos 0 ≤ℤ e
+  pub over-S : {d : Fraction} {e : ℤ} → Proper d → d ≈ℚ e over S → NonNeg d → pos 0 ≤ℤ e
   unfolding _over_
   over-S {e = e} p same k = Q.nonneg-≈ {x = e over S} (search propers) p (Q.≈-sym same) k .sign
 
-  flat-value : (t : ℤ) → right ≡ left → Closed (I.rising-curve h left right t d₀ d₁) (whole left)
+  pub flat-value : (t : ℤ) → right ≡ left → Closed (I.rising-curve h left right t d₀ d₁) (whole left)
   unfolding I.rising-curve
   flat-value t e =
       by-definition (rw (ap (λ (r : ℤ). ltZ (pos 0) (r -ℤ left)) e ∙ ap (λ (z : ℤ). ltZ (pos 0) z) (+ℤ-invr left))) (Q.proper-whole left)

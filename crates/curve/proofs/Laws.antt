@@ -23,11 +23,12 @@ use Rattle.curve.specs.Points.{Point, gradient, Segment, Shape, rising, 
 use Rattle.curve.specs.Interpolant.{interpolant}
 use Rattle.curve.specs.Check.{Accepted}
 use Rattle.curve.specs.Read.{exact-value, reading}
-use Rattle.curve.specs.Laws.{Curve, Area, value-at, factor-at, point-at, segment-at, chord-slope, step, SegmentsMeet, RatedPointsRead, ValuesAreProper, FactorsAreNear, RisingValues, RisingFactors, Support, ConvexSupports, ConvexChords, ConvexMiddle, ConvexSteps}
+use Rattle.curve.specs.Laws.{Curve, Area, value-at, factor-at, point-at, segment-at, chord-slope, step, SegmentsMeet, RatedPointsRead, ValuesAreProper, FactorsAreNear, FactorsAreRanged, RisingValues, RisingFactors, Support, ConvexSupports, ConvexChords, ConvexMiddle, ConvexSteps}
 use Rattle.curve.proofs.ClosedForm.{Closed}
 use Rattle.curve.proofs.Walk.{Chain, Reads, stop, stop-reads, compare-areas}
 use Rattle.curve.proofs.Segments.{Good, interpolant-proper, interpolant-left, interpolant-right, proper-gradient}
 use Rattle.curve.proofs.Accepted.{View, view, lengths, segment-of, value-is, inside-low, inside-high}
+use Rattle.curve.proofs.Range.{Ranged, value-range, reading-low, reading-high}
 use Rattle.curve.proofs.Relations.{values-rise, slope, Convex, tangents-support, slope-proper, slope-above, slope-below}
 
 module _ (c : Curve) where
@@ -56,6 +57,13 @@ values-are-proper c x k =
 pub factors-are-near : FactorsAreNear
 unfolding reading
 factors-are-near c x k = round-is-near (value-at c x) (values-are-proper c x k)
+
+pub factors-are-ranged : FactorsAreRanged
+unfolding reading
+factors-are-ranged c x k =
+    let p = values-are-proper c x k in
+    let r = subst⁻¹ Ranged (value-is (seen c) x) (value-range (shape-of (c .code)) (taken-by c x) x (reads c x k)) in
+    (reading-low (value-at c x) p r, reading-high (value-at c x) p r)
 
 pub segments-meet : SegmentsMeet
 segments-meet c i h =

@@ -10,3 +10,5 @@ pub mod Relations
 pub mod Indexed
 pub mod Laws
 pub mod Machine
+pub mod Numbers
+pub mod Range

@@ -46,7 +46,7 @@ module _ {H T e₀ g e₁ : ℤ} (R : ℤ) (left t u F G E₀ E₁ : ℕ) (eH : 
   A-is : A H T e₀ g ≡ pos (part t u G E₀)
   A-is = rw (eH, eT, e0, eg) (ring (pos t ∷ pos u ∷ pos E₀ ∷ pos G ∷ []) {b = pos t *ℤ (pos G *ℤ pos t +ℤ pos E₀ *ℤ pos u)} (search terms depth 20 fits 9999) tt)
 
-  B-is : B H T e₀ g e₁ ≡ pos (part t u G E₀ + part u t G E₁)
+  pub B-is : B H T e₀ g e₁ ≡ pos (part t u G E₀ + part u t G E₁)
   B-is = rw (eH, eT, e0, eg, e1) (ring (pos t ∷ pos u ∷ pos E₀ ∷ pos G ∷ pos E₁ ∷ []) {b = pos t *ℤ (pos G *ℤ pos t +ℤ pos E₀ *ℤ pos u) +ℤ pos u *ℤ (pos G *ℤ pos u +ℤ pos E₁ *ℤ pos t)} (search terms depth 20 fits 9999) tt)
 
   pub rising-machine : {v : Fraction} → Closed v (rising-form H (pos left) R T e₀ g e₁) → 0 < part t u G E₀ + part u t G E₁ → round v ≡ pos (rising-numbers left F t u G E₀ E₁)
@@ -76,7 +76,7 @@ twice : (l e S w n : ℤ) → ((l *ℤ S +ℤ e) *ℤ w +ℤ n *ℤ n) *ℤ pos 
 twice l e S w n = ring (e ∷ l ∷ n ∷ S ∷ w ∷ []) (search terms depth 20 fits 9999) tt
 
 module _ {H T S' a' b' : ℤ} (g : ℤ) (left t u S a b : ℕ) (eH : H ≡ pos t +ℤ pos u) (eT : T ≡ pos t) (eS : S' ≡ pos S) (ea : a' ≡ pos a) (eb : b' ≡ pos b) (S-pos : 0 < S) where
-  W-is : W H T a' b' ≡ pos (a * u + b * t)
+  pub W-is : W H T a' b' ≡ pos (a * u + b * t)
   W-is = rw (eH, eT, ea, eb) (ring (pos t ∷ pos u ∷ pos a ∷ pos b ∷ []) {b = pos a *ℤ pos u +ℤ pos b *ℤ pos t} (search terms depth 20 fits 9999) tt)
 
   pub convex-machine : {v : Fraction} → Closed v (convex-form H (pos left) T S' a' g b') → 0 < a * u + b * t → round v ≡ convex-numbers left S t (above-tangent t u a b) (g -ℤ b')

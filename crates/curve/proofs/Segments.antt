@@ -93,7 +93,7 @@ proper-gradient p = Q.proper-over (p .slope) (pos 100) (Z.positive-lit tt)
 pub gap-positive : (s : Segment) → s .left .area < s .right .area → pos 0 <ℤ gap s
 gap-positive s h = Z.<-difference (Z.pos-< h)
 
-S-positive : (s : Segment) → s .left .area < s .right .area → pos 0 <ℤ S s
+pub S-positive : (s : Segment) → s .left .area < s .right .area → pos 0 <ℤ S s
 S-positive s h = Z.positive-* (Z.positive-lit tt) (gap-positive s h)
 
 pub segment-rises : (s : Segment) → Good rising s → Rises (gap s) (pos (s .left .value)) (pos (s .right .value)) (curve-at s rising)

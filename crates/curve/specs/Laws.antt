@@ -4,7 +4,7 @@ use Prim.Native.Nat.{ℕ, suc, _+_, _*_, _≤_, _<_}
 use mathlib.Core.Path.{_≡_}
 use mathlib.Core.Bool.{false}
 use mathlib.Core.List.{List}
-use lib.IntN.{ℤ, pos, _-ℤ_}
+use lib.IntN.{ℤ, pos, negsuc, _-ℤ_}
 use lib.ListN.{length, getD}
 use lib.Signed.{_≤ℤ_}
 use Rattle.exact.specs.Fraction.{Fraction, Proper, _over_, whole, _+ℚ_, _-ℚ_, _*ℚ_, _/ℚ_, _≈ℚ_, _≤ℚ_, _<ℚ_}
@@ -67,6 +67,10 @@ abbrev pub FactorsAreNear : Type 0
 FactorsAreNear =
     (c : Curve) (x : ℕ) → Area c x →
     (value-at c x -ℚ (pos 1 over pos 2) <ℚ whole (factor-at c x)) × (whole (factor-at c x) ≤ℚ value-at c x +ℚ (pos 1 over pos 2))
+
+-- no factor is below −200,000, nor above 200,000
+abbrev pub FactorsAreRanged : Type 0
+FactorsAreRanged = (c : Curve) (x : ℕ) → Area c x → (negsuc 199999 ≤ℤ factor-at c x) × (factor-at c x ≤ℤ pos 200000)
 
 abbrev pub RisingValues : Type 0
 RisingValues =
