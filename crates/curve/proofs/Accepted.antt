@@ -73,12 +73,14 @@ passed i before p ps e =
     let e₅ = then-rest (row (bad-value (p .value)) 4 i) rest₅ tt e₄ in
     let slope = row-passed (bad-slope (p .slope)) 5 i last tt e₅ in
     record {
-        area = row-passed (bad-area before (p .area)) 3 i rest₄ tt e;
-        limits = record {
-            value = ltb-false 200000 (p .value) (row-passed (bad-value (p .value)) 4 i rest₅ tt e₄);
-            low = failed (or-left (ltZ (p .slope) (negsuc 9999)) (ltZ (pos 10000) (p .slope)) slope);
-            high = failed (or-right (ltZ (p .slope) (negsuc 9999)) (ltZ (pos 10000) (p .slope)) slope) };
-        later = then-rest (row (bad-slope (p .slope)) 5 i) last tt e₅ }
+      area = row-passed (bad-area before (p .area)) 3 i rest₄ tt e;
+      limits = record {
+        value = ltb-false 200000 (p .value) (row-passed (bad-value (p .value)) 4 i rest₅ tt e₄);
+        low = failed (or-left (ltZ (p .slope) (negsuc 9999)) (ltZ (pos 10000) (p .slope)) slope);
+        high = failed (or-right (ltZ (p .slope) (negsuc 9999)) (ltZ (pos 10000) (p .slope)) slope);
+      };
+      later = then-rest (row (bad-slope (p .slope)) 5 i) last tt e₅;
+    }
 
 pub chain : (shape : Shape) (i j : ℕ) (p : Point) (ps : List Point) → Limits p → point-rows i (some (p .area)) ps ≡ gives tt → segment-rows j shape (segments (p ∷ ps)) ≡ gives tt → Chain (Good shape) p ps
 unfolding segments segment-rows bad-area
@@ -89,15 +91,16 @@ chain shape i j p (q ∷ ps) k e f =
     let near = or-right (ltb 20000 (q .area) || leb (q .area) (p .area)) (ltb (p .area + 2000) (q .area)) (m .area) in
     let after = or-right (ltb 20000 (q .area)) (leb (q .area) (p .area)) (or-left (ltb 20000 (q .area) || leb (q .area) (p .area)) (ltb (p .area + 2000) (q .area)) (m .area)) in
     link (record {
-        ordered = leb-false (q .area) (p .area) after;
-        near = ltb-false (p .area + 2000) (q .area) near;
-        left-value = k .value;
-        right-value = m .limits .value;
-        left-slope-low = k .low;
-        left-slope-high = k .high;
-        right-slope-low = m .limits .low;
-        right-slope-high = m .limits .high;
-        shaped = subst⁻¹ T (not-false (has-shape shape (between p q)) (row-passed (not (has-shape shape (between p q))) 6 j rest tt f)) tt })
+      ordered = leb-false (q .area) (p .area) after;
+      near = ltb-false (p .area + 2000) (q .area) near;
+      left-value = k .value;
+      right-value = m .limits .value;
+      left-slope-low = k .low;
+      left-slope-high = k .high;
+      right-slope-low = m .limits .low;
+      right-slope-high = m .limits .high;
+      shaped = subst⁻¹ T (not-false (has-shape shape (between p q)) (row-passed (not (has-shape shape (between p q))) 6 j rest tt f)) tt;
+    })
     (chain shape (suc i) (suc j) q ps (m .limits) (m .later) (then-rest (row (not (has-shape shape (between p q))) 6 j) rest tt f))
 
 -- ---- the whole curve
@@ -138,16 +141,17 @@ view-of (a ∷ a' ∷ areas) (v ∷ v' ∷ values) (s ∷ s' ∷ slopes) code e 
     let c = chain (shape-of code) 1 0 p (q ∷ ps) (m .limits) (m .later) sr in
     let G = Good (shape-of code) in
     record {
-        first = p;
-        second = q;
-        others = ps;
-        are = refl;
-        linked = c;
-        start = refl;
-        finish = ap (λ (n : ℕ). getD (a ∷ a' ∷ areas) n 0) (one-less (length areas)) ∙ finishes a' v' s' areas values slopes (omega arith) (omega arith);
-        good-at = λ i n. linked-at G (λ s g. g .ordered) i a v s (a' ∷ areas) (v' ∷ values) (s' ∷ slopes) (omega arith) (omega arith) c (omega arith);
-        taken-at = λ k x n low high. stop-at G (λ s g. g .ordered) k a a' v v' s s' areas values slopes x (omega arith) (omega arith) c (omega arith) low (⊎-elim (λ (w : x < getD (a' ∷ areas) k 0). inl w) (λ (w : suc (suc k) ≡ suc (suc (length areas))). inr (omega arith)) high);
-        taken-somewhere = λ x. let k = stop-somewhere G (λ s g. g .ordered) a a' v v' s s' areas values slopes x (omega arith) (omega arith) in (k .0, (let h = k .1 in omega arith), k .2) }
+      first = p;
+      second = q;
+      others = ps;
+      are = refl;
+      linked = c;
+      start = refl;
+      finish = ap (λ (n : ℕ). getD (a ∷ a' ∷ areas) n 0) (one-less (length areas)) ∙ finishes a' v' s' areas values slopes (omega arith) (omega arith);
+      good-at = λ i n. linked-at G (λ s g. g .ordered) i a v s (a' ∷ areas) (v' ∷ values) (s' ∷ slopes) (omega arith) (omega arith) c (omega arith);
+      taken-at = λ k x n low high. stop-at G (λ s g. g .ordered) k a a' v v' s s' areas values slopes x (omega arith) (omega arith) c (omega arith) low (⊎-elim (λ (w : x < getD (a' ∷ areas) k 0). inl w) (λ (w : suc (suc k) ≡ suc (suc (length areas))). inr (omega arith)) high);
+      taken-somewhere = λ x. let k = stop-somewhere G (λ s g. g .ordered) a a' v v' s s' areas values slopes x (omega arith) (omega arith) in (k .0, (let h = k .1 in omega arith), k .2);
+    }
   where
     one-less : (n : ℕ) → suc (suc n) - 1 ≡ suc n
     one-less n = omega arith
@@ -173,10 +177,11 @@ module _ {areas values : List ℕ} {slopes : List ℤ} {code : ℕ} (k : Accepte
       let few = or-left (differ₀ || differ₁ || ltb n 2) (ltb 64 n) lengths-passed in
       let same = or-left (differ₀ || differ₁) (ltb n 2) few in
       record {
-          values-too = eqb-true n (length values) (not-false (eqb n (length values)) (or-left differ₀ differ₁ same));
-          slopes-too = eqb-true n (length slopes) (not-false (eqb n (length slopes)) (or-right differ₀ differ₁ same));
-          least = ltb-false n 2 (or-right (differ₀ || differ₁) (ltb n 2) few);
-          most = ltb-false 64 n (or-right (differ₀ || differ₁ || ltb n 2) (ltb 64 n) lengths-passed) }
+        values-too = eqb-true n (length values) (not-false (eqb n (length values)) (or-left differ₀ differ₁ same));
+        slopes-too = eqb-true n (length slopes) (not-false (eqb n (length slopes)) (or-right differ₀ differ₁ same));
+        least = ltb-false n 2 (or-right (differ₀ || differ₁) (ltb n 2) few);
+        most = ltb-false 64 n (or-right (differ₀ || differ₁ || ltb n 2) (ltb 64 n) lengths-passed);
+      }
 
   pub view : View areas values slopes code
   unfolding curve-rows

@@ -41,8 +41,9 @@ transfer : (h left right t : ℤ) {d₀ d₁ r : Fraction} (R' d₀' d₁' r' : 
 unfolding I.p I.q I.P I.Q I.rational
 transfer h left right t {r = r} R' d₀' d₁' r' h-pos p₀ p₁ pr pR' p₀' p₁' pr' eR e₀ e₁ er q-pos e =
     record {
-        proper = Q.proper-/ (search propers depth 9) (Q.positive-≈ (search propers) (search propers) (search congruence depth 9 fits 9999) q-pos);
-        same = Q.≈-trans (Q.proper-/ (search propers depth 9) q-pos) (search congruence depth 9 fits 9999) e }
+      proper = Q.proper-/ (search propers depth 9) (Q.positive-≈ (search propers) (search propers) (search congruence depth 9 fits 9999) q-pos);
+      same = Q.≈-trans (Q.proper-/ (search propers depth 9) q-pos) (search congruence depth 9 fits 9999) e;
+    }
 
 -- a · u + b · t is above 0 where a and b are, and t and u are not both 0
 pub blend-positive : {a b t u : ℤ} → pos 0 <ℤ a → pos 0 <ℤ b → pos 0 ≤ℤ t → pos 0 ≤ℤ u → pos 0 <ℤ (t +ℤ u) → pos 0 <ℤ (a *ℤ u +ℤ b *ℤ t)

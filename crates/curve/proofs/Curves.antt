@@ -65,6 +65,7 @@ rise-kind h left right {d₀} {d₁} t =
   where
     F : Fraction
     F = whole (right -ℤ left)
+
     decide : T (ltℚ 0ℚ F && leℚ 0ℚ d₀ && leℚ 0ℚ d₁) ⊎ T (eqℚ F 0ℚ && eqℚ d₀ 0ℚ && eqℚ d₁ 0ℚ) → Rise left right d₀ d₁
     decide (inl u) =
         let v = and-left (ltℚ 0ℚ F && leℚ 0ℚ d₀) (leℚ 0ℚ d₁) u in
@@ -101,9 +102,10 @@ end-right {h} hp = record { low = Z.<-weak hp; high = Z.≤-difference (≤ℤ-r
 joins-by : {h left right : ℤ} (v x : ℤ → Fraction) → pos 0 <ℤ h → ((t : ℤ) → In h t → Closed (v t) (x t)) → ((t : ℤ) → In h t → Proper (x t)) → x (pos 0) ≈ℚ whole left → x h ≈ℚ whole right → Joins h left right v
 joins-by {h} v x h-pos closed proper e₀ e₁ =
     record {
-        proper = λ t i. closed t i .proper;
-        at-left = Q.≈-trans (proper (pos 0) (end-left h-pos)) (closed (pos 0) (end-left h-pos) .same) e₀;
-        at-right = Q.≈-trans (proper h (end-right h-pos)) (closed h (end-right h-pos) .same) e₁ }
+      proper = λ t i. closed t i .proper;
+      at-left = Q.≈-trans (proper (pos 0) (end-left h-pos)) (closed (pos 0) (end-left h-pos) .same) e₀;
+      at-right = Q.≈-trans (proper h (end-right h-pos)) (closed h (end-right h-pos) .same) e₁;
+    }
 
 by-definition : {v x : Fraction} → v ≡ x → Proper x → Closed v x
 by-definition {v} {x} e p = subst⁻¹ (λ (y : Fraction). Closed y x) e (record { proper = p; same = Q.≈-refl x })
@@ -130,18 +132,20 @@ module _ {h left right : ℤ} {d₀ d₁ : Fraction} {S e₀ g e₁ : ℤ} (n : 
   pub rising-rises : Rise left right d₀ d₁ → Rises h left right (λ t. I.rising-curve h left right t d₀ d₁)
   rising-rises (flat e) =
       record {
-          joins = joins-by (λ t. I.rising-curve h left right t d₀ d₁) (λ t. whole left) h-pos (λ t i. flat-value t e) (λ t i. Q.proper-whole left) (Q.≈-refl (whole left)) (Q.≈-of-≡ (ap whole (sym e)));
-          order = λ t t' i i' le. through (flat-value t e) (flat-value t' e) (search propers) (search propers) (Q.≤-of-≈ (Q.≈-refl (whole left))) }
+        joins = joins-by (λ t. I.rising-curve h left right t d₀ d₁) (λ t. whole left) h-pos (λ t i. flat-value t e) (λ t i. Q.proper-whole left) (Q.≈-refl (whole left)) (Q.≈-of-≡ (ap whole (sym e)));
+        order = λ t t' i i' le. through (flat-value t e) (flat-value t' e) (search propers) (search propers) (Q.≤-of-≈ (Q.≈-refl (whole left)));
+      }
   rising-rises (climbs F-pos k₀ k₁) =
       let h₀ = over-S p₀ (n .left-slope) k₀ in
       let h₁ = over-S p₁ (n .right-slope) k₁ in
       let g-pos = g-positive n S-pos h-pos F-pos in
       let form-proper : (t : ℤ) → In h t → Proper (rising-form h left right t e₀ g e₁) = λ t i. let b = B-positive h t h-pos (i .low) (i .high) g-pos h₀ h₁ in search propers in
       record {
-          joins = joins-by (λ t. I.rising-curve h left right t d₀ d₁) (λ t. rising-form h left right t e₀ g e₁) h-pos (λ t i. rising-value t i F-pos k₀ k₁) form-proper
-              (field (e₀ ∷ g ∷ e₁ ∷ right ∷ left ∷ h ∷ []) (search ratios depth 30 fits 9999) tt)
-              (field (e₀ ∷ g ∷ e₁ ∷ right ∷ left ∷ h ∷ []) (search ratios depth 30 fits 9999) tt);
-          order = λ t t' i i' le. through (rising-value t i F-pos k₀ k₁) (rising-value t' i' F-pos k₀ k₁) (form-proper t i) (form-proper t' i') (rising-order h left right t t' e₀ g e₁ h-pos i i' F-pos g-pos h₀ h₁ le) }
+        joins = joins-by (λ t. I.rising-curve h left right t d₀ d₁) (λ t. rising-form h left right t e₀ g e₁) h-pos (λ t i. rising-value t i F-pos k₀ k₁) form-proper
+            (field (e₀ ∷ g ∷ e₁ ∷ right ∷ left ∷ h ∷ []) (search ratios depth 30 fits 9999) tt)
+            (field (e₀ ∷ g ∷ e₁ ∷ right ∷ left ∷ h ∷ []) (search ratios depth 30 fits 9999) tt);
+        order = λ t t' i i' le. through (rising-value t i F-pos k₀ k₁) (rising-value t' i' F-pos k₀ k₁) (form-proper t i) (form-proper t' i') (rising-order h left right t t' e₀ g e₁ h-pos i i' F-pos g-pos h₀ h₁ le);
+      }
 
 -- ---- convex
 
@@ -161,25 +165,28 @@ module _ {h left right : ℤ} {d₀ d₁ : Fraction} {S a g b : ℤ} (n : Around
   unfolding I.convex-curve I.chord tangent
   bent-value t i low high =
       record {
-          value = rw (Q.ltℚ-true low, Q.ltℚ-true high) (convex-closed n S-pos h-pos p₀ p₁ t (i .low) (i .high) low high);
-          slope = rw (Q.ltℚ-true low, Q.ltℚ-true high) }
+        value = rw (Q.ltℚ-true low, Q.ltℚ-true high) (convex-closed n S-pos h-pos p₀ p₁ t (i .low) (i .high) low high);
+        slope = rw (Q.ltℚ-true low, Q.ltℚ-true high);
+      }
 
   pub straight-value : (t : ℤ) → d₀ ≈ℚ (right -ℤ left) over h → Tangent t (whole left +ℚ ((right -ℤ left) over h) *ℚ whole t) ((right -ℤ left) over h)
   unfolding I.convex-curve I.chord tangent
   straight-value t e =
       record {
-          value = by-definition (rw (Q.ltℚ-no (Q.≤-of-≈ (Q.≈-sym e)))) (search propers);
-          slope = rw (Q.ltℚ-no (Q.≤-of-≈ (Q.≈-sym e))) }
+        value = by-definition (rw (Q.ltℚ-no (Q.≤-of-≈ (Q.≈-sym e)))) (search propers);
+        slope = rw (Q.ltℚ-no (Q.≤-of-≈ (Q.≈-sym e)));
+      }
 
   -- values and slopes by their closed forms
   bends-by : (x y : ℤ → Fraction) → ((t : ℤ) → In h t → Tangent t (x t) (y t)) → ((t : ℤ) → In h t → Proper (x t)) → ((t : ℤ) → In h t → Proper (y t)) → ((t t' : ℤ) → In h t → In h t' → x t +ℚ y t *ℚ whole (t' -ℤ t) ≤ℚ x t') → x (pos 0) ≈ℚ whole left → x h ≈ℚ whole right → y (pos 0) ≈ℚ d₀ → y h ≈ℚ d₁ → Bends h left right d₀ d₁ (λ t. I.convex-curve h left right t d₀ d₁) (λ t. tangent h left right d₀ d₁ S a g b t)
   bends-by x y at px py below x₀ x₁ y₀ y₁ =
       record {
-          joins = joins-by (λ t. I.convex-curve h left right t d₀ d₁) x h-pos (λ t i. at t i .value) px x₀ x₁;
-          proper = λ t i. subst⁻¹ Proper (at t i .slope) (py t i);
-          below = λ t t' i i'. subst⁻¹ (λ (σ : Fraction). I.convex-curve h left right t d₀ d₁ +ℚ σ *ℚ whole (t' -ℤ t) ≤ℚ I.convex-curve h left right t' d₀ d₁) (at t i .slope) (line t t' i i');
-          at-left = subst⁻¹ (λ (σ : Fraction). σ ≈ℚ d₀) (at (pos 0) (end-left h-pos) .slope) y₀;
-          at-right = subst⁻¹ (λ (σ : Fraction). σ ≈ℚ d₁) (at h (end-right h-pos) .slope) y₁ }
+        joins = joins-by (λ t. I.convex-curve h left right t d₀ d₁) x h-pos (λ t i. at t i .value) px x₀ x₁;
+        proper = λ t i. subst⁻¹ Proper (at t i .slope) (py t i);
+        below = λ t t' i i'. subst⁻¹ (λ (σ : Fraction). I.convex-curve h left right t d₀ d₁ +ℚ σ *ℚ whole (t' -ℤ t) ≤ℚ I.convex-curve h left right t' d₀ d₁) (at t i .slope) (line t t' i i');
+        at-left = subst⁻¹ (λ (σ : Fraction). σ ≈ℚ d₀) (at (pos 0) (end-left h-pos) .slope) y₀;
+        at-right = subst⁻¹ (λ (σ : Fraction). σ ≈ℚ d₁) (at h (end-right h-pos) .slope) y₁;
+      }
     where
       line : (t t' : ℤ) → In h t → In h t' → I.convex-curve h left right t d₀ d₁ +ℚ y t *ℚ whole (t' -ℤ t) ≤ℚ I.convex-curve h left right t' d₀ d₁
       line t t' i i' =

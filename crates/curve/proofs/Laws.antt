@@ -90,9 +90,9 @@ rated c i h =
     let x = getD (c .areas) i 0 in
     ⊎-elim (λ (w : (length (c .areas) ≤ suc i) × (leb (length (c .areas)) (suc i) ≡ true)). rated-last c i (let n = w .0 in omega arith))
     (λ (w : (suc i < length (c .areas)) × (leb (length (c .areas)) (suc i) ≡ false)).
-        let g = seen c .good-at i (w .0) in
-        in-segment c (λ (v : Fraction). Closed v (whole (pos (getD (c .values) i 0)))) i x (w .0) (le-refl x) (inl (g .ordered))
-        (record { proper = interpolant-proper (shape-of (c .code)) (segment-at c i) g x (le-refl x) (le-of-lt (g .ordered)); same = segments-meet c i (w .0) .0 }))
+    let g = seen c .good-at i (w .0) in
+    in-segment c (λ (v : Fraction). Closed v (whole (pos (getD (c .values) i 0)))) i x (w .0) (le-refl x) (inl (g .ordered))
+    (record { proper = interpolant-proper (shape-of (c .code)) (segment-at c i) g x (le-refl x) (le-of-lt (g .ordered)); same = segments-meet c i (w .0) .0 }))
     (compare-areas (length (c .areas)) (suc i))
 
 pub rated-points-read : RatedPointsRead
@@ -148,14 +148,15 @@ convex-supports c e x k =
     let r = subst (λ (s : Segment). Reads (Good convex) s x) (at .2) (convex-reads c e x k) in
     let same = ap (λ (s : Segment). slope s x) (at .2) in
     record {
-        slope = σ c e x;
-        proper = σ-proper c e x k;
-        below = λ z kz. supports c e x z k kz;
-        index = at .0;
-        left-area = r .low;
-        right-area = r .high;
-        left-slope = subst⁻¹ (λ (y : Fraction). gradient (point-at c (at .0)) ≤ℚ y) same (slope-above (segment-at c (at .0)) x r);
-        right-slope = subst⁻¹ (λ (y : Fraction). y ≤ℚ gradient (point-at c (suc (at .0)))) same (slope-below (segment-at c (at .0)) x r) }
+      slope = σ c e x;
+      proper = σ-proper c e x k;
+      below = λ z kz. supports c e x z k kz;
+      index = at .0;
+      left-area = r .low;
+      right-area = r .high;
+      left-slope = subst⁻¹ (λ (y : Fraction). gradient (point-at c (at .0)) ≤ℚ y) same (slope-above (segment-at c (at .0)) x r);
+      right-slope = subst⁻¹ (λ (y : Fraction). y ≤ℚ gradient (point-at c (suc (at .0)))) same (slope-below (segment-at c (at .0)) x r);
+    }
 
 -- two chords and the tangents at their inner ends
 chords : (v₁ v₂ v₃ v₄ s₂ s₃ : Fraction) (x₁ x₂ x₃ x₄ : ℤ) → Proper v₁ → Proper v₂ → Proper v₃ → Proper v₄ → Proper s₂ → Proper s₃ → x₁ <ℤ x₂ → x₃ <ℤ x₄ → v₂ +ℚ s₂ *ℚ whole (x₁ -ℤ x₂) ≤ℚ v₁ → s₂ ≤ℚ s₃ → v₃ +ℚ s₃ *ℚ whole (x₄ -ℤ x₃) ≤ℚ v₄ → (v₂ -ℚ v₁) /ℚ whole (x₂ -ℤ x₁) ≤ℚ (v₄ -ℚ v₃) /ℚ whole (x₄ -ℤ x₃)

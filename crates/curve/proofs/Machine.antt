@@ -86,7 +86,7 @@ module _ {H T S' a' b' : ℤ} (g : ℤ) (left t u S a b : ℕ) (eH : H ≡ pos t
       let e = g -ℤ b' in
       let hSW = mul-pos S-pos hW in
       let form : v ≈ℚ whole (pos left) +ℚ ((e *ℤ pos t) over pos S) +ℚ ((pos n *ℤ pos n) over (pos S *ℤ pos w)) =
-          subst₂ (λ (x y : Fraction). v ≈ℚ whole (pos left) +ℚ x +ℚ y) (ap₂ (λ (x y : ℤ). (e *ℤ x) over y) eT eS) (ap₂ (λ (x y : ℤ). (x *ℤ x) over y) (ap₂ (λ (x y : ℤ). x *ℤ y) eb eT) (ap₂ (λ (x y : ℤ). x *ℤ y) eS W-is)) (k .same) in
+      subst₂ (λ (x y : Fraction). v ≈ℚ whole (pos left) +ℚ x +ℚ y) (ap₂ (λ (x y : ℤ). (e *ℤ x) over y) eT eS) (ap₂ (λ (x y : ℤ). (x *ℤ x) over y) (ap₂ (λ (x y : ℤ). x *ℤ y) eb eT) (ap₂ (λ (x y : ℤ). x *ℤ y) eS W-is)) (k .same) in
       rounded-twice ((pos left *ℤ pos S +ℤ e *ℤ pos t) *ℤ pos w +ℤ pos n *ℤ pos n) (pos ((2 * left + 1) * S) +ℤ pos 2 *ℤ (e *ℤ pos t)) (n * (2 * n)) (S * w) w (2 * S) (k .proper)
       (Q.≈-trans (Q.proper-+ (Q.proper-+ (search propers) (Q.proper-over _ _ (Z.pos-< S-pos))) (Q.proper-over _ _ (Z.pos-< hSW))) form (one-fraction (pos left) (e *ℤ pos t) (pos S) (pos w) (pos n)))
       hSW hW (mul-pos (lit< tt) S-pos) (twice (pos left) (e *ℤ pos t) (pos S) (pos w) (pos n))

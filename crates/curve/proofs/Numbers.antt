@@ -49,11 +49,12 @@ module _ (s : Segment) (t u : ℕ) (to : s .right .area ≡ s .left .area + t + 
       let e₀-is : e₀ s ≡ pos ((t + u) * D₀) = ap₂ (λ (y z : ℤ). y *ℤ z) gap-is eD₀ in
       let e₁-is : e₁ s ≡ pos ((t + u) * D₁) = ap₂ (λ (y z : ℤ). y *ℤ z) gap-is eD₁ in
       let positive : 0 < part t u (100 * F) ((t + u) * D₀) + part u t (100 * F) ((t + u) * D₁) =
-          Z.<-pos (subst (λ (z : ℤ). pos 0 <ℤ z) (B-is (pos (s .right .value)) (s .left .value) t u F (100 * F) ((t + u) * D₀) ((t + u) * D₁) gap-is distance-is eF e₀-is g-is e₁-is)
-          (B-positive (gap s) (distance s (s .left .area + t)) hp (i .low) (i .high) (g-positive (normal s) Sp hp climb) (over-S (normal s) Sp hp (proper-gradient (s .left)) (proper-gradient (s .right)) (proper-gradient (s .left)) (normal s .left-slope) k₀) (over-S (normal s) Sp hp (proper-gradient (s .left)) (proper-gradient (s .right)) (proper-gradient (s .right)) (normal s .right-slope) k₁))) in
-      (positive,
-      rising-machine (pos (s .right .value)) (s .left .value) t u F (100 * F) ((t + u) * D₀) ((t + u) * D₁) gap-is distance-is eF e₀-is g-is e₁-is
-      (rising-value (normal s) Sp hp (proper-gradient (s .left)) (proper-gradient (s .right)) (distance s (s .left .area + t)) i climb k₀ k₁) positive)
+      Z.<-pos (subst (λ (z : ℤ). pos 0 <ℤ z) (B-is (pos (s .right .value)) (s .left .value) t u F (100 * F) ((t + u) * D₀) ((t + u) * D₁) gap-is distance-is eF e₀-is g-is e₁-is)
+      (B-positive (gap s) (distance s (s .left .area + t)) hp (i .low) (i .high) (g-positive (normal s) Sp hp climb) (over-S (normal s) Sp hp (proper-gradient (s .left)) (proper-gradient (s .right)) (proper-gradient (s .left)) (normal s .left-slope) k₀) (over-S (normal s) Sp hp (proper-gradient (s .left)) (proper-gradient (s .right)) (proper-gradient (s .right)) (normal s .right-slope) k₁))) in (
+        positive,
+        rising-machine (pos (s .right .value)) (s .left .value) t u F (100 * F) ((t + u) * D₀) ((t + u) * D₁) gap-is distance-is eF e₀-is g-is e₁-is
+            (rising-value (normal s) Sp hp (proper-gradient (s .left)) (proper-gradient (s .right)) (distance s (s .left .area + t)) i climb k₀ k₁) positive,
+      )
 
   pub segment-flat : Good rising s → s .right .value ≡ s .left .value → round (I.interpolant rising s (s .left .area + t)) ≡ pos (s .left .value)
   unfolding I.interpolant I.curve

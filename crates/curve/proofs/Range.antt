@@ -36,8 +36,9 @@ pub record Ranged (v : Fraction) : Type 0 where
 ranged-point : {v : Fraction} (n : ℕ) → Proper v → v ≈ℚ whole (pos n) → n ≤ 200000 → Ranged v
 ranged-point n p e h =
     record {
-        low = Q.≤-trans (search propers) (search propers) p (whole-≤ (negsuc 199999) (pos n) (record { le = tt })) (Q.≤-of-≈ (Q.≈-sym e));
-        high = Q.≤-trans p (search propers) (search propers) (Q.≤-of-≈ e) (whole-≤ (pos n) (pos 200000) (Z.pos-≤ h)) }
+      low = Q.≤-trans (search propers) (search propers) p (whole-≤ (negsuc 199999) (pos n) (record { le = tt })) (Q.≤-of-≈ (Q.≈-sym e));
+      high = Q.≤-trans p (search propers) (search propers) (Q.≤-of-≈ e) (whole-≤ (pos n) (pos 200000) (Z.pos-≤ h));
+    }
 
 -- both ends are
 module _ {shape : Shape} (s : Segment) (k : Good shape s) (j : Joins (gap s) (pos (s .left .value)) (pos (s .right .value)) (curve-at s shape)) where
@@ -54,8 +55,9 @@ rising-range s k t i =
     let e = end-right (gap-positive s (k .ordered)) in
     let proper = r .joins .proper in
     record {
-        low = Q.≤-trans (search propers) (proper (pos 0) l) (proper t i) (ranged-left s k (r .joins) .low) (r .order (pos 0) t l i (i .low));
-        high = Q.≤-trans (proper t i) (proper (gap s) e) (search propers) (r .order t (gap s) i e (Z.≤-by (gap s -ℤ t) refl (i .high))) (ranged-right s k (r .joins) .high) }
+      low = Q.≤-trans (search propers) (proper (pos 0) l) (proper t i) (ranged-left s k (r .joins) .low) (r .order (pos 0) t l i (i .low));
+      high = Q.≤-trans (proper t i) (proper (gap s) e) (search propers) (r .order t (gap s) i e (Z.≤-by (gap s -ℤ t) refl (i .high))) (ranged-right s k (r .joins) .high);
+    }
 
 -- from x along a tangent that does not fall on the way to y
 along : (v v' σ : Fraction) (x y : ℤ) → Proper v → Proper v' → Proper σ → v +ℚ σ *ℚ whole (y -ℤ x) ≤ℚ v' → NonNeg (σ *ℚ whole (y -ℤ x)) → v ≤ℚ v'
@@ -78,6 +80,7 @@ convex-high s k t i = decide (Q.≤-or-< (whole (pos 0)) (slope-at s t))
   where
     r : Bends (gap s) (pos (s .left .value)) (pos (s .right .value)) (gradient (s .left)) (gradient (s .right)) (curve-at s convex) (slope-at s)
     r = segment-bends s k
+
     decide : (whole (pos 0) ≤ℚ slope-at s t) ⊎ (slope-at s t <ℚ whole (pos 0)) → curve-at s convex t ≤ℚ whole (pos 200000)
     decide (inl h) =
         let e = end-right (gap-positive s (k .ordered)) in

@@ -97,10 +97,11 @@ convex-trans s s' s'' x y z r r' r'' h k =
     let p' = slope-proper s' y r' in
     let p'' = slope-proper s'' z r'' in
     record {
-        order = le-trans (h .order) (k .order);
-        rightwards = below-trans _ _ _ _ _ (pos x) (pos y) (pos z) v v' v'' p p' (h .rightwards) (k .rightwards) (Q.nonneg-* (Q.nonneg-difference (h .slopes)) (Q.nonneg-whole _ (Z.≤-difference (Z.pos-≤ (k .order)))));
-        leftwards = below-trans _ _ _ _ _ (pos z) (pos y) (pos x) v'' v' v p'' p' (k .leftwards) (h .leftwards) (nonneg-mirror _ _ (pos x) (pos y) p' p'' (k .slopes) (Z.pos-≤ (h .order)));
-        slopes = Q.≤-trans p p' p'' (h .slopes) (k .slopes) }
+      order = le-trans (h .order) (k .order);
+      rightwards = below-trans _ _ _ _ _ (pos x) (pos y) (pos z) v v' v'' p p' (h .rightwards) (k .rightwards) (Q.nonneg-* (Q.nonneg-difference (h .slopes)) (Q.nonneg-whole _ (Z.≤-difference (Z.pos-≤ (k .order)))));
+      leftwards = below-trans _ _ _ _ _ (pos z) (pos y) (pos x) v'' v' v p'' p' (k .leftwards) (h .leftwards) (nonneg-mirror _ _ (pos x) (pos y) p' p'' (k .slopes) (Z.pos-≤ (h .order)));
+      slopes = Q.≤-trans p p' p'' (h .slopes) (k .slopes);
+    }
 
 -- between two tangents that lie below the curve the slope rises
 steeper : (v v' σ σ' : Fraction) (x y : ℤ) → Proper v → Proper v' → Proper σ → Proper σ' → x <ℤ y → v +ℚ σ *ℚ whole (y -ℤ x) ≤ℚ v' → v' +ℚ σ' *ℚ whole (x -ℤ y) ≤ℚ v → σ ≤ℚ σ'
@@ -148,10 +149,11 @@ convex-join p q r g g' =
     let σ = slope-proper (between p q) (q .area) at-q in
     let σ' = slope-proper (between q r) (q .area) at-q' in
     record {
-        order = le-refl (q .area);
-        rightwards = below-equal _ _ _ (pos (q .area)) v v' σ e;
-        leftwards = below-equal _ _ _ (pos (q .area)) v' v σ' (Q.≈-sym e);
-        slopes = Q.≤-of-≈ (Q.≈-trans (proper-gradient q) (slope-right (between p q) g) (Q.≈-sym (slope-left (between q r) g'))) }
+      order = le-refl (q .area);
+      rightwards = below-equal _ _ _ (pos (q .area)) v v' σ e;
+      leftwards = below-equal _ _ _ (pos (q .area)) v' v σ' (Q.≈-sym e);
+      slopes = Q.≤-of-≈ (Q.≈-trans (proper-gradient q) (slope-right (between p q) g) (Q.≈-sym (slope-left (between q r) g')));
+    }
 
 pub tangents-support : {p q : Point} {ps : List Point} → Chain (Good convex) p (q ∷ ps) → (x y : ℕ) → p .area ≤ x → x ≤ y → y ≤ last-area q ps → Convex (stop p q ps x) x (stop p q ps y) y
 tangents-support c x y low order high =

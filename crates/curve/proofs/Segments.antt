@@ -66,17 +66,21 @@ module _ (s : Segment) where
   unfolding gradient
   normal =
       record {
-          left-slope = field (s .left .slope ∷ gap ∷ []) (search ratios depth 30 fits 9999) tt;
-          right-slope = field (s .right .slope ∷ gap ∷ []) (search ratios depth 30 fits 9999) tt;
-          chord-slope = field (rise ∷ gap ∷ []) (search ratios depth 30 fits 9999) tt }
+        left-slope = field (s .left .slope ∷ gap ∷ []) (search ratios depth 30 fits 9999) tt;
+        right-slope = field (s .right .slope ∷ gap ∷ []) (search ratios depth 30 fits 9999) tt;
+        chord-slope = field (rise ∷ gap ∷ []) (search ratios depth 30 fits 9999) tt;
+      }
 
   pub around : Around gap (pos (s .left .value)) (pos (s .right .value)) (gradient (s .left)) (gradient (s .right)) S a g b
   unfolding gradient
   around =
-      record { normal = record {
+      record {
+        normal = record {
           left-slope = field (s .left .slope ∷ rise ∷ gap ∷ []) (search ratios depth 30 fits 9999) tt;
           right-slope = field (s .right .slope ∷ rise ∷ gap ∷ []) (search ratios depth 30 fits 9999) tt;
-          chord-slope = field (rise ∷ gap ∷ []) (search ratios depth 30 fits 9999) tt } }
+          chord-slope = field (rise ∷ gap ∷ []) (search ratios depth 30 fits 9999) tt;
+        };
+      }
 
   -- the curve and, of the convex one, its slope, at a distance from the left end
   abbrev pub curve-at : Shape → ℤ → Fraction
@@ -114,8 +118,9 @@ segment-joins convex s k = segment-bends s k .joins
 pub within : (s : Segment) (x : ℕ) → s .left .area ≤ x → x ≤ s .right .area → In (gap s) (distance s x)
 within s x low high =
     record {
-        low = Z.≤-difference (Z.pos-≤ low);
-        high = subst (λ (z : ℤ). pos 0 ≤ℤ z) (ring (pos (s .right .area) ∷ pos x ∷ pos (s .left .area) ∷ []) {a = pos (s .right .area) -ℤ pos x} (search terms depth 20 fits 9999) tt) (Z.≤-difference (Z.pos-≤ high)) }
+      low = Z.≤-difference (Z.pos-≤ low);
+      high = subst (λ (z : ℤ). pos 0 ≤ℤ z) (ring (pos (s .right .area) ∷ pos x ∷ pos (s .left .area) ∷ []) {a = pos (s .right .area) -ℤ pos x} (search terms depth 20 fits 9999) tt) (Z.≤-difference (Z.pos-≤ high));
+    }
 
 module _ (shape : Shape) (s : Segment) (k : Good shape s) where
   pub interpolant-proper : (x : ℕ) → s .left .area ≤ x → x ≤ s .right .area → Proper (I.interpolant shape s x)

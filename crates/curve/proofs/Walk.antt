@@ -107,11 +107,11 @@ module _ (G : Segment → Type 0) where
           let later : (z : ℕ) → q .area ≤ z → z ≤ y → R (stop q r ps z) z (stop q r ps y) y = λ z h k. across z y (link g' c) h k high in
           let from-corner : q .area ≤ y → R (between q r) (q .area) (stop q r ps y) y = λ h. subst (λ (s : Segment). R s (q .area) (stop q r ps y) y) (stop-first (link g' c)) (later (q .area) (le-refl (q .area)) h) in
           ⊎-elim (λ (w : (q .area ≤ x) × (leb (q .area) x ≡ true)).
-              rw (w .1, le-leb (q .area) y (le-trans (w .0) order)) (later x (w .0) order))
+          rw (w .1, le-leb (q .area) y (le-trans (w .0) order)) (later x (w .0) order))
           (λ (w : (x < q .area) × (leb (q .area) x ≡ false)).
-              ⊎-elim (λ (v : (q .area ≤ y) × (leb (q .area) y ≡ true)).
-                  rw (w .1, v .1) (beyond x y g (link g' c) low (le-of-lt (w .0)) high (v .0) (from-corner (v .0))))
-              (λ (v : (y < q .area) × (leb (q .area) y ≡ false)).
-                  rw (w .1, v .1) (inside (between p q) x y (record { good = g; low = low; high = le-of-lt (w .0) }) (record { good = g; low = le-trans low order; high = le-of-lt (v .0) }) order))
-              (compare-areas (q .area) y))
+          ⊎-elim (λ (v : (q .area ≤ y) × (leb (q .area) y ≡ true)).
+          rw (w .1, v .1) (beyond x y g (link g' c) low (le-of-lt (w .0)) high (v .0) (from-corner (v .0))))
+          (λ (v : (y < q .area) × (leb (q .area) y ≡ false)).
+          rw (w .1, v .1) (inside (between p q) x y (record { good = g; low = low; high = le-of-lt (w .0) }) (record { good = g; low = le-trans low order; high = le-of-lt (v .0) }) order))
+          (compare-areas (q .area) y))
           (compare-areas (q .area) x)

@@ -78,14 +78,16 @@ means {ρ} (sum s t) =
     let m = means s in
     let n = means t in
     record {
-        top = plus-value (crossed (parts s) (parts t)) (crossed (parts t) (parts s)) ρ ∙ ap₂ (λ x y. x +ℤ y) (crossed-value ρ m n) (crossed-value ρ n m);
-        bottom = bottoms-value ρ m n }
+      top = plus-value (crossed (parts s) (parts t)) (crossed (parts t) (parts s)) ρ ∙ ap₂ (λ x y. x +ℤ y) (crossed-value ρ m n) (crossed-value ρ n m);
+      bottom = bottoms-value ρ m n;
+    }
 means {ρ} (dif s t) =
     let m = means s in
     let n = means t in
     record {
-        top = plus-value (crossed (parts s) (parts t)) (minus (crossed (parts t) (parts s))) ρ ∙ ap₂ (λ x y. x +ℤ y) (crossed-value ρ m n) (minus-value (crossed (parts t) (parts s)) ρ ∙ ap negℤ (crossed-value ρ n m));
-        bottom = bottoms-value ρ m n }
+      top = plus-value (crossed (parts s) (parts t)) (minus (crossed (parts t) (parts s))) ρ ∙ ap₂ (λ x y. x +ℤ y) (crossed-value ρ m n) (minus-value (crossed (parts t) (parts s)) ρ ∙ ap negℤ (crossed-value ρ n m));
+      bottom = bottoms-value ρ m n;
+    }
 means {ρ} (pro s t) =
     let m = means s in
     let n = means t in
@@ -101,5 +103,7 @@ cross-gap (ratio-sides s t) = parts (dif s t) .top
 pub field : (ρ : List ℤ) {x y : Fraction} (s : Ratios ρ x y) → T (isZero (cross-gap s)) → x ≈ℚ y
 unfolding _-ℚ_
 field ρ (ratio-sides {x = x} {y = y} s t) h =
-    record { cross = difference (x .num *ℤ y .den) (y .num *ℤ x .den)
-        (sym (means (dif s t) .top) ∙ zero-value (cross-gap (ratio-sides s t)) ρ h) }
+    record {
+      cross = difference (x .num *ℤ y .den) (y .num *ℤ x .den)
+          (sym (means (dif s t) .top) ∙ zero-value (cross-gap (ratio-sides s t)) ρ h);
+    }

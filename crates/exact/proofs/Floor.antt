@@ -34,13 +34,17 @@ unfolding floorDiv
 quotient (pos n) {d} h = record { low = Z.pos-≤ (div-mul-le-self n d); high = Z.pos-< (rw mul-comm (lt-mul-div-succ n h)) }
 quotient (negsuc n) {d} h =
     subst₂ (λ x y. Quotient x d y) (sym (negsuc-is n)) (sym (negsuc-is (n / d)))
-    (record { low = Z.≤-by _ (ring (pos n ∷ pos d ∷ q ∷ []) {b = (q +ℤ pos 1) *ℤ pos d -ℤ (pos n +ℤ pos 1)} (search terms depth 20 fits 9999) tt) (Z.≤-difference above);
-        high = Z.<-of-next (Z.≤-by _ (ring (pos n ∷ pos d ∷ q ∷ []) {b = pos n -ℤ q *ℤ pos d} (search terms depth 20 fits 9999) tt) (Z.≤-difference below)) })
+    (record {
+      low = Z.≤-by _ (ring (pos n ∷ pos d ∷ q ∷ []) {b = (q +ℤ pos 1) *ℤ pos d -ℤ (pos n +ℤ pos 1)} (search terms depth 20 fits 9999) tt) (Z.≤-difference above);
+      high = Z.<-of-next (Z.≤-by _ (ring (pos n ∷ pos d ∷ q ∷ []) {b = pos n -ℤ q *ℤ pos d} (search terms depth 20 fits 9999) tt) (Z.≤-difference below));
+    })
   where
     q : ℤ
     q = pos (n / d)
+
     above : (pos n +ℤ pos 1) ≤ℤ ((q +ℤ pos 1) *ℤ pos d)
     above = Z.<-next (Z.pos-< (rw mul-comm (lt-mul-div-succ n h)))
+
     below : (q *ℤ pos d) ≤ℤ pos n
     below = Z.pos-≤ (div-mul-le-self n d)
 
@@ -67,10 +71,11 @@ floorDiv-nested x y {w} {m} hw hm =
     let inner = quotient y hw in
     let outer = quotient (x +ℤ e) hm in
     sym (floorDiv-is (mul-pos hw hm) (record {
-        low = Z.≤-by ((y -ℤ e *ℤ pos w) +ℤ (x +ℤ e -ℤ q *ℤ pos m) *ℤ pos w) (ring (x ∷ y ∷ pos w ∷ pos m ∷ e ∷ q ∷ []) {a = x *ℤ pos w +ℤ y -ℤ q *ℤ (pos w *ℤ pos m)} (search terms depth 20 fits 9999) tt)
-            (Z.nonneg-+ (Z.≤-difference (inner .low)) (Z.nonneg-* (Z.≤-difference (outer .low)) (Z.nonneg-pos w)));
-        high = Z.<-by (((e +ℤ pos 1) *ℤ pos w -ℤ y) +ℤ ((q +ℤ pos 1) *ℤ pos m -ℤ (x +ℤ e +ℤ pos 1)) *ℤ pos w) (ring (x ∷ y ∷ pos w ∷ pos m ∷ e ∷ q ∷ []) {a = (q +ℤ pos 1) *ℤ (pos w *ℤ pos m) -ℤ (x *ℤ pos w +ℤ y)} (search terms depth 20 fits 9999) tt)
-            (Z.positive-+ (Z.<-difference (inner .high)) (Z.nonneg-* (Z.≤-difference (Z.<-next (outer .high))) (Z.nonneg-pos w))) }))
+      low = Z.≤-by ((y -ℤ e *ℤ pos w) +ℤ (x +ℤ e -ℤ q *ℤ pos m) *ℤ pos w) (ring (x ∷ y ∷ pos w ∷ pos m ∷ e ∷ q ∷ []) {a = x *ℤ pos w +ℤ y -ℤ q *ℤ (pos w *ℤ pos m)} (search terms depth 20 fits 9999) tt)
+          (Z.nonneg-+ (Z.≤-difference (inner .low)) (Z.nonneg-* (Z.≤-difference (outer .low)) (Z.nonneg-pos w)));
+      high = Z.<-by (((e +ℤ pos 1) *ℤ pos w -ℤ y) +ℤ ((q +ℤ pos 1) *ℤ pos m -ℤ (x +ℤ e +ℤ pos 1)) *ℤ pos w) (ring (x ∷ y ∷ pos w ∷ pos m ∷ e ∷ q ∷ []) {a = (q +ℤ pos 1) *ℤ (pos w *ℤ pos m) -ℤ (x *ℤ pos w +ℤ y)} (search terms depth 20 fits 9999) tt)
+          (Z.positive-+ (Z.<-difference (inner .high)) (Z.nonneg-* (Z.≤-difference (Z.<-next (outer .high))) (Z.nonneg-pos w)));
+    }))
 
 pub floorDiv-twice : (y : ℤ) {w m : ℕ} → 0 < w → 0 < m → floorDiv (floorDiv y w) m ≡ floorDiv y (w * m)
 floorDiv-twice y {w} {m} hw hm =
@@ -100,8 +105,9 @@ pub floor-greatest : FloorIsGreatest
 floor-greatest x px =
     let f = floor-quotient x px in
     record {
-        not-above = whole-≤ (floor x) (subst⁻¹ (λ z. (floor x *ℤ z) ≤ℤ x .num) (f .1) (f .3 .low));
-        greatest = λ z h. quotient-greatest z (f .3) (subst (λ d. (z *ℤ d) ≤ℤ x .num) (f .1) (≤-whole z h)) }
+      not-above = whole-≤ (floor x) (subst⁻¹ (λ z. (floor x *ℤ z) ≤ℤ x .num) (f .1) (f .3 .low));
+      greatest = λ z h. quotient-greatest z (f .3) (subst (λ d. (z *ℤ d) ≤ℤ x .num) (f .1) (≤-whole z h));
+    }
 
 floor-mono : (x y : Fraction) → Proper x → Proper y → x ≤ℚ y → floor x ≤ℤ floor y
 floor-mono x y px py h =
@@ -127,6 +133,7 @@ round-is-near x px = (above (Q.≤-or-< (whole (round x +ℤ pos 1)) (x +ℚ hal
   where
     g : Greatest (x +ℚ half) (round x)
     g = floor-greatest (x +ℚ half) (Q.proper-+ px proper-half)
+
     above : (whole (round x +ℤ pos 1) ≤ℚ x +ℚ half) ⊎ (x +ℚ half <ℚ whole (round x +ℤ pos 1)) → x -ℚ half <ℚ whole (round x)
     above (inl h) = absurd (Z.<-≤-clash (Z.<-of-next (≤ℤ-refl (round x +ℤ pos 1))) (g .greatest (round x +ℤ pos 1) h))
     above (inr h) =

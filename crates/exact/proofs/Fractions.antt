@@ -116,29 +116,39 @@ pub ≈-of-≡ : {x y : Fraction} → x ≡ y → x ≈ℚ y
 
 pub ≈-trans : {x y z : Fraction} → Proper y → x ≈ℚ y → y ≈ℚ z → x ≈ℚ z
 ≈-trans {x} {y} {z} py h k =
-    record { cross = Z.≡-cancel (py .above-0) (combined (x .num *ℤ z .den *ℤ y .den) (z .num *ℤ x .den *ℤ y .den) (x .num *ℤ y .den) (y .num *ℤ x .den) (y .num *ℤ z .den) (z .num *ℤ y .den) (z .den) (x .den) (h .cross) (k .cross)
-        (ring (x .num ∷ x .den ∷ y .num ∷ y .den ∷ z .num ∷ z .den ∷ []) (search terms depth 20 fits 9999) tt)) }
+    record {
+      cross = Z.≡-cancel (py .above-0) (combined (x .num *ℤ z .den *ℤ y .den) (z .num *ℤ x .den *ℤ y .den) (x .num *ℤ y .den) (y .num *ℤ x .den) (y .num *ℤ z .den) (z .num *ℤ y .den) (z .den) (x .den) (h .cross) (k .cross)
+          (ring (x .num ∷ x .den ∷ y .num ∷ y .den ∷ z .num ∷ z .den ∷ []) (search terms depth 20 fits 9999) tt));
+    }
 
 module _ {x x' y y' : Fraction} (h : x ≈ℚ x') (k : y ≈ℚ y') where
   pub ≈-+ : x +ℚ y ≈ℚ x' +ℚ y'
   unfolding _+ℚ_
-  ≈-+ = record { cross = combined _ _ _ _ _ _ (y .den *ℤ y' .den) (x .den *ℤ x' .den) (h .cross) (k .cross)
-        (ring (x .num ∷ x .den ∷ y .num ∷ y .den ∷ x' .num ∷ x' .den ∷ y' .num ∷ y' .den ∷ []) (search terms depth 20 fits 9999) tt) }
+  ≈-+ = record {
+    cross = combined _ _ _ _ _ _ (y .den *ℤ y' .den) (x .den *ℤ x' .den) (h .cross) (k .cross)
+        (ring (x .num ∷ x .den ∷ y .num ∷ y .den ∷ x' .num ∷ x' .den ∷ y' .num ∷ y' .den ∷ []) (search terms depth 20 fits 9999) tt);
+  }
 
   pub ≈-- : x -ℚ y ≈ℚ x' -ℚ y'
   unfolding _-ℚ_
-  ≈-- = record { cross = combined _ _ _ _ _ _ (y .den *ℤ y' .den) (pos 0 -ℤ x .den *ℤ x' .den) (h .cross) (k .cross)
-        (ring (x .num ∷ x .den ∷ y .num ∷ y .den ∷ x' .num ∷ x' .den ∷ y' .num ∷ y' .den ∷ []) (search terms depth 20 fits 9999) tt) }
+  ≈-- = record {
+    cross = combined _ _ _ _ _ _ (y .den *ℤ y' .den) (pos 0 -ℤ x .den *ℤ x' .den) (h .cross) (k .cross)
+        (ring (x .num ∷ x .den ∷ y .num ∷ y .den ∷ x' .num ∷ x' .den ∷ y' .num ∷ y' .den ∷ []) (search terms depth 20 fits 9999) tt);
+  }
 
   pub ≈-* : x *ℚ y ≈ℚ x' *ℚ y'
   unfolding _*ℚ_
-  ≈-* = record { cross = combined _ _ _ _ _ _ (y .num *ℤ y' .den) (x' .num *ℤ x .den) (h .cross) (k .cross)
-        (ring (x .num ∷ x .den ∷ y .num ∷ y .den ∷ x' .num ∷ x' .den ∷ y' .num ∷ y' .den ∷ []) (search terms depth 20 fits 9999) tt) }
+  ≈-* = record {
+    cross = combined _ _ _ _ _ _ (y .num *ℤ y' .den) (x' .num *ℤ x .den) (h .cross) (k .cross)
+        (ring (x .num ∷ x .den ∷ y .num ∷ y .den ∷ x' .num ∷ x' .den ∷ y' .num ∷ y' .den ∷ []) (search terms depth 20 fits 9999) tt);
+  }
 
   pub ≈-/ : x /ℚ y ≈ℚ x' /ℚ y'
   unfolding _/ℚ_
-  ≈-/ = record { cross = combined _ _ _ _ _ _ (y .den *ℤ y' .num) (pos 0 -ℤ x' .num *ℤ x .den) (h .cross) (k .cross)
-        (ring (x .num ∷ x .den ∷ y .num ∷ y .den ∷ x' .num ∷ x' .den ∷ y' .num ∷ y' .den ∷ []) (search terms depth 20 fits 9999) tt) }
+  ≈-/ = record {
+    cross = combined _ _ _ _ _ _ (y .den *ℤ y' .num) (pos 0 -ℤ x' .num *ℤ x .den) (h .cross) (k .cross)
+        (ring (x .num ∷ x .den ∷ y .num ∷ y .den ∷ x' .num ∷ x' .den ∷ y' .num ∷ y' .den ∷ []) (search terms depth 20 fits 9999) tt);
+  }
 
 -- ---- order
 

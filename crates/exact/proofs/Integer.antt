@@ -19,13 +19,16 @@ pub +-* : (a b k : ℤ) → (a +ℤ b) *ℤ k ≡ a *ℤ k +ℤ b *ℤ k
     base =
         ap (λ x. x *ℤ k) (+ℤ-idl b)
         ∙ sym (ap (λ x. x +ℤ b *ℤ k) (zero-*ℤ k) ∙ +ℤ-idl (b *ℤ k))
+
     move : (x y : ℤ) → (x +ℤ y) +ℤ b *ℤ k ≡ (x +ℤ b *ℤ k) +ℤ y
     move x y = +ℤ-assoc x y (b *ℤ k) ∙ ap (λ z. x +ℤ z) (+ℤ-comm y (b *ℤ k)) ∙ sym (+ℤ-assoc x (b *ℤ k) y)
+
     up : (x : ℤ) → (x +ℤ b) *ℤ k ≡ x *ℤ k +ℤ b *ℤ k → ((x +ℤ pos (suc zero)) +ℤ b) *ℤ k ≡ (x +ℤ pos (suc zero)) *ℤ k +ℤ b *ℤ k
     up x h =
         ap (λ z. (z +ℤ b) *ℤ k) (+ℤ-one x) ∙ ap (λ z. z *ℤ k) (sucℤ-+ℤ x b)
         ∙ sucℤ-*ℤ (x +ℤ b) k ∙ ap (λ z. z +ℤ k) h
         ∙ sym (ap (λ z. z *ℤ k +ℤ b *ℤ k) (+ℤ-one x) ∙ ap (λ z. z +ℤ b *ℤ k) (sucℤ-*ℤ x k) ∙ move (x *ℤ k) k)
+
     down : (x : ℤ) → (x +ℤ b) *ℤ k ≡ x *ℤ k +ℤ b *ℤ k → ((x -ℤ pos (suc zero)) +ℤ b) *ℤ k ≡ (x -ℤ pos (suc zero)) *ℤ k +ℤ b *ℤ k
     down x h =
         ap (λ z. (z +ℤ b) *ℤ k) (-ℤ-one x) ∙ ap (λ z. z *ℤ k) (predℤ-+ℤ x b)
@@ -54,14 +57,18 @@ unfolding one
   where
     base : (pos zero *ℤ b) *ℤ c ≡ pos zero *ℤ (b *ℤ c)
     base = ap (λ x. x *ℤ c) (zero-*ℤ b) ∙ zero-*ℤ c ∙ sym (zero-*ℤ (b *ℤ c))
+
     one-* : (x : ℤ) → pos (suc zero) *ℤ x ≡ x
     one-* x = *ℤ-comm (pos (suc zero)) x ∙ *ℤ-one x
+
     unit : (y z : ℤ) → (pos (suc zero) *ℤ y) *ℤ z ≡ pos (suc zero) *ℤ (y *ℤ z)
     unit y z = ap (λ x. x *ℤ z) (one-* y) ∙ sym (one-* (y *ℤ z))
+
     minus : (y z : ℤ) → (negsuc zero *ℤ y) *ℤ z ≡ negsuc zero *ℤ (y *ℤ z)
     minus y z =
         ap (λ x. x *ℤ z) (neg-* (pos (suc zero)) y) ∙ neg-* (pos (suc zero) *ℤ y) z
         ∙ ap negℤ (unit y z) ∙ sym (neg-* (pos (suc zero)) (y *ℤ z))
+
     up : (x d : ℤ) → (d *ℤ b) *ℤ c ≡ d *ℤ (b *ℤ c) → (x *ℤ b) *ℤ c ≡ x *ℤ (b *ℤ c) → ((x +ℤ d) *ℤ b) *ℤ c ≡ (x +ℤ d) *ℤ (b *ℤ c)
     up x d e h =
         ap (λ z. z *ℤ c) (+-* x d b) ∙ +-* (x *ℤ b) (d *ℤ b) c

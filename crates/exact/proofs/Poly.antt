@@ -135,8 +135,8 @@ product : (p q p' q' r x : ℤ) → p' *ℤ x +ℤ q' ≡ r → (p *ℤ r +ℤ q
 product p q p' q' r x h =
     ap (λ z. z +ℤ q *ℤ q') (+-* (p *ℤ r) (q *ℤ p') x) ∙ +ℤ-assoc ((p *ℤ r) *ℤ x) ((q *ℤ p') *ℤ x) (q *ℤ q')
     ∙ ap₂ (λ y z. y +ℤ z)
-        (*-assoc p r x ∙ ap (λ z. p *ℤ z) (*ℤ-comm r x) ∙ sym (*-assoc p x r))
-        (ap (λ z. z +ℤ q *ℤ q') (*-assoc q p' x) ∙ sym (*-+ q (p' *ℤ x) q') ∙ ap (λ z. q *ℤ z) h)
+    (*-assoc p r x ∙ ap (λ z. p *ℤ z) (*ℤ-comm r x) ∙ sym (*-assoc p x r))
+    (ap (λ z. z +ℤ q *ℤ q') (*-assoc q p' x) ∙ sym (*-+ q (p' *ℤ x) q') ∙ ap (λ z. q *ℤ z) h)
     ∙ sym (+-* (p *ℤ x) q r)
 
 pub times-value : (p r : Poly) (ρ : List ℤ) → value (times p r) ρ ≡ value p ρ *ℤ value r ρ
@@ -145,7 +145,7 @@ times-value (p ·x+ q) (con d) ρ = scale-value d (p ·x+ q) ρ ∙ *ℤ-comm d 
 times-value (p ·x+ q) (p' ·x+ q') ρ =
     horner-value (plus (times p (p' ·x+ q')) (widen (λ s. times q s) p')) (times q q') ρ
     ∙ ap₂ (λ y z. y *ℤ first ρ +ℤ z)
-        (plus-value (times p (p' ·x+ q')) (widen (λ s. times q s) p') ρ
-        ∙ ap₂ (λ y z. y +ℤ z) (times-value p (p' ·x+ q') ρ) (widen-value (λ s. times q s) q (times-value q) p' ρ))
-        (times-value q q' (later ρ))
+    (plus-value (times p (p' ·x+ q')) (widen (λ s. times q s) p') ρ
+    ∙ ap₂ (λ y z. y +ℤ z) (times-value p (p' ·x+ q') ρ) (widen-value (λ s. times q s) q (times-value q) p' ρ))
+    (times-value q q' (later ρ))
     ∙ product (value p ρ) (value q (later ρ)) (value p' ρ) (value q' (later ρ)) (value (p' ·x+ q') ρ) (first ρ) refl

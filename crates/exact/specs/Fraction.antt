@@ -10,7 +10,6 @@ infix 4 _≈ℚ_ _≤ℚ_ _<ℚ_
 infixl 6 _+ℚ_ _-ℚ_
 infixl 7 _*ℚ_ _/ℚ_
 infix 8 _over_
-
 pub record Fraction : Type 0 where
   pub num : ℤ
   pub den : ℤ
