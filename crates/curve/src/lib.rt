@@ -1,1 +1,3 @@
 // Factor curves through rated points.
+mod rows;
+mod segment;

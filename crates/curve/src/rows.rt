@@ -1,0 +1,1 @@
+// Rows 1 to 6 of the refusal table.
