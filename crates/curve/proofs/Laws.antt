@@ -26,7 +26,8 @@ use Rattle.curve.specs.Read.{exact-value, reading}
 use Rattle.curve.specs.Laws.{Curve, Area, value-at, factor-at, point-at, segment-at, chord-slope, step, SegmentsMeet, RatedPointsRead, ValuesAreProper, FactorsAreNear, FactorsAreRanged, RisingValues, RisingFactors, Support, ConvexSupports, ConvexChords, ConvexMiddle, ConvexSteps}
 use Rattle.curve.proofs.ClosedForm.{Closed}
 use Rattle.curve.proofs.Walk.{Chain, Reads, stop, stop-reads, compare-areas}
-use Rattle.curve.proofs.Segments.{Good, interpolant-proper, interpolant-left, interpolant-right, proper-gradient}
+use Rattle.curve.specs.Steps.{Good}
+use Rattle.curve.proofs.Segments.{interpolant-proper, interpolant-left, interpolant-right, proper-gradient}
 use Rattle.curve.proofs.Accepted.{View, view, lengths, segment-of, value-is, inside-low, inside-high}
 use Rattle.curve.proofs.Range.{Ranged, value-range, reading-low, reading-high}
 use Rattle.curve.proofs.Relations.{values-rise, slope, Convex, tangents-support, slope-proper, slope-above, slope-below}

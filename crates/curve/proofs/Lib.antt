@@ -11,4 +11,5 @@ pub mod Indexed
 pub mod Laws
 pub mod Machine
 pub mod Numbers
+pub mod Sizes
 pub mod Range

@@ -21,7 +21,8 @@ use Rattle.curve.specs.Shape.{fits, has-shape}
 use Rattle.curve.proofs.ClosedForm.{Closed, B, W, B-positive, W-positive, g-positive, a-positive, b-positive, congruence}
 use Rattle.curve.proofs.Inside.{In}
 use Rattle.curve.proofs.Curves.{Rise, climbs, flat, Bend, bent, straight, rise-kind, bend-kind, over-S, flat-value, rising-value, bent-value, straight-value}
-use Rattle.curve.proofs.Segments.{Good, gap, rise, distance, S, g, e₀, e₁, a, b, normal, around, proper-gradient, gap-positive, S-positive, within}
+use Rattle.curve.specs.Steps.{Good}
+use Rattle.curve.proofs.Segments.{gap, rise, distance, S, g, e₀, e₁, a, b, normal, around, proper-gradient, gap-positive, S-positive, within}
 use Rattle.curve.proofs.Machine.{part, rising-numbers, B-is, rising-machine, convex-numbers, above-tangent, W-is, convex-machine, straight-machine}
 
 module _ (s : Segment) (t u : ℕ) (to : s .right .area ≡ s .left .area + t + u) where

@@ -20,7 +20,8 @@ use Rattle.curve.specs.Points.{Point, gradient, Segment, Shape, rising, 
 use Rattle.curve.specs.Interpolant.{interpolant, curve}
 use Rattle.curve.proofs.Inside.{In}
 use Rattle.curve.proofs.Curves.{Joins, Rises, Bends, end-left, end-right}
-use Rattle.curve.proofs.Segments.{Good, gap, distance, curve-at, slope-at, gap-positive, proper-gradient, segment-rises, segment-bends, within, interpolant-proper}
+use Rattle.curve.specs.Steps.{Good}
+use Rattle.curve.proofs.Segments.{gap, distance, curve-at, slope-at, gap-positive, proper-gradient, segment-rises, segment-bends, within, interpolant-proper}
 use Rattle.curve.proofs.Walk.{Reads}
 
 whole-≤ : (a b : ℤ) → a ≤ℤ b → whole a ≤ℚ whole b

@@ -16,22 +16,11 @@ use Rattle.exact.proofs.Fractions.{propers}
 use Rattle.curve.specs.Points.{Point, gradient, Segment, Shape, rising, convex}
 use Rattle.curve.specs.Interpolant as I
 use Rattle.curve.specs.Shape.{fits, has-shape}
+use Rattle.curve.specs.Steps.{Good}
 use Rattle.curve.proofs.ClosedForm.{Normal, Around}
 use Rattle.curve.proofs.Inside.{In}
 use Rattle.curve.proofs.Curves.{Joins, Rises, Bends, rise-kind, bend-kind, rising-rises, convex-bends, tangent}
 use Rattle.curve.proofs.Walk.{Reads}
-
--- what rows 3 to 6 leave of a segment
-pub record Good (shape : Shape) (s : Segment) : Type 0 where
-  pub ordered : s .left .area < s .right .area
-  pub near : s .right .area ≤ s .left .area + 2000
-  pub left-value : s .left .value ≤ 200000
-  pub right-value : s .right .value ≤ 200000
-  pub left-slope-low : negsuc 9999 ≤ℤ s .left .slope
-  pub left-slope-high : s .left .slope ≤ℤ pos 10000
-  pub right-slope-low : negsuc 9999 ≤ℤ s .right .slope
-  pub right-slope-high : s .right .slope ≤ℤ pos 10000
-  pub shaped : T (has-shape shape s)
 
 module _ (s : Segment) where
   abbrev pub gap : ℤ

@@ -7,3 +7,4 @@ pub mod Check
 pub mod Read
 pub mod Readings
 pub mod Laws
+pub mod Steps

@@ -1,1 +1,72 @@
-// The reading of one segment.
+// The reading of one segment, by two divisions.
+ghost use mathlib.Core.Path.{_≡_};
+ghost use Prim.Native.Nat.{_^_, _<_};
+ghost use lib.IntN.{pos, natAbs, _-ℤ_, _*ℤ_};
+ghost use Rattle.curve.specs.Steps as steps;
+ghost use Rattle.curve.specs.Steps.{Weights, Climbing, rising-reading, Bending, above-tangent, Normal};
+
+// t (g t + e u)
+fn part(t: u64, u: u64, g: u64, e: u64) -> u64
+    requires { ⌜ Weights t u g e ⌝ }
+    ensures { λ r. ⌜ r ≡ steps.part t u g e ⌝ }
+{
+    t * (g * t + e * u)
+}
+
+// The factor on a rising curve. t and u are the distances from the two ends, d0 and d1 the slopes in hundredths.
+pub fn rising(t: u64, u: u64, left: u64, rise: u64, d0: u64, d1: u64) -> u64
+    requires { ⌜ Climbing t u left rise d0 d1 ⌝ }
+    ensures { λ r. ⌜ r ≡ rising-reading t u left rise d0 d1 ⌝ }
+{
+    let h = t + u;
+    let g = 100 * rise;
+    let a = part(t, u, g, h * d0);
+    let c = part(u, t, g, h * d1);
+    (2 * left + 1 + exact::mul_div(a, 2 * rise, a + c)) / 2
+}
+
+// What a convex curve is above its left tangent, times 2 S; a and b are the end slopes' distances from the chord.
+pub fn above_tangent(t: u64, u: u64, a: u64, b: u64) -> u64
+    requires { ⌜ Bending t u a b ⌝ }
+    ensures { λ r. ⌜ r ≡ above-tangent t u a b ⌝ }
+{
+    let w = b * t;
+    let divisor = a * u + w;
+    if divisor == 0 {
+        return 0;
+    }
+    exact::mul_div(w, 2 * w, divisor)
+}
+
+// a - b
+fn difference(a: u32, b: u32) -> i64
+    ensures { λ r. ⌜ r ≡ pos a -ℤ pos b ⌝ }
+{
+    (a as i64) - (b as i64)
+}
+
+// h d, for a difference h
+fn scaled(h: i64, d: i32) -> i64
+    requires { ⌜ natAbs h < 2 ^ 32 ⌝ }
+    ensures { λ r. ⌜ r ≡ h *ℤ d ⌝ }
+{
+    h * (d as i64)
+}
+
+// The slopes of a segment over the denominator 100 h: left end, chord, right end.
+pub struct Slopes {
+    pub left: i64,
+    pub chord: i64,
+    pub right: i64,
+}
+
+pub fn slopes_of(x0: u32, y0: u32, d0: i32, x1: u32, y1: u32, d1: i32) -> Slopes
+    ensures { λ r. ⌜ Normal x0 y0 d0 x1 y1 d1 (r .left) (r .chord) (r .right) ⌝ }
+{
+    let h = difference(x1, x0);
+    Slopes {
+        left: scaled(h, d0),
+        chord: scaled(difference(y1, y0), 100),
+        right: scaled(h, d1),
+    }
+}

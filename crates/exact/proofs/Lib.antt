@@ -9,3 +9,4 @@ pub mod Floor
 pub mod Identities
 pub mod Signed
 pub mod Size
+pub mod Magnitude

@@ -1,0 +1,90 @@
+-- What private functions ask and give, in plain numbers. Nothing here need be believed: the calls' contracts cite the definitions
+-- of document 01.
+-- Assumes nothing.
+use mathlib.Core.Path.{_≡_}
+use Prim.Native.Nat.{ℕ, _+_, _*_, _/_, _≤_, _<_}
+use lib.Dec.{T}
+use lib.IntN.{ℤ, pos, negsuc, natAbs, _+ℤ_, _*ℤ_, _-ℤ_}
+use lib.Signed.{_≤ℤ_}
+use Rattle.exact.specs.Rounding.{floorDiv}
+use Rattle.curve.specs.Points.{Point, Segment, Shape}
+use Rattle.curve.specs.Shape.{has-shape}
+
+-- the distances t and u of an area from the ends of a segment
+pub record Ends (t u : ℕ) : Type 0 where
+  pub most : t + u ≤ 2000
+  pub least : 0 < t + u
+
+-- A of the rising curve, from the left end; C is A from the right end, and B = A + C
+abbrev pub part : (t u G E : ℕ) → ℕ
+part t u G E = t * (G * t + E * u)
+
+pub record Weights (t u G E : ℕ) : Type 0 where
+  pub ends : Ends t u
+  pub first : G ≤ 20000000
+  pub second : E ≤ 20000000
+
+abbrev pub whole-part : (t u F D₀ D₁ : ℕ) → ℕ
+whole-part t u F D₀ D₁ = part t u (100 * F) ((t + u) * D₀) + part u t (100 * F) ((t + u) * D₁)
+
+abbrev pub rising-reading : (t u left F D₀ D₁ : ℕ) → ℕ
+rising-reading t u left F D₀ D₁ =
+    (2 * left + 1 + part t u (100 * F) ((t + u) * D₀) * (2 * F) / whole-part t u F D₀ D₁) / 2
+
+pub record Climbing (t u left F D₀ D₁ : ℕ) : Type 0 where
+  pub ends : Ends t u
+  pub left-value : left ≤ 200000
+  pub rise : F ≤ 200000
+  pub left-slope : D₀ ≤ 10000
+  pub right-slope : D₁ ≤ 10000
+  pub above-0 : 0 < whole-part t u F D₀ D₁
+
+-- what the convex curve is above its left tangent, times 2 S: 2 w² / W with w = b t and W = a u + b t, 0 where W is
+abbrev pub above-tangent : (t u a b : ℕ) → ℕ
+above-tangent t u a b = b * t * (2 * (b * t)) / (a * u + b * t)
+
+pub record Bending (t u a b : ℕ) : Type 0 where
+  pub ends : Ends t u
+  pub right-slope : a ≤ 40000000
+  pub left-slope : b ≤ 40000000
+
+-- the slopes of a segment over the denominator 100 h
+pub record Normal (x₀ y₀ : ℕ) (d₀ : ℤ) (x₁ y₁ : ℕ) (d₁ e₀ g e₁ : ℤ) : Type 0 where
+  pub left : e₀ ≡ (pos x₁ -ℤ pos x₀) *ℤ d₀
+  pub chord : g ≡ (pos y₁ -ℤ pos y₀) *ℤ pos 100
+  pub right : e₁ ≡ (pos x₁ -ℤ pos x₀) *ℤ d₁
+
+-- the reading from the left tangent
+pub record Tangent (t h left E : ℕ) (e₀ : ℤ) : Type 0 where
+  pub short : h ≤ 2000
+  pub least : 0 < h
+  pub distance : t ≤ h
+  pub left-value : left ≤ 200000
+  pub slope : natAbs e₀ ≤ 20000000
+  pub above : E ≤ 160000000000
+
+abbrev pub tangent-reading : (t h left E : ℕ) (e₀ : ℤ) → ℤ
+tangent-reading t h left E e₀ =
+    floorDiv (pos ((2 * left + 1) * (100 * h)) +ℤ pos 2 *ℤ (e₀ *ℤ pos t) +ℤ pos E) (2 * (100 * h))
+
+-- what rows 3 to 6 leave of a segment
+pub record Good (shape : Shape) (s : Segment) : Type 0 where
+  pub ordered : s .left .area < s .right .area
+  pub near : s .right .area ≤ s .left .area + 2000
+  pub left-value : s .left .value ≤ 200000
+  pub right-value : s .right .value ≤ 200000
+  pub left-slope-low : negsuc 9999 ≤ℤ s .left .slope
+  pub left-slope-high : s .left .slope ≤ℤ pos 10000
+  pub right-slope-low : negsuc 9999 ≤ℤ s .right .slope
+  pub right-slope-high : s .right .slope ≤ℤ pos 10000
+  pub shaped : T (has-shape shape s)
+
+-- the segment of two points, and that an area is read in it
+abbrev pub segment-of : (x₀ y₀ : ℕ) (d₀ : ℤ) (x₁ y₁ : ℕ) (d₁ : ℤ) → Segment
+segment-of x₀ y₀ d₀ x₁ y₁ d₁ =
+    record { left = record { area = x₀; value = y₀; slope = d₀ }; right = record { area = x₁; value = y₁; slope = d₁ } }
+
+pub record Inside (shape : Shape) (s : Segment) (x : ℕ) : Type 0 where
+  pub good : Good shape s
+  pub low : s .left .area ≤ x
+  pub high : x ≤ s .right .area
