@@ -3,7 +3,7 @@ ghost use mathlib.Core.Path.{_≡_};
 ghost use Prim.Native.Nat.{_^_, _<_};
 ghost use lib.IntN.{pos, natAbs, _-ℤ_, _*ℤ_};
 ghost use Rattle.curve.specs.Steps as steps;
-ghost use Rattle.curve.specs.Steps.{Weights, Climbing, rising-reading, Bending, above-tangent, Normal};
+ghost use Rattle.curve.specs.Steps.{Weights, Climbing, rising-reading, Bending, above-tangent, Normal, Tangent, tangent-reading};
 
 // t (g t + e u)
 fn part(t: u64, u: u64, g: u64, e: u64) -> u64
@@ -69,4 +69,14 @@ pub fn slopes_of(x0: u32, y0: u32, d0: i32, x1: u32, y1: u32, d1: i32) -> Slopes
         chord: scaled(difference(y1, y0), 100),
         right: scaled(h, d1),
     }
+}
+
+// The left tangent and what the curve is above it, over 2 S with S = 100 h, rounded down.
+fn over_tangent(t: u64, h: u64, left: u64, e0: i64, above: u64) -> i64
+    requires { ⌜ Tangent t h left above e0 ⌝ }
+    ensures { λ r. ⌜ r ≡ tangent-reading t h left above e0 ⌝ }
+{
+    let s = 100 * h;
+    let base = (2 * left + 1) * s + above;
+    exact::floor_div((base as i64) + 2 * (e0 * (t as i64)), (2 * s) as i64)
 }
