@@ -13,3 +13,4 @@ pub mod Machine
 pub mod Numbers
 pub mod Sizes
 pub mod Range
+pub mod Plain

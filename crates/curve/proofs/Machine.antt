@@ -16,6 +16,7 @@ use Rattle.exact.proofs.Field.{field, ratios}
 use Rattle.exact.proofs.Fractions as Q
 use Rattle.exact.proofs.Fractions.{propers}
 use Rattle.exact.proofs.Floor.{floorDiv-nested, round-≈}
+use Rattle.curve.specs.Steps.{part, above-tangent}
 use Rattle.curve.proofs.ClosedForm.{Closed, A, B, W}
 use Rattle.curve.proofs.Inside.{rising-form, convex-form}
 
@@ -33,9 +34,6 @@ rounded-twice n x y d w m pv e hd hw hm en ed =
     ∙ sym (floorDiv-nested x (pos y) hw hm)
 
 -- ---- rising
-
-abbrev pub part : (t u G E : ℕ) → ℕ
-part t u G E = t * (G * t + E * u)
 
 -- A, and B = A + C, where C is A from the right end
 abbrev pub rising-numbers : (left F t u G E₀ E₁ : ℕ) → ℕ
@@ -65,9 +63,6 @@ module _ {H T e₀ g e₁ : ℤ} (R : ℤ) (left t u F G E₀ E₁ : ℕ) (eH : 
 -- the tangent's part, and with it what the curve is above the tangent
 abbrev pub convex-numbers : (left S t E : ℕ) (e₀ : ℤ) → ℤ
 convex-numbers left S t E e₀ = floorDiv (pos ((2 * left + 1) * S) +ℤ pos 2 *ℤ (e₀ *ℤ pos t) +ℤ pos E) (2 * S)
-
-abbrev pub above-tangent : (t u a b : ℕ) → ℕ
-above-tangent t u a b = b * t * (2 * (b * t)) / (a * u + b * t)
 
 one-fraction : (l e S w n : ℤ) → whole l +ℚ (e over S) +ℚ ((n *ℤ n) over (S *ℤ w)) ≈ℚ ((l *ℤ S +ℤ e) *ℤ w +ℤ n *ℤ n) over (S *ℤ w)
 one-fraction l e S w n = field (e ∷ l ∷ n ∷ S ∷ w ∷ []) (search ratios depth 30 fits 9999) tt

@@ -21,15 +21,15 @@ use Rattle.curve.specs.Shape.{fits, has-shape}
 use Rattle.curve.proofs.ClosedForm.{Closed, B, W, B-positive, W-positive, g-positive, a-positive, b-positive, congruence}
 use Rattle.curve.proofs.Inside.{In}
 use Rattle.curve.proofs.Curves.{Rise, climbs, flat, Bend, bent, straight, rise-kind, bend-kind, over-S, flat-value, rising-value, bent-value, straight-value}
-use Rattle.curve.specs.Steps.{Good}
+use Rattle.curve.specs.Steps.{Good, part, above-tangent}
 use Rattle.curve.proofs.Segments.{gap, rise, distance, S, g, e₀, e₁, a, b, normal, around, proper-gradient, gap-positive, S-positive, within}
-use Rattle.curve.proofs.Machine.{part, rising-numbers, B-is, rising-machine, convex-numbers, above-tangent, W-is, convex-machine, straight-machine}
+use Rattle.curve.proofs.Machine.{rising-numbers, B-is, rising-machine, convex-numbers, W-is, convex-machine, straight-machine}
 
 module _ (s : Segment) (t u : ℕ) (to : s .right .area ≡ s .left .area + t + u) where
   distance-is : distance s (s .left .area + t) ≡ pos t
   distance-is = ring (pos (s .left .area) ∷ pos t ∷ []) {a = pos (s .left .area) +ℤ pos t -ℤ pos (s .left .area)} (search terms depth 20 fits 9999) tt
 
-  gap-is : gap s ≡ pos t +ℤ pos u
+  pub gap-is : gap s ≡ pos t +ℤ pos u
   gap-is = ap (λ (n : ℕ). pos n -ℤ pos (s .left .area)) to ∙ ring (pos (s .left .area) ∷ pos t ∷ pos u ∷ []) {a = pos (s .left .area) +ℤ pos t +ℤ pos u -ℤ pos (s .left .area)} (search terms depth 20 fits 9999) tt
 
   in-segment : In (gap s) (distance s (s .left .area + t))

@@ -6,8 +6,9 @@ use native.Mathlib.Omega.{arith}
 use lib.IntN.{ℤ, pos, natAbs, _+ℤ_, _*ℤ_}
 use mir.Syntax.{w64}
 use mir.Val.{SFits}
+use Rattle.exact.proofs.Size.{scaled-size}
 use Rattle.exact.proofs.Magnitude.{size-+, size-*, fits-size}
-use Rattle.curve.specs.Steps.{Ends, part, Weights, Climbing, Bending, Tangent}
+use Rattle.curve.specs.Steps.{Ends, part, Weights, Climbing, Bending, above-tangent, Tangent}
 
 -- a sum weighted by the distances from the two ends
 pub blend-size : {t u g e : ℕ} → Weights t u g e → g * t + e * u ≤ 40000000000
@@ -37,6 +38,12 @@ pub bend-size : {t u a b : ℕ} → Bending t u a b → a * u + b * t ≤ 800000
 bend-size {t} {u} k =
     let n = k .ends .most in
     omega (arith, mul-le-mul-right u (k .right-slope), mul-le-mul-right t (k .left-slope))
+
+pub above-size : {t u a b : ℕ} → Bending t u a b → above-tangent t u a b ≤ 160000000000
+above-size {t} {u} {a} {b} k =
+    let n = bend-size k in
+    let m = scaled-size {x = b * t} {c = a * u + b * t} (2 * (b * t)) (omega arith) in
+    omega arith
 
 -- the left tangent and what is above it
 module _ {t h left E : ℕ} {e₀ : ℤ} (k : Tangent t h left E e₀) where
