@@ -140,13 +140,13 @@ module _ {s : Segment} {x : ℕ} (i : Inside convex s x) where
       let e = size-* (gap s) D in
       omega (arith, mul-le-mul {n₁ = natAbs (gap s)} {m₁ = natAbs D} {n₂ = 2000} {m₂ = 10000} (omega arith) k)
 
-  e₀-size : natAbs (e₀ s) ≤ 20000000
+  pub e₀-size : natAbs (e₀ s) ≤ 20000000
   e₀-size = over-gap (s .left .slope) (slope-size (s .left .slope) (i .good .left-slope-low) (i .good .left-slope-high))
 
-  e₁-size : natAbs (e₁ s) ≤ 20000000
+  pub e₁-size : natAbs (e₁ s) ≤ 20000000
   e₁-size = over-gap (s .right .slope) (slope-size (s .right .slope) (i .good .right-slope-low) (i .good .right-slope-high))
 
-  g-size : natAbs (g s) ≤ 20000000
+  pub g-size : natAbs (g s) ≤ 20000000
   g-size =
       let n = size-difference (i .good .right-value) (i .good .left-value) in
       let e = size-* (pos 100) (rise s) in
