@@ -2,8 +2,11 @@
 -- of document 01.
 -- Assumes nothing.
 use mathlib.Core.Path.{_≡_}
-use Prim.Native.Nat.{ℕ, _+_, _*_, _/_, _≤_, _<_}
+use mathlib.Core.List.{List}
+use mathlib.Core.Logic.{_⊎_}
+use Prim.Native.Nat.{ℕ, suc, _+_, _*_, _/_, _≤_, _<_}
 use lib.Dec.{T}
+use lib.ListN.{length, getD}
 use lib.IntN.{ℤ, pos, negsuc, natAbs, _+ℤ_, _*ℤ_, _-ℤ_}
 use lib.Signed.{_≤ℤ_}
 use Rattle.exact.specs.Rounding.{floorDiv}
@@ -88,3 +91,13 @@ pub record Inside (shape : Shape) (s : Segment) (x : ℕ) : Type 0 where
   pub good : Good shape s
   pub low : s .left .area ≤ x
   pub high : x ≤ s .right .area
+
+-- the area at an index is not above the area read
+pub record Reached (areas : List ℕ) (i x : ℕ) : Type 0 where
+  pub inner : suc i < length areas
+  pub low : getD areas i 0 ≤ x
+
+-- and the next is above it, or there is no later segment
+pub record Taken (areas : List ℕ) (i x : ℕ) : Type 0 where
+  pub reached : Reached areas i x
+  pub high : (x < getD areas (suc i) 0) ⊎ (suc (suc i) ≡ length areas)

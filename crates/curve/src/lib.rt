@@ -1,3 +1,4 @@
 // Factor curves through rated points.
 mod rows;
+mod lookup;
 mod segment;
