@@ -196,6 +196,15 @@ unfolding curve-rows
 code-passed {areas} {values} {slopes} {code} k =
     row-passed (bad-code code) 2 0 _ tt (then-rest (row (bad-lengths (length areas) (length values) (length slopes)) 1 0) _ tt (k .none-applies))
 
+-- row 7, as facts
+pub not-before : (areas : List ℕ) (x : ℕ) → outside areas x ≡ false → getD areas 0 0 ≤ x
+unfolding outside
+not-before areas x e = ltb-false x (getD areas 0 0) (or-left (ltb x (getD areas 0 0)) (ltb (getD areas (length areas - 1) 0) x) e)
+
+pub not-beyond : (areas : List ℕ) (x : ℕ) → outside areas x ≡ false → x ≤ getD areas (length areas - 1) 0
+unfolding outside
+not-beyond areas x e = ltb-false (getD areas (length areas - 1) 0) x (or-right (ltb x (getD areas 0 0)) (ltb (getD areas (length areas - 1) 0) x) e)
+
 module _ {areas values : List ℕ} {slopes : List ℤ} {code : ℕ} (v : View areas values slopes code) where
   -- the segment that an area takes
   abbrev pub segment-of : ℕ → Segment
@@ -209,11 +218,7 @@ module _ {areas values : List ℕ} {slopes : List ℤ} {code : ℕ} (v : View ar
 
   -- an area of the curve is between the first and the last point's
   pub inside-low : (x : ℕ) → outside areas x ≡ false → v .first .area ≤ x
-  unfolding outside
-  inside-low x e =
-      subst (λ (n : ℕ). n ≤ x) (v .start) (ltb-false x (getD areas 0 0) (or-left (ltb x (getD areas 0 0)) (ltb (getD areas (length areas - 1) 0) x) e))
+  inside-low x e = subst (λ (n : ℕ). n ≤ x) (v .start) (not-before areas x e)
 
   pub inside-high : (x : ℕ) → outside areas x ≡ false → x ≤ last-area (v .second) (v .others)
-  unfolding outside
-  inside-high x e =
-      subst (λ (n : ℕ). x ≤ n) (v .finish) (ltb-false (getD areas (length areas - 1) 0) x (or-right (ltb x (getD areas 0 0)) (ltb (getD areas (length areas - 1) 0) x) e))
+  inside-high x e = subst (λ (n : ℕ). x ≤ n) (v .finish) (not-beyond areas x e)

@@ -14,3 +14,4 @@ pub mod Numbers
 pub mod Sizes
 pub mod Range
 pub mod Plain
+pub mod Readable

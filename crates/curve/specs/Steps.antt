@@ -2,6 +2,7 @@
 -- of document 01.
 -- Assumes nothing.
 use mathlib.Core.Path.{_≡_}
+use mathlib.Core.Bool.{false}
 use mathlib.Core.List.{List}
 use mathlib.Core.Logic.{_⊎_}
 use Prim.Native.Nat.{ℕ, suc, _+_, _*_, _/_, _≤_, _<_}
@@ -12,6 +13,8 @@ use lib.Signed.{_≤ℤ_}
 use Rattle.exact.specs.Rounding.{floorDiv}
 use Rattle.curve.specs.Points.{Point, Segment, Shape}
 use Rattle.curve.specs.Shape.{has-shape}
+use Rattle.curve.specs.Check.{Accepted}
+use Rattle.curve.specs.Read.{outside}
 
 -- the distances t and u of an area from the ends of a segment
 pub record Ends (t u : ℕ) : Type 0 where
@@ -101,3 +104,9 @@ pub record Reached (areas : List ℕ) (i x : ℕ) : Type 0 where
 pub record Taken (areas : List ℕ) (i x : ℕ) : Type 0 where
   pub reached : Reached areas i x
   pub high : (x < getD areas (suc i) 0) ⊎ (suc (suc i) ≡ length areas)
+
+-- an area of an accepted curve, and the index of the segment that it takes
+pub record Readable (areas values : List ℕ) (slopes : List ℤ) (code i x : ℕ) : Type 0 where
+  pub accepted : Accepted areas values slopes code
+  pub within : outside areas x ≡ false
+  pub taken : Taken areas i x

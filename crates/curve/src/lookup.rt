@@ -1,5 +1,8 @@
 // The segment that an area takes.
-ghost use Rattle.curve.specs.Steps.{Reached, Taken};
+ghost use mathlib.Core.Path.{_≡_};
+ghost use Rattle.curve.specs.Read.{reading};
+ghost use Rattle.curve.specs.Steps.{Reached, Taken, Readable};
+use super::segment;
 
 // The index of the left point of the segment that the area takes, from an index whose area is not above it.
 pub fn find(areas: &[u32], from: usize, area: u32) -> usize
@@ -14,4 +17,13 @@ pub fn find(areas: &[u32], from: usize, area: u32) -> usize
         i += 1;
     }
     i
+}
+
+// The factor at an area that takes the segment at i.
+pub fn factor_at(areas: &[u32], values: &[u32], slopes: &[i32], shape: u32, i: usize, area: u32) -> i32
+    requires { ⌜ Readable (now areas) (now values) (now slopes) shape i area ⌝ }
+    ensures { λ r. ⌜ r ≡ reading (now (areas .entry)) (now (values .entry)) (now (slopes .entry)) shape area ⌝ }
+{
+    let j = i + 1;
+    segment::factor(shape, areas[i], values[i], slopes[i], areas[j], values[j], slopes[j], area)
 }
