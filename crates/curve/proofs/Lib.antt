@@ -15,3 +15,4 @@ pub mod Sizes
 pub mod Range
 pub mod Plain
 pub mod Readable
+pub mod SheetRows

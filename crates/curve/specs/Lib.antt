@@ -5,6 +5,7 @@ pub mod Interpolant
 pub mod Shape
 pub mod Check
 pub mod Read
+pub mod Sheet
 pub mod Readings
 pub mod Laws
 pub mod Steps

@@ -6,11 +6,12 @@ use mathlib.Core.Bool.{false}
 use mathlib.Core.List.{List}
 use mathlib.Core.Logic.{_⊎_}
 use Prim.Native.Nat.{ℕ, suc, _+_, _*_, _/_, _≤_, _<_}
-use lib.Dec.{T}
+use lib.Dec.{T, ltb}
 use lib.ListN.{length, getD}
 use lib.IntN.{ℤ, pos, negsuc, natAbs, _+ℤ_, _*ℤ_, _-ℤ_}
 use lib.Signed.{_≤ℤ_}
 use Rattle.exact.specs.Rounding.{floorDiv}
+use Rattle.curve.specs.Answer.{Answer, row}
 use Rattle.curve.specs.Points.{Point, Segment, Shape}
 use Rattle.curve.specs.Shape.{has-shape}
 use Rattle.curve.specs.Check.{Accepted}
@@ -110,3 +111,7 @@ pub record Readable (areas values : List ℕ) (slopes : List ℤ) (code i x : �
   pub accepted : Accepted areas values slopes code
   pub within : outside areas x ≡ false
   pub taken : Taken areas i x
+
+-- row 7 of n entries, by the first entry outside or n
+abbrev pub first-answer : ℕ → ℕ → Answer (Unit {0})
+first-answer index n = row (ltb index n) 7 index
