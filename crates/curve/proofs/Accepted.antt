@@ -90,9 +90,11 @@ chain shape i j p (q ∷ ps) k e f =
     let rest = segment-rows (suc j) shape (segments (q ∷ ps)) in
     let near = or-right (ltb 20000 (q .area) || leb (q .area) (p .area)) (ltb (p .area + 2000) (q .area)) (m .area) in
     let after = or-right (ltb 20000 (q .area)) (leb (q .area) (p .area)) (or-left (ltb 20000 (q .area) || leb (q .area) (p .area)) (ltb (p .area + 2000) (q .area)) (m .area)) in
+    let limit = or-left (ltb 20000 (q .area)) (leb (q .area) (p .area)) (or-left (ltb 20000 (q .area) || leb (q .area) (p .area)) (ltb (p .area + 2000) (q .area)) (m .area)) in
     link (record {
       ordered = leb-false (q .area) (p .area) after;
       near = ltb-false (p .area + 2000) (q .area) near;
+        limit = ltb-false 20000 (q .area) limit;
       left-value = k .value;
       right-value = m .limits .value;
       left-slope-low = k .low;
@@ -222,3 +224,15 @@ module _ {areas values : List ℕ} {slopes : List ℤ} {code : ℕ} (v : View ar
 
   pub inside-high : (x : ℕ) → outside areas x ≡ false → x ≤ last-area (v .second) (v .others)
   inside-high x e = subst (λ (n : ℕ). x ≤ n) (v .finish) (not-beyond areas x e)
+
+-- every area of an accepted curve is at most 20,000
+pub area-limit : {areas values : List ℕ} {slopes : List ℤ} {code : ℕ} → Accepted areas values slopes code → (x : ℕ) → outside areas x ≡ false → x ≤ 20000
+area-limit {areas} k x e =
+    let n = lengths k .least in
+    let h = not-beyond areas x e in
+    let g = view k .good-at (length areas - 2) (omega arith) .limit in
+    let last = ap (λ (i : ℕ). getD areas i 0) (next (length areas) n) in
+    omega arith
+  where
+    next : (n : ℕ) → 2 ≤ n → suc (n - 2) ≡ n - 1
+    next n h = omega arith

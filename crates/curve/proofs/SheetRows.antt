@@ -3,15 +3,19 @@
 use mathlib.Core.Path.{_≡_, refl, sym, _∙_, ap, subst, subst⁻¹}
 use mathlib.Core.Bool.{Bool, true, false, cond, _||_}
 use mathlib.Core.List.{List, [], _∷_, _++_}
+use mathlib.Core.Logic.{_⊎_, ⊎-elim}
 use Prim.Native.Nat.{ℕ, zero, suc, _+_, _*_, _-_, _≤_, _<_}
+use native.Mathlib.Nat.{add-zero}
 use native.Mathlib.Omega.{arith}
 use borrow.Author.Tests.{lt-ltb, le-ltb}
-use lib.Dec.{ltb}
-use lib.ListN.{length, getD}
+use lib.Dec.{leb, ltb}
+use lib.ListN.{length, getD, set, drop}
 use Rattle.curve.specs.Answer.{Answer, gives, refused, row, _then_}
 use Rattle.curve.specs.Read.{outside}
-use Rattle.curve.specs.Sheet.{entry-rows}
+use Rattle.curve.specs.Sheet.{entry-rows, tabulate}
 use Rattle.curve.specs.Steps.{first-answer}
+use Rattle.curve.proofs.Accepted.{row-passed, then-rest}
+use Rattle.curve.proofs.Walk.{compare-areas}
 
 -- row 7 from its two comparisons
 pub outside-before : (areas : List ℕ) (x : ℕ) → x < getD areas 0 0 → outside areas x ≡ true
@@ -49,3 +53,37 @@ module _ (areas : List ℕ) (start step : ℕ) where
     where
       none : (i n : ℕ) → n ≤ i → n - i ≡ 0
       none i n h = omega arith
+
+  -- rows that refuse nothing
+  pub rows-inside : (j n i : ℕ) → entry-rows areas start step j n ≡ gives tt → j ≤ i → i < j + n → outside areas (start + i * step) ≡ false
+  unfolding entry-rows
+  rows-inside j zero i e low high = absurd (omega arith)
+  rows-inside j (suc n) i e low high =
+      let rest = entry-rows areas start step (suc j) n in
+      let here = row-passed (outside areas (start + j * step)) 7 j rest tt e in
+      let later = rows-inside (suc j) n i (then-rest (row (outside areas (start + j * step)) 7 j) rest tt e) in
+      ⊎-elim (λ (w : (suc j ≤ i) × (leb (suc j) i ≡ true)). later (w .0) (omega arith))
+      (λ (w : (i < suc j) × (leb (suc j) i ≡ false)). subst (λ (k : ℕ). outside areas (start + k * step) ≡ false) (same (w .0)) here)
+      (compare-areas (suc j) i)
+    where
+      same : i < suc j → j ≡ i
+      same h = omega arith
+
+-- ---- a list filled from the front
+
+module _ {A : Type 0} (f : ℕ → A) where
+  pub tabulate-length : (j n : ℕ) → length (tabulate f j n) ≡ n
+  unfolding tabulate
+  tabulate-length j zero = refl
+  tabulate-length j (suc n) = ap suc (tabulate-length (suc j) n)
+
+  -- one entry more, written over the first that was left
+  pub fill-more : (j i : ℕ) (rest : List A) → 0 < length rest → set (tabulate f j i ++ rest) i (f (j + i)) ≡ tabulate f j (suc i) ++ drop 1 rest
+  unfolding tabulate
+  fill-more j zero [] h = absurd (omega arith)
+  fill-more j zero (x ∷ rest) h = ap (λ (n : ℕ). f n ∷ rest) (add-zero j)
+  fill-more j (suc i) rest h =
+      ap (λ (xs : List A). f j ∷ xs) (ap (λ (n : ℕ). set (tabulate f (suc j) i ++ rest) i (f n)) (shift j i) ∙ fill-more (suc j) i rest h)
+    where
+      shift : (j i : ℕ) → j + suc i ≡ suc j + i
+      shift j i = omega arith

@@ -16,6 +16,7 @@ use Rattle.curve.specs.Points.{Point, Segment, Shape}
 use Rattle.curve.specs.Shape.{has-shape}
 use Rattle.curve.specs.Check.{Accepted}
 use Rattle.curve.specs.Read.{outside}
+use Rattle.curve.specs.Sheet.{entry-area}
 
 -- the distances t and u of an area from the ends of a segment
 pub record Ends (t u : ℕ) : Type 0 where
@@ -78,6 +79,7 @@ tangent-reading t h left E e₀ =
 pub record Good (shape : Shape) (s : Segment) : Type 0 where
   pub ordered : s .left .area < s .right .area
   pub near : s .right .area ≤ s .left .area + 2000
+  pub limit : s .right .area ≤ 20000
   pub left-value : s .left .value ≤ 200000
   pub right-value : s .right .value ≤ 200000
   pub left-slope-low : negsuc 9999 ≤ℤ s .left .slope
@@ -115,3 +117,9 @@ pub record Readable (areas values : List ℕ) (slopes : List ℤ) (code i x : �
 -- row 7 of n entries, by the first entry outside or n
 abbrev pub first-answer : ℕ → ℕ → Answer (Unit {0})
 first-answer index n = row (ltb index n) 7 index
+
+-- an accepted curve and n entries whose areas are all its own
+pub record Fillable (areas values : List ℕ) (slopes : List ℤ) (code start step n : ℕ) : Type 0 where
+  pub accepted : Accepted areas values slopes code
+  pub some : 0 < n
+  pub inside : (i : ℕ) → i < n → outside areas (entry-area start step i) ≡ false

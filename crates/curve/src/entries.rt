@@ -2,8 +2,9 @@
 ghost use mathlib.Core.Path.{_≡_};
 ghost use Prim.Native.Nat.{_<_, _≤_};
 ghost use lib.ListN.{length};
-ghost use Rattle.curve.specs.Sheet.{entry-rows};
-ghost use Rattle.curve.specs.Steps.{first-answer};
+ghost use Rattle.curve.specs.Read.{reading};
+ghost use Rattle.curve.specs.Sheet.{entry-area, entry-rows, tabulate};
+ghost use Rattle.curve.specs.Steps.{first-answer, Fillable};
 use super::lookup;
 
 // The first of n entries whose area is outside the curve, or n.
@@ -26,4 +27,21 @@ pub fn first_outside(areas: &[u32], start: u32, step: u32, n: usize) -> usize
         i += 1;
     }
     i
+}
+
+// The factor at each entry's area. The areas increase, so each search goes on from the segment before.
+pub fn fill(areas: &[u32], values: &[u32], slopes: &[i32], shape: u32, start: u32, step: u32, out: &mut [i32])
+    requires { ⌜ Fillable (now areas) (now values) (now slopes) shape start step (length (now out)) ⌝ }
+    ensures { λ _. ⌜ now (out .exit) ≡ tabulate (λ i. reading (now (areas .entry)) (now (values .entry)) (now (slopes .entry)) shape (entry-area start step i)) 0 (length (now (out .entry))) ⌝ }
+{
+    let mut area = start as u64;
+    let mut k: usize = 0;
+    let mut i: usize = 0;
+    while i < out.len() {
+        let x = area as u32;
+        k = lookup::find(areas, k, x);
+        out[i] = lookup::factor_at(areas, values, slopes, shape, k, x);
+        area += step as u64;
+        i += 1;
+    }
 }
