@@ -2,10 +2,11 @@
 -- Assumes nothing.
 use mathlib.Core.Path.{_≡_, refl, sym, _∙_, ap, subst, subst⁻¹}
 use mathlib.Core.Bool.{Bool, true, false, cond, _||_}
-use mathlib.Core.List.{List, [], _∷_, _++_}
+use mathlib.Core.List.{List, [], _∷_, _++_, append-nil}
 use mathlib.Core.Logic.{_⊎_, ⊎-elim}
 use Prim.Native.Nat.{ℕ, zero, suc, _+_, _*_, _-_, _≤_, _<_}
-use native.Mathlib.Nat.{add-zero}
+use native.Mathlib.Nat.{add-zero, zero-add}
+use lib.Seq.{drop-cons, drop-length}
 use native.Mathlib.Omega.{arith}
 use borrow.Author.Tests.{lt-ltb, le-ltb}
 use lib.Dec.{leb, ltb}
@@ -78,12 +79,20 @@ module _ {A : Type 0} (f : ℕ → A) where
   tabulate-length j (suc n) = ap suc (tabulate-length (suc j) n)
 
   -- one entry more, written over the first that was left
-  pub fill-more : (j i : ℕ) (rest : List A) → 0 < length rest → set (tabulate f j i ++ rest) i (f (j + i)) ≡ tabulate f j (suc i) ++ drop 1 rest
+  over : (j i : ℕ) (x : A) (rest : List A) → set (tabulate f j i ++ x ∷ rest) i (f (j + i)) ≡ tabulate f j (suc i) ++ rest
   unfolding tabulate
-  fill-more j zero [] h = absurd (omega arith)
-  fill-more j zero (x ∷ rest) h = ap (λ (n : ℕ). f n ∷ rest) (add-zero j)
-  fill-more j (suc i) rest h =
-      ap (λ (xs : List A). f j ∷ xs) (ap (λ (n : ℕ). set (tabulate f (suc j) i ++ rest) i (f n)) (shift j i) ∙ fill-more (suc j) i rest h)
+  over j zero x rest = ap (λ (n : ℕ). f n ∷ rest) (add-zero j)
+  over j (suc i) x rest =
+      ap (λ (xs : List A). f j ∷ xs) (ap (λ (n : ℕ). set (tabulate f (suc j) i ++ x ∷ rest) i (f n)) (shift j i) ∙ over (suc j) i x rest)
     where
       shift : (j i : ℕ) → j + suc i ≡ suc j + i
       shift j i = omega arith
+
+  pub fill-more : (i : ℕ) (d : A) (found : List A) → i < length found → set (tabulate f 0 i ++ drop i found) i (f i) ≡ tabulate f 0 (suc i) ++ drop (suc i) found
+  fill-more i d found h =
+      ap (λ (xs : List A). set (tabulate f 0 i ++ xs) i (f i)) (drop-cons found i d h)
+      ∙ ap (λ (n : ℕ). set (tabulate f 0 i ++ getD found i d ∷ drop (suc i) found) i (f n)) (sym (zero-add i))
+      ∙ over 0 i (getD found i d) (drop (suc i) found)
+
+  pub fill-all : (found : List A) → tabulate f 0 (length found) ++ drop (length found) found ≡ tabulate f 0 (length found)
+  fill-all found = ap (λ (xs : List A). tabulate f 0 (length found) ++ xs) (drop-length found) ∙ append-nil (tabulate f 0 (length found))
