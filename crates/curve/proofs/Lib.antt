@@ -12,3 +12,5 @@ pub mod Laws
 pub mod Machine
 pub mod Numbers
 pub mod Range
+pub mod Bits
+pub mod Faults

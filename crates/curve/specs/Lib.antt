@@ -7,3 +7,5 @@ pub mod Check
 pub mod Read
 pub mod Readings
 pub mod Laws
+pub mod Calls
+pub mod Steps
