@@ -33,7 +33,7 @@ eqZ a b = leZ a b && leZ b a
 -- shape 1, of F and the slope figures
 unfoldable pub rises-by : ℤ → ℤ → ℤ → Bool
 rises-by F D₀ D₁ =
-    cond (ltZ (pos 0) F) (leZ (pos 0) D₀ && leZ (pos 0) D₁) (eqZ F (pos 0) && (eqZ D₀ (pos 0) && eqZ D₁ (pos 0)))
+    cond (ltZ (pos 0) F) (leZ (pos 0) D₀ && leZ (pos 0) D₁) (eqZ F (pos 0) && eqZ D₀ (pos 0) && eqZ D₁ (pos 0))
 
 -- shape 2, of h × left slope figure, 100 × F and h × right slope figure
 unfoldable pub bends-by : ℤ → ℤ → ℤ → Bool
