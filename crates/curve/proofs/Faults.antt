@@ -20,9 +20,9 @@ use Rattle.curve.specs.Points.{Point, gradient, points, Segment, segment
 use Rattle.curve.specs.Shape.{rises, bends, fits, has-shape}
 use Rattle.curve.specs.Check.{bad-area, point-rows, segment-rows}
 use Rattle.curve.specs.Calls.{fault-answer}
-use Rattle.curve.specs.Steps.{Lengths, earlier, eqZ, rises-by, bends-by}
+use Rattle.curve.specs.Steps.{Lengths, earlier, segment-of, eqZ, rises-by, bends-by}
 use Rattle.curve.proofs.Bits.{same-test, le-is}
-use Rattle.curve.proofs.Indexed.{point, segment}
+use Rattle.curve.proofs.Indexed.{point}
 use Rattle.curve.proofs.Segments.{gap, rise, e₀, g, e₁}
 
 -- ---- faults
@@ -93,7 +93,7 @@ module _ (areas values : List ℕ) (slopes : List ℤ) where
     unfolding point-rows
     point-end before i e = rw (from-end i e)
 
-    pub segment-turn : (shape : Shape) (i : ℕ) → i + 1 < length areas → segment-rows i shape (segments (from i)) ≡ (row (not (has-shape shape (segment areas values slopes i))) 6 i then segment-rows (i + 1) shape (segments (from (i + 1))))
+    pub segment-turn : (shape : Shape) (i : ℕ) → i + 1 < length areas → segment-rows i shape (segments (from i)) ≡ (row (not (has-shape shape (segment-of (point areas values slopes i) (point areas values slopes (i + 1))))) 6 i then segment-rows (i + 1) shape (segments (from (i + 1))))
     unfolding segments segment-rows
     segment-turn shape i h =
         let k : i < length areas = omega arith in
