@@ -8,7 +8,7 @@ use mathlib.Core.Option.{Option, none, some}
 use Prim.Native.Nat.{ℕ, suc, _+_, _-_, _≤_, _<_}
 use native.Mathlib.Numerals.{add-one}
 use native.Mathlib.Omega.{arith}
-use borrow.Author.Tests.{eq-eqb, ne-eqb, lt-ltb, le-ltb}
+use borrow.Author.Tests.{eqb-true, ltb-false, not-false, eq-eqb, ne-eqb, lt-ltb}
 use lib.Dec.{eqb, ltb, ltb→lt, lt→ltb}
 use lib.IntN.{ℤ, pos, _*ℤ_, one, *ℤ-one, *ℤ-comm}
 use lib.ListN.{length, getD, drop}
@@ -18,9 +18,10 @@ use Rattle.exact.specs.Fraction.{_over_, whole, leℚ, ltℚ, eqℚ}
 use Rattle.curve.specs.Answer.{Answer, gives, refused, row, _then_}
 use Rattle.curve.specs.Points.{Point, gradient, points, Segment, segments, Shape, rising, convex, shape-of}
 use Rattle.curve.specs.Shape.{rises, bends, fits, has-shape}
-use Rattle.curve.specs.Check.{bad-area, point-rows, segment-rows}
+use Rattle.curve.specs.Check.{bad-lengths, bad-area, point-rows, segment-rows}
 use Rattle.curve.specs.Calls.{fault-answer}
 use Rattle.curve.specs.Steps.{Lengths, earlier, segment-of, eqZ, rises-by, bends-by}
+use Rattle.curve.proofs.Accepted.{or-left, or-right}
 use Rattle.curve.proofs.Bits.{same-test, le-is}
 use Rattle.curve.proofs.Indexed.{point}
 use Rattle.curve.proofs.Segments.{gap, rise, e₀, g, e₁}
@@ -31,6 +32,10 @@ pub no-fault : {number : ℕ} (place : ℕ) → number ≡ 0 → fault-answer nu
 unfolding fault-answer row
 no-fault {number} place e = rw (eq-eqb number 0 e)
 
+pub a-fault : {number : ℕ} (place : ℕ) → (number ≡ 0 → ⊥) → fault-answer number place ≡ refused number place
+unfolding fault-answer row
+a-fault {number} place n = rw (ne-eqb number 0 n)
+
 -- no fault: the rows after it decide
 pub passes : {number : ℕ} (place : ℕ) (rest : Answer (Unit {0})) → number ≡ 0 → (fault-answer number place then rest) ≡ rest
 unfolding _then_
@@ -38,8 +43,24 @@ passes place rest e = rw (no-fault place e)
 
 -- a fault: the search ends
 pub stops : {number : ℕ} (place : ℕ) (rest : Answer (Unit {0})) → (number ≡ 0 → ⊥) → (fault-answer number place then rest) ≡ fault-answer number place
-unfolding fault-answer row _then_
-stops {number} place rest n = rw (ne-eqb number 0 n)
+unfolding _then_
+stops place rest n = rw (a-fault place n)
+
+-- ---- row 1
+
+pub lengths-passed : (areas values slopes : ℕ) → bad-lengths areas values slopes ≡ false → Lengths areas values slopes
+unfolding bad-lengths
+lengths-passed areas values slopes e =
+    let first = not (eqb areas values) in
+    let second = not (eqb areas slopes) in
+    let few = or-left (first || second || ltb areas 2) (ltb 64 areas) e in
+    let same = or-left (first || second) (ltb areas 2) few in
+    record {
+      values-too = eqb-true areas values (not-false (eqb areas values) (or-left first second same));
+      slopes-too = eqb-true areas slopes (not-false (eqb areas slopes) (or-right first second same));
+      least = ltb-false areas 2 (or-right (first || second) (ltb areas 2) few);
+      most = ltb-false 64 areas (or-right (first || second || ltb areas 2) (ltb 64 areas) e);
+    }
 
 -- ---- row 3
 

@@ -153,7 +153,15 @@ fn segments_fault(areas: &[u32], values: &[u32], slopes: &[i32], shape: u32) -> 
     let mut i: usize = 0;
     while i < last {
         let next = i + 1;
-        if !has_shape(shape, areas[i], values[i], slopes[i], areas[next], values[next], slopes[next]) {
+        if !has_shape(
+            shape,
+            areas[i],
+            values[i],
+            slopes[i],
+            areas[next],
+            values[next],
+            slopes[next],
+        ) {
             return Fault {
                 number: 6,
                 place: i as u32,
@@ -161,7 +169,10 @@ fn segments_fault(areas: &[u32], values: &[u32], slopes: &[i32], shape: u32) -> 
         }
         i = next;
     }
-    Fault { number: 0, place: 0 }
+    Fault {
+        number: 0,
+        place: 0,
+    }
 }
 
 // Rows 1 to 6.
@@ -169,10 +180,16 @@ pub fn curve_fault(areas: &[u32], values: &[u32], slopes: &[i32], shape: u32) ->
     ensures { λ r. ⌜ fault-answer (r .number) (r .place) ≡ curve-rows (now (areas .entry)) (now (values .entry)) (now (slopes .entry)) shape ⌝ }
 {
     if bad_lengths(areas.len(), values.len(), slopes.len()) {
-        return Fault { number: 1, place: 0 };
+        return Fault {
+            number: 1,
+            place: 0,
+        };
     }
     if bad_code(shape) {
-        return Fault { number: 2, place: 0 };
+        return Fault {
+            number: 2,
+            place: 0,
+        };
     }
     let fault = points_fault(areas, values, slopes);
     if fault.number != 0 {

@@ -21,9 +21,6 @@ use Rattle.curve.specs.Steps.{earlier}
 use Rattle.curve.proofs.Faults.{from, point-turn, point-end, after-first, no-fault, passes, stops}
 use Rattle.curve.proofs.rows.points_fault.Statement.{statement}
 use Rattle.curve.proofs.rows.points_fault.Tie as tie
-use Rattle.curve.proofs.rows.points_fault.Reads as reads
-use Rattle.curve.proofs.rows.points_fault.Lts as lts
-use Rattle.curve.proofs.rows.point_fault.Reads as point-fault-reads
 
 abbrev Inv-loop : tie.InvT-loop
 Inv-loop areas values slopes number₀ before₀ i₀ number before i =
@@ -87,8 +84,7 @@ loop-less c = omega arith
 
 loop-again : tie.Need-loop-again Inv-loop μ-loop
 loop-again c =
-    let l = head (c .before) .loop in
-    (
+    let l = head (c .before) .loop in (
       omega arith,
       c .if1 .left,
       rw (after-first (getD (areas (c .before)) (l .i) 0) (l .i)) (sym (passes (l .i) _ (c .if1 .left)) ∙ turn (c .before)),

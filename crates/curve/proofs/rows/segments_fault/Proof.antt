@@ -21,9 +21,6 @@ use Rattle.curve.proofs.Indexed.{point}
 use Rattle.curve.proofs.Faults.{from, segment-turn, segment-end}
 use Rattle.curve.proofs.rows.segments_fault.Statement.{statement}
 use Rattle.curve.proofs.rows.segments_fault.Tie as tie
-use Rattle.curve.proofs.rows.segments_fault.Reads as reads
-use Rattle.curve.proofs.rows.segments_fault.Lts as lts
-use Rattle.curve.proofs.rows.has_shape.Reads as has-shape-reads
 
 abbrev Inv-loop : tie.InvT-loop
 Inv-loop areas values slopes shape last i₀ i =
