@@ -18,7 +18,7 @@ use Rattle.curve.specs.Interpolant.{interpolant}
 use Rattle.curve.specs.Shape.{has-shape}
 use Rattle.curve.specs.Check.{bad-lengths, bad-code, bad-area, bad-value, bad-slope, point-rows, segment-rows, curve-rows, Accepted}
 use Rattle.curve.specs.Read.{taken, value-in, outside, exact-value}
-use Rattle.curve.specs.Steps.{Good}
+use Rattle.curve.specs.Steps.{Lengths, Good}
 use Rattle.curve.proofs.Indexed.{segment, linked-at, stop-at, stop-somewhere}
 use Rattle.curve.proofs.Walk.{Chain, end, link, between, last-area, stop, taken-is-stop}
 
@@ -164,13 +164,7 @@ module _ {areas values : List ℕ} {slopes : List ℤ} {code : ℕ} (k : Accepte
   lengths-passed = row-passed (bad-lengths (length areas) (length values) (length slopes)) 1 0 _ tt (k .none-applies)
 
   -- row 1, as facts
-  pub record Lengths : Type 0 where
-    pub values-too : length areas ≡ length values
-    pub slopes-too : length areas ≡ length slopes
-    pub least : 2 ≤ length areas
-    pub most : length areas ≤ 64
-
-  pub lengths : Lengths
+  pub lengths : Lengths (length areas) (length values) (length slopes)
   unfolding bad-lengths
   lengths =
       let n = length areas in

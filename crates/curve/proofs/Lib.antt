@@ -16,3 +16,5 @@ pub mod Range
 pub mod Plain
 pub mod Readable
 pub mod SheetRows
+pub mod Bits
+pub mod Faults

@@ -8,4 +8,5 @@ pub mod Read
 pub mod Sheet
 pub mod Readings
 pub mod Laws
+pub mod Calls
 pub mod Steps

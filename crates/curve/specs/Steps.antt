@@ -2,14 +2,15 @@
 -- of document 01.
 -- Assumes nothing.
 use mathlib.Core.Path.{_≡_}
-use mathlib.Core.Bool.{false}
+use mathlib.Core.Bool.{Bool, true, false, cond, _&&_}
 use mathlib.Core.List.{List}
 use mathlib.Core.Logic.{_⊎_}
+use mathlib.Core.Option.{Option, none, some}
 use Prim.Native.Nat.{ℕ, suc, _+_, _*_, _/_, _≤_, _<_}
 use lib.Dec.{T, ltb}
 use lib.ListN.{length, getD}
 use lib.IntN.{ℤ, pos, negsuc, natAbs, _+ℤ_, _*ℤ_, _-ℤ_}
-use lib.Signed.{_≤ℤ_}
+use lib.Signed.{_≤ℤ_, leZ, ltZ}
 use Rattle.exact.specs.Rounding.{floorDiv}
 use Rattle.curve.specs.Answer.{Answer, row}
 use Rattle.curve.specs.Points.{Point, Segment, Shape}
@@ -17,6 +18,41 @@ use Rattle.curve.specs.Shape.{has-shape}
 use Rattle.curve.specs.Check.{Accepted}
 use Rattle.curve.specs.Read.{outside}
 use Rattle.curve.specs.Sheet.{entry-area}
+
+-- ---- rows 1 to 6
+
+-- row 1 is passed
+pub record Lengths (areas values slopes : ℕ) : Type 0 where
+  pub values-too : areas ≡ values
+  pub slopes-too : areas ≡ slopes
+  pub least : 2 ≤ areas
+  pub most : areas ≤ 64
+
+-- the area before a point; before the first there is none
+unfoldable pub earlier : Bool → ℕ → Option ℕ
+earlier true before = none
+earlier false before = some before
+
+abbrev pub point-of : ℕ → ℕ → ℤ → Point
+point-of area value slope = record { area = area; value = value; slope = slope }
+
+abbrev pub segment-of : Point → Point → Segment
+segment-of left right = record { left = left; right = right }
+
+-- equality, as a test
+abbrev pub eqZ : ℤ → ℤ → Bool
+eqZ a b = leZ a b && leZ b a
+
+-- shape 1, of F and the slope figures
+unfoldable pub rises-by : ℤ → ℤ → ℤ → Bool
+rises-by F D₀ D₁ =
+    cond (ltZ (pos 0) F) (leZ (pos 0) D₀ && leZ (pos 0) D₁) (eqZ F (pos 0) && eqZ D₀ (pos 0) && eqZ D₁ (pos 0))
+
+-- shape 2, of h × left slope figure, 100 × F and h × right slope figure
+unfoldable pub bends-by : ℤ → ℤ → ℤ → Bool
+bends-by left chord right = cond (ltZ left chord) (ltZ chord right) (eqZ left chord && eqZ chord right)
+
+-- ---- the reading of a segment
 
 -- the distances t and u of an area from the ends of a segment
 pub record Ends (t u : ℕ) : Type 0 where
@@ -88,11 +124,7 @@ pub record Good (shape : Shape) (s : Segment) : Type 0 where
   pub right-slope-high : s .right .slope ≤ℤ pos 10000
   pub shaped : T (has-shape shape s)
 
--- the segment of two points, and that an area is read in it
-abbrev pub segment-of : (x₀ y₀ : ℕ) (d₀ : ℤ) (x₁ y₁ : ℕ) (d₁ : ℤ) → Segment
-segment-of x₀ y₀ d₀ x₁ y₁ d₁ =
-    record { left = record { area = x₀; value = y₀; slope = d₀ }; right = record { area = x₁; value = y₁; slope = d₁ } }
-
+-- an area is read in a segment
 pub record Inside (shape : Shape) (s : Segment) (x : ℕ) : Type 0 where
   pub good : Good shape s
   pub low : s .left .area ≤ x
