@@ -4,13 +4,26 @@ use Prim.Native.Nat.{ℕ}
 use mathlib.Core.Bool.{not}
 use lib.Dec.{eqb}
 use Rattle.curve.specs.Answer.{Answer, gives, refused, row}
+use lib.IntN.{ℤ}
 use Rattle.curve.specs.declared.Checked.{Checked}
-use Rattle.curve.specs.declared.Checked.the-variants.{Segments, Refused}
+use Rattle.curve.specs.declared.Checked.the-variants as checked
+use Rattle.curve.specs.declared.Reading.{Reading}
+use Rattle.curve.specs.declared.Reading.the-variants as reading
+use Rattle.curve.specs.declared.Filled.{Filled}
+use Rattle.curve.specs.declared.Filled.the-variants as filled
 
 -- a fault's number and place; the number 0 is no fault
 unfoldable pub fault-answer : ℕ → ℕ → Answer (Unit {0})
 fault-answer number place = row (not (eqb number 0)) number place
 
 unfoldable pub checked-answer : Checked → Answer ℕ
-checked-answer (Segments count) = gives count
-checked-answer (Refused number place) = refused number place
+checked-answer (checked.Segments count) = gives count
+checked-answer (checked.Refused number place) = refused number place
+
+unfoldable pub reading-answer : Reading → Answer ℤ
+reading-answer (reading.Factor factor) = gives factor
+reading-answer (reading.Refused number place) = refused number place
+
+unfoldable pub filled-answer : Filled → Answer ℕ
+filled-answer (filled.Entries count) = gives count
+filled-answer (filled.Refused number place) = refused number place

@@ -3,9 +3,22 @@ ghost use mathlib.Core.Path.{_≡_};
 ghost use Prim.Native.Nat.{_<_, _≤_};
 ghost use lib.ListN.{length};
 ghost use Rattle.curve.specs.Read.{reading};
-ghost use Rattle.curve.specs.Sheet.{entry-area, entry-rows, tabulate};
+ghost use Rattle.curve.specs.Sheet.{bad-sheet, entry-area, entry-rows, tabulate};
 ghost use Rattle.curve.specs.Steps.{first-answer, Fillable};
 use super::lookup;
+
+// Row 8.
+pub fn bad_sheet(step: u32, n: usize) -> bool
+    ensures { λ r. ⌜ r ≡ bad-sheet step n ⌝ }
+{
+    if step == 0 {
+        return true;
+    }
+    if n == 0 {
+        return true;
+    }
+    n > 1024
+}
 
 // The first of n entries whose area is outside the curve, or n.
 pub fn first_outside(areas: &[u32], start: u32, step: u32, n: usize) -> usize

@@ -1,7 +1,9 @@
 // Factor curves through rated points.
 ghost use mathlib.Core.Path.{_≡_};
 ghost use Rattle.curve.specs.Check.{checked};
-ghost use Rattle.curve.specs.Calls.{checked-answer};
+ghost use Rattle.curve.specs.Read.{read-answer};
+ghost use Rattle.curve.specs.Sheet.{sheet-answer, sheet-list};
+ghost use Rattle.curve.specs.Calls.{checked-answer, reading-answer, filled-answer};
 
 mod rows;
 mod entries;
@@ -22,4 +24,50 @@ pub fn check(areas: &[u32], values: &[u32], slopes: &[i32], shape: u32) -> Check
         return Checked::Refused(fault.number, fault.place);
     }
     Checked::Segments((areas.len() - 1) as u32)
+}
+
+// What Read answers: the factor, or a refusal's number and place.
+pub enum Reading {
+    Factor(i32),
+    Refused(u32, u32),
+}
+
+pub fn read(areas: &[u32], values: &[u32], slopes: &[i32], shape: u32, area: u32) -> Reading
+    ensures { λ r. ⌜ reading-answer r ≡ read-answer (now (areas .entry)) (now (values .entry)) (now (slopes .entry)) shape area ⌝ }
+{
+    let fault = rows::curve_fault(areas, values, slopes, shape);
+    if fault.number != 0 {
+        return Reading::Refused(fault.number, fault.place);
+    }
+    if lookup::outside(areas, area) {
+        return Reading::Refused(7, 0);
+    }
+    let i = lookup::find(areas, 0, area);
+    Reading::Factor(lookup::factor_at(areas, values, slopes, shape, i, area))
+}
+
+// What Sheet answers: the number of entries, or a refusal's number and place.
+pub enum Filled {
+    Entries(u32),
+    Refused(u32, u32),
+}
+
+pub fn sheet(areas: &[u32], values: &[u32], slopes: &[i32], shape: u32, start: u32, step: u32, out: &mut [i32]) -> Filled
+    ensures answer { λ r. ⌜ filled-answer r ≡ sheet-answer (now (areas .entry)) (now (values .entry)) (now (slopes .entry)) shape start step (now (out .entry)) ⌝ }
+    ensures list { λ r. ⌜ now (out .exit) ≡ sheet-list (now (areas .entry)) (now (values .entry)) (now (slopes .entry)) shape start step (filled-answer r) (now (out .entry)) ⌝ }
+{
+    let fault = rows::curve_fault(areas, values, slopes, shape);
+    if fault.number != 0 {
+        return Filled::Refused(fault.number, fault.place);
+    }
+    let n = out.len();
+    if entries::bad_sheet(step, n) {
+        return Filled::Refused(8, 0);
+    }
+    let place = entries::first_outside(areas, start, step, n);
+    if place < n {
+        return Filled::Refused(7, place as u32);
+    }
+    entries::fill(areas, values, slopes, shape, start, step, out);
+    Filled::Entries(n as u32)
 }

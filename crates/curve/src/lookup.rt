@@ -1,8 +1,21 @@
 // The segment that an area takes.
 ghost use mathlib.Core.Path.{_≡_};
-ghost use Rattle.curve.specs.Read.{reading};
+ghost use Prim.Native.Nat.{_<_};
+ghost use lib.ListN.{length};
+ghost use Rattle.curve.specs.Read.{reading, outside as lies-outside};
 ghost use Rattle.curve.specs.Steps.{Reached, Taken, Readable};
 use super::segment;
+
+// Row 7.
+pub fn outside(areas: &[u32], area: u32) -> bool
+    requires { ⌜ 0 < length (now areas) ⌝ }
+    ensures { λ r. ⌜ r ≡ lies-outside (now (areas .entry)) area ⌝ }
+{
+    if area < areas[0] {
+        return true;
+    }
+    areas[areas.len() - 1] < area
+}
 
 // The index of the left point of the segment that the area takes, from an index whose area is not above it.
 pub fn find(areas: &[u32], from: usize, area: u32) -> usize

@@ -1,0 +1,38 @@
+-- `curve::lookup::outside` meets its contract.
+-- Assumes nothing.
+use borrow.Author.Tests.{lt-ltb, le-ltb}
+use Rattle.curve.specs.Read.{outside}
+use borrow.Author.Needs.{needs}
+use Rattle.curve.proofs.lookup.outside.Statement.{statement}
+use Rattle.curve.proofs.lookup.outside.Tie as tie
+
+shared-slice-read-if1 : tie.Need-shared-slice-read-if1
+shared-slice-read-if1 c = search needs
+
+returns : tie.Need-returns
+unfolding outside
+returns c = rw (lt-ltb _ _ (c .if1 .taken))
+
+sub-result : tie.Need-sub-result
+sub-result c = search needs
+
+mul-result : tie.Need-mul-result
+mul-result c = search needs
+
+shared-slice-read-result : tie.Need-shared-slice-read-result
+shared-slice-read-result c = search needs
+
+returns-2 : tie.Need-returns-2
+unfolding outside
+returns-2 c = rw (le-ltb _ _ (c .before .if1 .left))
+
+pub outside-spec : {M : Type 1} → statement M
+outside-spec =
+    tie.close
+    (tie.spec
+    shared-slice-read-if1
+    returns
+    sub-result
+    mul-result
+    shared-slice-read-result
+    returns-2)
