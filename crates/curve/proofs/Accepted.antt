@@ -94,7 +94,7 @@ chain shape i j p (q ∷ ps) k e f =
     link (record {
       ordered = leb-false (q .area) (p .area) after;
       near = ltb-false (p .area + 2000) (q .area) near;
-        limit = ltb-false 20000 (q .area) limit;
+      limit = ltb-false 20000 (q .area) limit;
       left-value = k .value;
       right-value = m .limits .value;
       left-slope-low = k .low;

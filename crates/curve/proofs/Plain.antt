@@ -84,17 +84,19 @@ rising-facts {s} {x} i climb k₀ k₁ =
     let eF : rise s ≡ pos F = ap (λ (n : ℕ). pos n -ℤ pos (s .left .value)) (split up) ∙ ring (pos (s .left .value) ∷ pos F ∷ []) {a = pos (s .left .value) +ℤ pos F -ℤ pos (s .left .value)} (search terms depth 20 fits 9999) tt in
     let r = segment-rising s (x - s .left .area) (s .right .area - x) (span i) (natAbs (s .left .slope)) (natAbs (s .right .slope)) F (i .good) (omega arith) eD₀ eD₁ eF in
     record {
-        up = omega arith;
-        left-slope = eD₀;
-        right-slope = eD₁;
-        climbing = record {
-            ends = ends i;
-            left-value = i .good .left-value;
-            rise = (let n = i .good .right-value in omega arith);
-            left-slope = slope-size (s .left .slope) (i .good .left-slope-low) (i .good .left-slope-high);
-            right-slope = slope-size (s .right .slope) (i .good .right-slope-low) (i .good .right-slope-high);
-            above-0 = r .0 };
-        reading = ap (λ (y : ℕ). round (interpolant rising s y)) (sym (reach i)) ∙ r .1 }
+      up = omega arith;
+      left-slope = eD₀;
+      right-slope = eD₁;
+      climbing = record {
+        ends = ends i;
+        left-value = i .good .left-value;
+        rise = (let n = i .good .right-value in omega arith);
+        left-slope = slope-size (s .left .slope) (i .good .left-slope-low) (i .good .left-slope-high);
+        right-slope = slope-size (s .right .slope) (i .good .right-slope-low) (i .good .right-slope-high);
+        above-0 = r .0;
+      };
+      reading = ap (λ (y : ℕ). round (interpolant rising s y)) (sym (reach i)) ∙ r .1;
+    }
   where
     split : s .left .value < s .right .value → s .right .value ≡ s .left .value + (s .right .value - s .left .value)
     split h = omega arith
@@ -160,17 +162,19 @@ module _ {s : Segment} {x : ℕ} (i : Inside convex s x) where
       let left-is = sym (pos-natAbs (b s) (yes-nonNeg (left-not-above s low))) in
       let bending : Bending t u (natAbs (a s)) (natAbs (b s)) = record { ends = ends i; right-slope = omega (arith, size-- (e₁ s) (g s), e₁-size, g-size); left-slope = omega (arith, size-- (g s) (e₀ s), e₀-size, g-size) } in
       record {
-          right-over = right-is;
-          left-over = left-is;
-          bending = bending;
-          tangent = record {
-              short = ends i .most;
-              least = ends i .least;
-              distance = omega arith;
-              left-value = i .good .left-value;
-              slope = e₀-size;
-              above = above-size bending };
-          reading = ap (λ (y : ℕ). round (interpolant convex s y)) (sym (reach i)) ∙ segment-convex s t u (span i) (natAbs (a s)) (natAbs (b s)) (i .good) right-is left-is }
+        right-over = right-is;
+        left-over = left-is;
+        bending = bending;
+        tangent = record {
+          short = ends i .most;
+          least = ends i .least;
+          distance = omega arith;
+          left-value = i .good .left-value;
+          slope = e₀-size;
+          above = above-size bending;
+        };
+        reading = ap (λ (y : ℕ). round (interpolant convex s y)) (sym (reach i)) ∙ segment-convex s t u (span i) (natAbs (a s)) (natAbs (b s)) (i .good) right-is left-is;
+      }
 
 pub convex-inside : {s : Segment} {x : ℕ} → Inside convex s x → Convex s x
 unfolding has-shape fits

@@ -43,7 +43,15 @@ pub fn first_outside(areas: &[u32], start: u32, step: u32, n: usize) -> usize
 }
 
 // The factor at each entry's area. The areas increase, so each search goes on from the segment before.
-pub fn fill(areas: &[u32], values: &[u32], slopes: &[i32], shape: u32, start: u32, step: u32, out: &mut [i32])
+pub fn fill(
+    areas: &[u32],
+    values: &[u32],
+    slopes: &[i32],
+    shape: u32,
+    start: u32,
+    step: u32,
+    out: &mut [i32],
+)
     requires { ⌜ Fillable (now areas) (now values) (now slopes) shape start step (length (now out)) ⌝ }
     ensures { λ _. ⌜ now (out .exit) ≡ tabulate (λ i. reading (now (areas .entry)) (now (values .entry)) (now (slopes .entry)) shape (entry-area start step i)) 0 (length (now (out .entry))) ⌝ }
 {

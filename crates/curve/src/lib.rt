@@ -5,9 +5,9 @@ ghost use Rattle.curve.specs.Read.{read-answer};
 ghost use Rattle.curve.specs.Sheet.{sheet-answer, sheet-list};
 ghost use Rattle.curve.specs.Calls.{checked-answer, reading-answer, filled-answer};
 
-mod rows;
 mod entries;
 mod lookup;
+mod rows;
 mod segment;
 
 // What Check answers: the number of segments, or a refusal's number and place.
@@ -52,7 +52,15 @@ pub enum Filled {
     Refused(u32, u32),
 }
 
-pub fn sheet(areas: &[u32], values: &[u32], slopes: &[i32], shape: u32, start: u32, step: u32, out: &mut [i32]) -> Filled
+pub fn sheet(
+    areas: &[u32],
+    values: &[u32],
+    slopes: &[i32],
+    shape: u32,
+    start: u32,
+    step: u32,
+    out: &mut [i32],
+) -> Filled
     ensures answer { λ r. ⌜ filled-answer r ≡ sheet-answer (now (areas .entry)) (now (values .entry)) (now (slopes .entry)) shape start step (now (out .entry)) ⌝ }
     ensures list { λ r. ⌜ now (out .exit) ≡ sheet-list (now (areas .entry)) (now (values .entry)) (now (slopes .entry)) shape start step (filled-answer r) (now (out .entry)) ⌝ }
 {

@@ -33,10 +33,26 @@ pub fn find(areas: &[u32], from: usize, area: u32) -> usize
 }
 
 // The factor at an area that takes the segment at i.
-pub fn factor_at(areas: &[u32], values: &[u32], slopes: &[i32], shape: u32, i: usize, area: u32) -> i32
+pub fn factor_at(
+    areas: &[u32],
+    values: &[u32],
+    slopes: &[i32],
+    shape: u32,
+    i: usize,
+    area: u32,
+) -> i32
     requires { ⌜ Readable (now areas) (now values) (now slopes) shape i area ⌝ }
     ensures { λ r. ⌜ r ≡ reading (now (areas .entry)) (now (values .entry)) (now (slopes .entry)) shape area ⌝ }
 {
     let j = i + 1;
-    segment::factor(shape, areas[i], values[i], slopes[i], areas[j], values[j], slopes[j], area)
+    segment::factor(
+        shape,
+        areas[i],
+        values[i],
+        slopes[i],
+        areas[j],
+        values[j],
+        slopes[j],
+        area,
+    )
 }

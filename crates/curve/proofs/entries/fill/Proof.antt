@@ -52,11 +52,12 @@ unfolding tabulate
 loop-holds c =
     let s = c .before .before in
     record {
-        most = omega arith;
-        size = refl;
-        is = first (s .args .start) (s .args .step);
-        reached = record { inner = (let n = lengths (s .pre .accepted) .least in omega arith); low = subst⁻¹ (λ (x : ℕ). getD (s .args .areas .now) 0 0 ≤ x) (first (s .args .start) (s .args .step)) (not-before (s .args .areas .now) (s .args .start + 0 * s .args .step) (s .pre .inside 0 (s .pre .some))) };
-        filled = refl }
+      most = omega arith;
+      size = refl;
+      is = first (s .args .start) (s .args .step);
+      reached = record { inner = (let n = lengths (s .pre .accepted) .least in omega arith); low = subst⁻¹ (λ (x : ℕ). getD (s .args .areas .now) 0 0 ≤ x) (first (s .args .start) (s .args .step)) (not-before (s .args .areas .now) (s .args .start + 0 * s .args .step) (s .pre .inside 0 (s .pre .some))) };
+      filled = refl;
+    }
 
 cast-x : tie.Need-cast-x Inv-loop μ-loop
 cast-x c = record { fits = omega (arith, area-limit (c .before .before .before .before .pre .accepted) (c .before .loop .area) (inside c)) }
@@ -94,11 +95,12 @@ loop-again c =
     let h : i < length (s .args .out .now) = (let e = k .size in let t = c .before .before .loop-test .taken in omega arith) in
     let r = c .before .find .ensures .reached in
     record {
-        most = omega arith;
-        size = length-set (c .before .before .before .loop .out) i (toZ w32 (ofZ w32 (c .factor-at .result))) ∙ k .size;
-        is = ap (λ (x : ℕ). x + s .args .step) (k .is) ∙ ring-ℕ (s .args .start ∷ i ∷ s .args .step ∷ []) (search counts depth 20 fits 9999) tt;
-        reached = record { inner = r .inner; low = (let l = r .low in omega arith) };
-        filled = rw (toZ-ofZ (factor-fits c), c .factor-at .ensures, k .is, k .filled, add-one) (fill-more f i (pos 0) (s .args .out .now) h) }
+      most = omega arith;
+      size = length-set (c .before .before .before .loop .out) i (toZ w32 (ofZ w32 (c .factor-at .result))) ∙ k .size;
+      is = ap (λ (x : ℕ). x + s .args .step) (k .is) ∙ ring-ℕ (s .args .start ∷ i ∷ s .args .step ∷ []) (search counts depth 20 fits 9999) tt;
+      reached = record { inner = r .inner; low = (let l = r .low in omega arith) };
+      filled = rw (toZ-ofZ (factor-fits c), c .factor-at .ensures, k .is, k .filled, add-one) (fill-more f i (pos 0) (s .args .out .now) h);
+    }
 
 same-length : tie.Need-same-length Inv-loop μ-loop
 same-length c = c .before .loop .inv .size

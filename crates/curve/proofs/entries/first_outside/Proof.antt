@@ -76,9 +76,10 @@ loop-again c =
     let i = c .before .before .before .loop .i in
     let h : i < s .args .n = c .before .before .loop-test .taken in
     record {
-        most = omega arith;
-        is = ap (λ (x : ℕ). x + s .args .step) (k .is) ∙ ring-ℕ (s .args .start ∷ i ∷ s .args .step ∷ []) (search counts depth 20 fits 9999) tt;
-        later = rw add-one (sym (rows-step (s .args .areas .now) (s .args .start) (s .args .step) i (s .args .n) h (inside-both (s .args .areas .now) (s .args .start + i * s .args .step) (subst (λ (x : ℕ). getD (s .args .areas .now) 0 0 ≤ x) (k .is) (c .before .if1 .left)) (subst (λ (x : ℕ). x ≤ getD (s .args .areas .now) (length (s .args .areas .now) - 1) 0) (k .is) (c .if2 .left)))) ∙ k .later) }
+      most = omega arith;
+      is = ap (λ (x : ℕ). x + s .args .step) (k .is) ∙ ring-ℕ (s .args .start ∷ i ∷ s .args .step ∷ []) (search counts depth 20 fits 9999) tt;
+      later = rw add-one (sym (rows-step (s .args .areas .now) (s .args .start) (s .args .step) i (s .args .n) h (inside-both (s .args .areas .now) (s .args .start + i * s .args .step) (subst (λ (x : ℕ). getD (s .args .areas .now) 0 0 ≤ x) (k .is) (c .before .if1 .left)) (subst (λ (x : ℕ). x ≤ getD (s .args .areas .now) (length (s .args .areas .now) - 1) 0) (k .is) (c .if2 .left)))) ∙ k .later);
+    }
 
 returns : tie.Need-returns Inv-loop μ-loop
 returns c =

@@ -50,9 +50,10 @@ returns c =
     let at-h = c .before .before .before .before in
     let s = at-h .before in
     record {
-        left = back (c .before .before .before .scaled .result) (c .before .before .before .scaled .ok) (c .before .before .before .scaled .ensures ∙ ap₂ (λ (x y : ℤ). x *ℤ y) (h-is at-h) (toZ-ofZ (s .fits .d0)));
-        chord = back (c .before .scaled2 .result) (c .before .scaled2 .ok) (c .before .scaled2 .ensures ∙ ap (λ (x : ℤ). x *ℤ pos 100) (rise-is (c .before .before)));
-        right = back (c .scaled3 .result) (c .scaled3 .ok) (c .scaled3 .ensures ∙ ap₂ (λ (x y : ℤ). x *ℤ y) (h-is at-h) (toZ-ofZ (s .fits .d1))) }
+      left = back (c .before .before .before .scaled .result) (c .before .before .before .scaled .ok) (c .before .before .before .scaled .ensures ∙ ap₂ (λ (x y : ℤ). x *ℤ y) (h-is at-h) (toZ-ofZ (s .fits .d0)));
+      chord = back (c .before .scaled2 .result) (c .before .scaled2 .ok) (c .before .scaled2 .ensures ∙ ap (λ (x : ℤ). x *ℤ pos 100) (rise-is (c .before .before)));
+      right = back (c .scaled3 .result) (c .scaled3 .ok) (c .scaled3 .ensures ∙ ap₂ (λ (x y : ℤ). x *ℤ y) (h-is at-h) (toZ-ofZ (s .fits .d1)));
+    }
 
 pub slopes-of-spec : {M : Type 1} → statement M
 slopes-of-spec =
