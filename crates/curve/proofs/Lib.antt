@@ -18,3 +18,4 @@ pub mod Readable
 pub mod SheetRows
 pub mod Bits
 pub mod Faults
+pub mod Answers

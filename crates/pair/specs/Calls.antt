@@ -1,0 +1,10 @@
+-- The call's answer in document 01's numbers and values.
+-- Assumes nothing.
+use Rattle.curve.specs.Answer.{Answer, gives, refused}
+use Rattle.pair.specs.Pair as spec
+use Rattle.pair.specs.declared.Pair.{Pair}
+use Rattle.pair.specs.declared.Pair.the-variants.{Factors, Refused}
+
+unfoldable pub pair-read : Pair → Answer spec.Factors
+pair-read (Factors form plan difference) = gives (record { form = form; plan = plan; difference = difference })
+pair-read (Refused number place) = refused number place

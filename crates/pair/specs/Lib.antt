@@ -1,0 +1,3 @@
+-- Document 01's Pair in definitions.
+pub mod Pair
+pub mod Calls
