@@ -150,24 +150,24 @@ fn segments_fault(areas: &[u32], values: &[u32], slopes: &[i32], shape: u32) -> 
     ensures { λ r. ⌜ fault-answer (r .number) (r .place) ≡ segment-rows 0 (shape-of shape) (segments (points (now (areas .entry)) (now (values .entry)) (now (slopes .entry)))) ⌝ }
 {
     let last = areas.len() - 1;
-    let mut i: usize = 0;
-    while i < last {
-        let next = i + 1;
+    let mut left: usize = 0;
+    while left < last {
+        let right = left + 1;
         if !has_shape(
             shape,
-            areas[i],
-            values[i],
-            slopes[i],
-            areas[next],
-            values[next],
-            slopes[next],
+            areas[left],
+            values[left],
+            slopes[left],
+            areas[right],
+            values[right],
+            slopes[right],
         ) {
             return Fault {
                 number: 6,
-                place: i as u32,
+                place: left as u32,
             };
         }
-        i = next;
+        left = right;
     }
     Fault {
         number: 0,
