@@ -1,13 +1,15 @@
 -- Signed numbers in machine words: tests by their bits, and the sizes of differences and products.
 -- Assumes nothing.
-use mathlib.Core.Path.{_≡_, refl, sym, _∙_, ap, subst, subst⁻¹}
+use mathlib.Core.Path.{_≡_, refl, sym, _∙_, ap, subst}
 use mathlib.Core.Bool.{Bool, true, false, cond, not}
+use mathlib.Core.List.{List}
 use Prim.Native.Nat.{ℕ, zero, suc, _+_, _-_, _*_, _^_, _≤_, _<_}
-use native.Mathlib.Nat.{lt-of-le-of-lt, mul-le-mul}
+use native.Mathlib.Nat.{mul-le-mul}
 use native.Mathlib.Omega.{arith}
 use borrow.Author.Tests.{leb-true, leb-false, lt-ltb, le-ltb}
 use lib.Dec.{T, eqb, leb, ltb, ltb→lt, eqb→eq, eqb-refl}
 use lib.IntN.{ℤ, pos, negsuc, negℤ, natAbs, _-ℤ_, _*ℤ_}
+use lib.ListN.{getD}
 use lib.Pow.{pow-pos}
 use lib.Signed.{mag, leZ, ltZ, ≤ℤ-refl, leZ-yes, natAbs-le}
 use mir.Syntax.{Width, w32, w64}
@@ -88,6 +90,10 @@ natAbs-* (negsuc a) (negsuc b) = refl
 
 product-fits : (a b : ℤ) (j k : ℕ) → natAbs a ≤ j → natAbs b ≤ k → T (ltb (j * k) (2 ^ 63)) → SFits w64 (a *ℤ b)
 product-fits a b j k ha hb t = size-fits (j * k) (rw (natAbs-* a b) (mul-le-mul ha hb)) t
+
+-- an element of a list of slopes, read back
+pub element-is : (l : List ℤ) (i : ℕ) → mag (getD l i (pos 0)) < 2 ^ hbits w32 → toZ w32 (ofZ w32 (getD l i (pos 0))) ≡ getD l i (pos 0)
+element-is l i h = toZ-ofZ (record { sfits = h })
 
 -- ---- what 64 bits hold of 32
 

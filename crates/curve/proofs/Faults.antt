@@ -1,11 +1,10 @@
 -- Laws of rows 1 to 6, for the functions that try them.
 -- Assumes nothing.
-use mathlib.Core.Path.{_≡_, refl, sym, _∙_, ap}
+use mathlib.Core.Path.{_≡_, refl}
 use mathlib.Core.Bool.{Bool, true, false, cond, not, _&&_, _||_, or-false, and-false, and-assoc}
 use mathlib.Core.List.{List, [], _∷_}
-use mathlib.Core.Logic.{_⊎_, inl, inr, ⊎-elim}
 use mathlib.Core.Option.{Option, none, some}
-use Prim.Native.Nat.{ℕ, suc, _+_, _-_, _≤_, _<_}
+use Prim.Native.Nat.{ℕ, _+_, _-_, _<_}
 use native.Mathlib.Numerals.{add-one}
 use native.Mathlib.Omega.{arith}
 use borrow.Author.Tests.{eqb-true, ltb-false, not-false, eq-eqb, ne-eqb, lt-ltb}
@@ -20,7 +19,7 @@ use Rattle.curve.specs.Points.{Point, gradient, points, Segment, segment
 use Rattle.curve.specs.Shape.{rises, bends, fits, has-shape}
 use Rattle.curve.specs.Check.{bad-lengths, bad-area, point-rows, segment-rows}
 use Rattle.curve.specs.Calls.{fault-answer}
-use Rattle.curve.specs.Steps.{Lengths, earlier, segment-of, eqZ, rises-by, bends-by}
+use Rattle.curve.specs.Steps.{Lengths, earlier, joining, eqZ, rises-by, bends-by}
 use Rattle.curve.proofs.Accepted.{or-left, or-right}
 use Rattle.curve.proofs.Bits.{same-test, le-is}
 use Rattle.curve.proofs.Indexed.{point}
@@ -94,37 +93,44 @@ module _ (areas values : List ℕ) (slopes : List ℤ) where
   abbrev pub from : ℕ → List Point
   from i = points (drop i areas) (drop i values) (drop i slopes)
 
+  -- their rows, and those of their segments
+  abbrev pub points-from : Option ℕ → ℕ → Answer (Unit {0})
+  points-from before i = point-rows i before (from i)
+
+  abbrev pub segments-from : Shape → ℕ → Answer (Unit {0})
+  segments-from shape i = segment-rows i shape (segments (from i))
+
   module _ (same : Lengths (length areas) (length values) (length slopes)) where
-    pub from-next : (i : ℕ) → i < length areas → from i ≡ point areas values slopes i ∷ from (i + 1)
+    next : (i : ℕ) → i < length areas → from i ≡ point areas values slopes i ∷ from (i + 1)
     unfolding points
-    from-next i h =
+    next i h =
         let hv : i < length values = omega arith in
         let hs : i < length slopes = omega arith in
         rw (drop-cons areas i 0 h, drop-cons values i 0 hv, drop-cons slopes i (pos 0) hs, add-one i)
 
-    pub from-end : (i : ℕ) → i ≡ length areas → from i ≡ []
+    end : (i : ℕ) → i ≡ length areas → from i ≡ []
     unfolding points
-    from-end i e = rw (e, drop-length areas)
+    end i e = rw (e, drop-length areas)
 
-    pub point-turn : (before : Option ℕ) (i : ℕ) → i < length areas → point-rows i before (from i) ≡ (point-rows i before (point areas values slopes i ∷ []) then point-rows (i + 1) (some (getD areas i 0)) (from (i + 1)))
+    pub point-turn : (before : Option ℕ) (i : ℕ) → i < length areas → points-from before i ≡ (point-rows i before (point areas values slopes i ∷ []) then points-from (some (getD areas i 0)) (i + 1))
     unfolding point-rows
-    point-turn before i h = rw (from-next i h, add-one i) (regroup _ _ _ _)
+    point-turn before i h = rw (next i h, add-one i) (regroup _ _ _ _)
 
-    pub point-end : (before : Option ℕ) (i : ℕ) → i ≡ length areas → point-rows i before (from i) ≡ gives tt
+    pub point-end : (before : Option ℕ) (i : ℕ) → i ≡ length areas → points-from before i ≡ gives tt
     unfolding point-rows
-    point-end before i e = rw (from-end i e)
+    point-end before i e = rw (end i e)
 
-    pub segment-turn : (shape : Shape) (i : ℕ) → i + 1 < length areas → segment-rows i shape (segments (from i)) ≡ (row (not (has-shape shape (segment-of (point areas values slopes i) (point areas values slopes (i + 1))))) 6 i then segment-rows (i + 1) shape (segments (from (i + 1))))
+    pub segment-turn : (shape : Shape) (i : ℕ) → i + 1 < length areas → segments-from shape i ≡ (row (not (has-shape shape (joining (point areas values slopes i) (point areas values slopes (i + 1))))) 6 i then segments-from shape (i + 1))
     unfolding segments segment-rows
     segment-turn shape i h =
         let k : i < length areas = omega arith in
-        rw (from-next i k, from-next (i + 1) h, add-one i)
+        rw (next i k, next (i + 1) h, add-one i)
 
-    pub segment-end : (shape : Shape) (i : ℕ) → i + 1 ≡ length areas → segment-rows i shape (segments (from i)) ≡ gives tt
+    pub segment-end : (shape : Shape) (i : ℕ) → i + 1 ≡ length areas → segments-from shape i ≡ gives tt
     unfolding segments segment-rows
     segment-end shape i e =
         let k : i < length areas = omega arith in
-        rw (from-next i k, from-end (i + 1) e)
+        rw (next i k, end (i + 1) e)
 
 -- ---- row 6
 

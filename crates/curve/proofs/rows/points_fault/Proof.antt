@@ -1,31 +1,27 @@
 -- `curve::rows::points_fault` meets its contract. The loop's invariant: the rows from point i on decide as those from the first.
 -- Assumes nothing.
-use Prim.Native.Nat.{ℕ, _+_, _≤_, _-_}
 use mathlib.Core.Path.{_≡_, refl, sym, _∙_, ap}
 use mathlib.Core.List.{List}
 use mathlib.Core.Logic.{⊎-elim}
-use mathlib.Core.Option.{none, some}
+use mathlib.Core.Option.{Option, none, some}
+use Prim.Native.Nat.{ℕ, _+_, _-_, _≤_}
 use native.Mathlib.Omega.{arith}
-use mir.Syntax.{w32}
-use mir.Val.{toZ, ofZ}
-use mir.Facts.{toZ-ofZ}
 use borrow.Author.Needs.{needs}
 use lib.Dec.{eqb}
-use lib.IntN.{ℤ, pos}
+use lib.IntN.{ℤ}
 use lib.ListN.{length, getD}
 use Rattle.curve.specs.Answer.{Answer, _then_}
-use Rattle.curve.specs.Points.{points}
-use Rattle.curve.specs.Check.{point-rows}
 use Rattle.curve.specs.Calls.{fault-answer}
 use Rattle.curve.specs.Steps.{earlier}
-use Rattle.curve.proofs.Faults.{from, point-turn, point-end, after-first, no-fault, passes, stops}
+use Rattle.curve.proofs.Bits.{element-is}
+use Rattle.curve.proofs.Faults.{no-fault, passes, stops, after-first, points-from, point-turn, point-end}
 use Rattle.curve.proofs.rows.points_fault.Statement.{statement}
 use Rattle.curve.proofs.rows.points_fault.Tie as tie
 
 abbrev Inv-loop : tie.InvT-loop
 Inv-loop areas values slopes number₀ before₀ i₀ number before i =
     (i ≤ length areas) × (number ≡ 0)
-    × (point-rows i (earlier (eqb i 0) before) (from areas values slopes i) ≡ point-rows 0 none (points areas values slopes))
+    × (points-from areas values slopes (earlier (eqb i 0) before) i ≡ points-from areas values slopes none 0)
 
 abbrev μ-loop : tie.MeasureT-loop
 μ-loop areas values slopes number₀ before₀ i₀ number before i = length areas - i
@@ -55,26 +51,20 @@ shared-slice-copy-out-point-fault c = omega arith
 point-fault-requires : tie.Need-point-fault-requires Inv-loop μ-loop
 point-fault-requires c κs = search needs
 
-abbrev head : tie.After-point-fault Inv-loop μ-loop → tie.At-loop Inv-loop μ-loop
-head c = c .before .before .before .before .before
+module _ (c : tie.At-loop Inv-loop μ-loop) where
+  abbrev entry : tie.Start Inv-loop μ-loop
+  entry = c .before .before .before
 
-abbrev areas : tie.After-point-fault Inv-loop μ-loop → List ℕ
-areas c = head c .before .before .before .args .areas .now
-
-abbrev values : tie.After-point-fault Inv-loop μ-loop → List ℕ
-values c = head c .before .before .before .args .values .now
-
-abbrev slopes : tie.After-point-fault Inv-loop μ-loop → List ℤ
-slopes c = head c .before .before .before .args .slopes .now
+  abbrev rows-from : Option ℕ → ℕ → Answer (Unit {0})
+  rows-from = points-from (entry .args .areas .now) (entry .args .values .now) (entry .args .slopes .now)
 
 -- after the call: this point's fault, then the rows of the points after it
-turn : (c : tie.After-point-fault Inv-loop μ-loop) → (fault-answer (c .point-fault .result) (head c .loop .i) then point-rows (head c .loop .i + 1) (some (getD (areas c) (head c .loop .i) 0)) (from (areas c) (values c) (slopes c) (head c .loop .i + 1))) ≡ point-rows 0 none (points (areas c) (values c) (slopes c))
+turn : (c : tie.After-point-fault Inv-loop μ-loop) → (let l = c .before .before .before .before .before in (fault-answer (c .point-fault .result) (l .loop .i) then rows-from l (some (getD (entry l .args .areas .now) (l .loop .i) 0)) (l .loop .i + 1)) ≡ rows-from l none 0)
 turn c =
-    let l = head c .loop in
-    let slope : toZ w32 (ofZ w32 (getD (slopes c) (l .i) (pos 0))) ≡ getD (slopes c) (l .i) (pos 0) = toZ-ofZ (record { sfits = c .before .point-fault-arg .given }) in
-    rw (c .point-fault .ensures (l .i), slope)
-    (sym (point-turn (areas c) (values c) (slopes c) (head c .before .before .before .pre) (earlier (eqb (l .i) 0) (l .before)) (l .i) (c .before .before .before .before .loop-test .taken))
-    ∙ l .inv .2)
+    let l = c .before .before .before .before .before in
+    let s = entry l in
+    rw (c .point-fault .ensures (l .loop .i), element-is (s .args .slopes .now) (l .loop .i) (c .before .point-fault-arg .given))
+    (sym (point-turn _ _ _ (s .pre) (earlier (eqb (l .loop .i) 0) (l .loop .before)) (l .loop .i) (c .before .before .before .before .loop-test .taken)) ∙ l .loop .inv .2)
 
 add-i : tie.Need-add-i Inv-loop μ-loop
 add-i c = omega arith
@@ -84,11 +74,8 @@ loop-less c = omega arith
 
 loop-again : tie.Need-loop-again Inv-loop μ-loop
 loop-again c =
-    let l = head (c .before) .loop in (
-      omega arith,
-      c .if1 .left,
-      rw (after-first (getD (areas (c .before)) (l .i) 0) (l .i)) (sym (passes (l .i) _ (c .if1 .left)) ∙ turn (c .before)),
-    )
+    let i = c .before .before .before .before .before .before .loop .i in
+    (omega arith, c .if1 .left, rw (after-first _ i) (sym (passes i _ (c .if1 .left)) ∙ turn (c .before)))
 
 cast-t16 : tie.Need-cast-t16 Inv-loop μ-loop
 cast-t16 c = omega arith
@@ -96,10 +83,7 @@ cast-t16 c = omega arith
 returns : tie.Need-returns Inv-loop μ-loop
 returns c =
     let l = c .before .loop in
-    let s = c .before .before .before .before in
-    ⊎-elim (λ w.
-    let end : l .i ≡ length (s .args .areas .now) = omega (arith, w .0 .left) in
-    no-fault (l .i) (w .1 ∙ l .inv .1) ∙ sym (point-end (s .args .areas .now) (s .args .values .now) (s .args .slopes .now) (s .pre) (earlier (eqb (l .i) 0) (l .before)) (l .i) end) ∙ l .inv .2)
+    ⊎-elim (λ w. no-fault (l .i) (w .1 ∙ l .inv .1) ∙ sym (point-end _ _ _ (entry (c .before) .pre) (earlier (eqb (l .i) 0) (l .before)) (l .i) (omega (arith, w .0 .left))) ∙ l .inv .2)
     (λ w.
     let a : tie.After-point-fault Inv-loop μ-loop = record {
       before = record {
@@ -117,19 +101,4 @@ returns c =
 pub points-fault-spec : {M : Type 1} → statement M
 points-fault-spec =
     tie.close
-    (tie.spec
-    Inv-loop
-    μ-loop
-    loop-holds
-    mul-area
-    shared-slice-read-area
-    mul-point-fault
-    shared-slice-read-point-fault
-    mul-point-fault-2
-    shared-slice-copy-out-point-fault
-    point-fault-requires
-    add-i
-    loop-less
-    loop-again
-    cast-t16
-    returns)
+    (tie.spec Inv-loop μ-loop loop-holds mul-area shared-slice-read-area mul-point-fault shared-slice-read-point-fault mul-point-fault-2 shared-slice-copy-out-point-fault point-fault-requires add-i loop-less loop-again cast-t16 returns)

@@ -1,34 +1,29 @@
--- `curve::rows::segments_fault` meets its contract. The loop's invariant: the rows from segment i on decide as those from the first.
+-- `curve::rows::segments_fault` meets its contract. The loop's invariant: the rows from segment `left` on decide as those from the first.
 -- Assumes nothing.
-use Prim.Native.Nat.{ℕ, _+_, _≤_, _-_}
 use mathlib.Core.Path.{_≡_, refl, sym, _∙_, ap}
 use mathlib.Core.Bool.{Bool, not}
-use mathlib.Core.List.{List}
+use Prim.Native.Nat.{ℕ, _+_, _-_, _≤_}
 use native.Mathlib.Omega.{arith}
-use mir.Syntax.{w32}
-use mir.Val.{toZ, ofZ}
-use mir.Facts.{toZ-ofZ}
 use borrow.Author.Needs.{needs}
-use lib.IntN.{ℤ, pos}
-use lib.ListN.{length, getD}
-use Rattle.curve.specs.Answer.{row, _then_}
-use Rattle.curve.specs.Points.{points, segments, shape-of}
+use lib.ListN.{length}
+use Rattle.curve.specs.Answer.{Answer, row, _then_}
+use Rattle.curve.specs.Points.{Point, shape-of}
 use Rattle.curve.specs.Shape.{has-shape}
-use Rattle.curve.specs.Check.{segment-rows}
 use Rattle.curve.specs.Calls.{fault-answer}
-use Rattle.curve.specs.Steps.{segment-of}
+use Rattle.curve.specs.Steps.{joining}
+use Rattle.curve.proofs.Bits.{element-is}
 use Rattle.curve.proofs.Indexed.{point}
-use Rattle.curve.proofs.Faults.{from, segment-turn, segment-end}
+use Rattle.curve.proofs.Faults.{segments-from, segment-turn, segment-end}
 use Rattle.curve.proofs.rows.segments_fault.Statement.{statement}
 use Rattle.curve.proofs.rows.segments_fault.Tie as tie
 
 abbrev Inv-loop : tie.InvT-loop
-Inv-loop areas values slopes shape last i₀ i =
-    (i ≤ last) × (last + 1 ≡ length areas)
-    × (segment-rows i (shape-of shape) (segments (from areas values slopes i)) ≡ segment-rows 0 (shape-of shape) (segments (points areas values slopes)))
+Inv-loop areas values slopes shape last left₀ left =
+    (left ≤ last) × (last + 1 ≡ length areas)
+    × (segments-from areas values slopes (shape-of shape) left ≡ segments-from areas values slopes (shape-of shape) 0)
 
 abbrev μ-loop : tie.MeasureT-loop
-μ-loop areas values slopes shape last i₀ i = last - i
+μ-loop areas values slopes shape last left₀ left = last - left
 
 sub-last : tie.Need-sub-last Inv-loop μ-loop
 sub-last c = omega arith
@@ -36,8 +31,8 @@ sub-last c = omega arith
 loop-holds : tie.Need-loop-holds Inv-loop μ-loop
 loop-holds c = (omega arith, omega arith, refl)
 
-add-next : tie.Need-add-next Inv-loop μ-loop
-add-next c = omega arith
+add-right : tie.Need-add-right Inv-loop μ-loop
+add-right c = omega arith
 
 mul-has-shape : tie.Need-mul-has-shape Inv-loop μ-loop
 mul-has-shape c = omega arith
@@ -78,31 +73,26 @@ shared-slice-copy-out-has-shape-2 c = omega arith
 has-shape-requires : tie.Need-has-shape-requires Inv-loop μ-loop
 has-shape-requires c κs = search needs
 
-abbrev head : tie.After-has-shape Inv-loop μ-loop → tie.At-loop Inv-loop μ-loop
-head c = c .before .before .before .before .before .before .before .before
+module _ (c : tie.At-loop Inv-loop μ-loop) where
+  abbrev entry : tie.Start Inv-loop μ-loop
+  entry = c .before .before .before
 
-abbrev entry : tie.After-has-shape Inv-loop μ-loop → tie.Start Inv-loop μ-loop
-entry c = head c .before .before .before
+  abbrev rows-from : ℕ → Answer (Unit {0})
+  rows-from = segments-from (entry .args .areas .now) (entry .args .values .now) (entry .args .slopes .now) (shape-of (entry .args .shape))
 
-abbrev areas : tie.After-has-shape Inv-loop μ-loop → List ℕ
-areas c = entry c .args .areas .now
-
-abbrev values : tie.After-has-shape Inv-loop μ-loop → List ℕ
-values c = entry c .args .values .now
-
-abbrev slopes : tie.After-has-shape Inv-loop μ-loop → List ℤ
-slopes c = entry c .args .slopes .now
+  abbrev at : ℕ → Point
+  at = point (entry .args .areas .now) (entry .args .values .now) (entry .args .slopes .now)
 
 -- after the call: this segment's row, then those of the segments after it
-turn : (c : tie.After-has-shape Inv-loop μ-loop) → (row (not (c .has-shape .result)) 6 (head c .loop .i) then segment-rows (head c .loop .i + 1) (shape-of (entry c .args .shape)) (segments (from (areas c) (values c) (slopes c) (head c .loop .i + 1)))) ≡ segment-rows 0 (shape-of (entry c .args .shape)) (segments (points (areas c) (values c) (slopes c)))
+turn : (c : tie.After-has-shape Inv-loop μ-loop) → (let l = c .before .before .before .before .before .before .before .before in (row (not (c .has-shape .result)) 6 (l .loop .left) then rows-from l (l .loop .left + 1)) ≡ rows-from l 0)
 turn c =
-    let l = head c .loop in
-    let left : toZ w32 (ofZ w32 (getD (slopes c) (l .i) (pos 0))) ≡ getD (slopes c) (l .i) (pos 0) = toZ-ofZ (record { sfits = c .before .before .before .before .has-shape-arg .given }) in
-    let right : toZ w32 (ofZ w32 (getD (slopes c) (l .i + 1) (pos 0))) ≡ getD (slopes c) (l .i + 1) (pos 0) = toZ-ofZ (record { sfits = c .before .has-shape-arg2 .given }) in
-    let shaped : c .has-shape .result ≡ has-shape (shape-of (entry c .args .shape)) (segment-of (point (areas c) (values c) (slopes c) (l .i)) (point (areas c) (values c) (slopes c) (l .i + 1))) = rw (left, right) at (c .has-shape .ensures) in
-    ap (λ (b : Bool). row (not b) 6 (l .i) then segment-rows (l .i + 1) (shape-of (entry c .args .shape)) (segments (from (areas c) (values c) (slopes c) (l .i + 1)))) shaped
-    ∙ sym (segment-turn (areas c) (values c) (slopes c) (entry c .pre) (shape-of (entry c .args .shape)) (l .i) (omega arith))
-    ∙ l .inv .2
+    let l = c .before .before .before .before .before .before .before .before in
+    let s = entry l in
+    let slopes = s .args .slopes .now in
+    let shaped : c .has-shape .result ≡ has-shape (shape-of (s .args .shape)) (joining (at l (l .loop .left)) (at l (l .loop .left + 1))) =
+    rw (element-is slopes (l .loop .left) (c .before .before .before .before .has-shape-arg .given), element-is slopes (l .loop .left + 1) (c .before .has-shape-arg2 .given)) at (c .has-shape .ensures) in
+    ap (λ (b : Bool). row (not b) 6 (l .loop .left) then rows-from l (l .loop .left + 1)) shaped
+    ∙ sym (segment-turn _ _ _ (s .pre) (shape-of (s .args .shape)) (l .loop .left) (omega arith)) ∙ l .loop .inv .2
 
 cast-t29 : tie.Need-cast-t29 Inv-loop μ-loop
 cast-t29 c = omega arith
@@ -121,33 +111,10 @@ loop-again c = (omega arith, omega arith, rw (c .if1 .left) at (turn (c .before)
 returns-2 : tie.Need-returns-2 Inv-loop μ-loop
 unfolding fault-answer row
 returns-2 c =
-    let s = c .before .before .before .before in
-    sym (segment-end (s .args .areas .now) (s .args .values .now) (s .args .slopes .now) (s .pre) (shape-of (s .args .shape)) (c .before .loop .i) (omega arith)) ∙ c .before .loop .inv .2
+    let l = c .before in
+    sym (segment-end _ _ _ (entry l .pre) (shape-of (entry l .args .shape)) (l .loop .left) (omega arith)) ∙ l .loop .inv .2
 
 pub segments-fault-spec : {M : Type 1} → statement M
 segments-fault-spec =
     tie.close
-    (tie.spec
-    Inv-loop
-    μ-loop
-    sub-last
-    loop-holds
-    add-next
-    mul-has-shape
-    shared-slice-read-has-shape
-    mul-has-shape-2
-    shared-slice-read-has-shape-2
-    mul-has-shape-3
-    shared-slice-copy-out-has-shape
-    mul-has-shape-4
-    shared-slice-read-has-shape-3
-    mul-has-shape-5
-    shared-slice-read-has-shape-4
-    mul-has-shape-6
-    shared-slice-copy-out-has-shape-2
-    has-shape-requires
-    cast-t29
-    returns
-    loop-less
-    loop-again
-    returns-2)
+    (tie.spec Inv-loop μ-loop sub-last loop-holds add-right mul-has-shape shared-slice-read-has-shape mul-has-shape-2 shared-slice-read-has-shape-2 mul-has-shape-3 shared-slice-copy-out-has-shape mul-has-shape-4 shared-slice-read-has-shape-3 mul-has-shape-5 shared-slice-read-has-shape-4 mul-has-shape-6 shared-slice-copy-out-has-shape-2 has-shape-requires cast-t29 returns loop-less loop-again returns-2)
