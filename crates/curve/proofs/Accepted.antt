@@ -18,9 +18,9 @@ use Rattle.curve.specs.Interpolant.{interpolant}
 use Rattle.curve.specs.Shape.{has-shape}
 use Rattle.curve.specs.Check.{bad-lengths, bad-code, bad-area, bad-value, bad-slope, point-rows, segment-rows, curve-rows, Accepted}
 use Rattle.curve.specs.Read.{taken, value-in, outside, exact-value}
-use Rattle.curve.specs.Steps.{Lengths, Good}
+use Rattle.curve.specs.Steps.{between, Lengths, Good}
 use Rattle.curve.proofs.Indexed.{segment, linked-at, stop-at, stop-somewhere}
-use Rattle.curve.proofs.Walk.{Chain, end, link, between, last-area, stop, taken-is-stop}
+use Rattle.curve.proofs.Walk.{Chain, end, link, last-area, stop, taken-is-stop}
 
 -- ---- rows that are passed
 

@@ -19,7 +19,7 @@ use Rattle.curve.specs.Points.{Point, gradient, points, Segment, segment
 use Rattle.curve.specs.Shape.{rises, bends, fits, has-shape}
 use Rattle.curve.specs.Check.{bad-lengths, bad-area, point-rows, segment-rows}
 use Rattle.curve.specs.Calls.{fault-answer}
-use Rattle.curve.specs.Steps.{Lengths, earlier, joining, eqZ, rises-by, bends-by}
+use Rattle.curve.specs.Steps.{Lengths, earlier, between, eqZ, rises-by, bends-by}
 use Rattle.curve.proofs.Accepted.{or-left, or-right}
 use Rattle.curve.proofs.Bits.{same-test, le-is}
 use Rattle.curve.proofs.Indexed.{point}
@@ -120,7 +120,7 @@ module _ (areas values : List ℕ) (slopes : List ℤ) where
     unfolding point-rows
     point-end before i e = rw (end i e)
 
-    pub segment-turn : (shape : Shape) (i : ℕ) → i + 1 < length areas → segments-from shape i ≡ (row (not (has-shape shape (joining (point areas values slopes i) (point areas values slopes (i + 1))))) 6 i then segments-from shape (i + 1))
+    pub segment-turn : (shape : Shape) (i : ℕ) → i + 1 < length areas → segments-from shape i ≡ (row (not (has-shape shape (between (point areas values slopes i) (point areas values slopes (i + 1))))) 6 i then segments-from shape (i + 1))
     unfolding segments segment-rows
     segment-turn shape i h =
         let k : i < length areas = omega arith in

@@ -12,7 +12,8 @@ use lib.Dec.{leb}
 use lib.IntN.{ℤ, pos}
 use lib.ListN.{length, getD}
 use Rattle.curve.specs.Points.{Point, points, Segment}
-use Rattle.curve.proofs.Walk.{Chain, end, link, between, stop, compare-areas}
+use Rattle.curve.specs.Steps.{between}
+use Rattle.curve.proofs.Walk.{Chain, end, link, stop, compare-areas}
 
 abbrev pub point : List ℕ → List ℕ → List ℤ → ℕ → Point
 point areas values slopes i =

@@ -18,9 +18,9 @@ use Rattle.exact.proofs.Fractions as Q
 use Rattle.exact.proofs.Fractions.{NonNeg, Positive, propers, positivity}
 use Rattle.curve.specs.Points.{Point, gradient, Segment, Shape, rising, convex}
 use Rattle.curve.specs.Interpolant.{interpolant}
-use Rattle.curve.specs.Steps.{Good}
+use Rattle.curve.specs.Steps.{between, Good}
 use Rattle.curve.proofs.Segments.{proper-gradient, gap, distance, slope-at, segment-rises, segment-bends, within, interpolant-proper, interpolant-left, interpolant-right}
-use Rattle.curve.proofs.Walk.{Chain, Reads, between, stop, last-area, across, compare-areas}
+use Rattle.curve.proofs.Walk.{Chain, Reads, stop, last-area, across, compare-areas}
 
 value-proper : (shape : Shape) (s : Segment) (x : ℕ) → Reads (Good shape) s x → Proper (interpolant shape s x)
 value-proper shape s x r = interpolant-proper shape s (r .good) x (r .low) (r .high)

@@ -11,9 +11,7 @@ use lib.Dec.{leb}
 use borrow.Author.Tests.{leb-true, leb-false, lt-leb, le-leb}
 use Rattle.curve.specs.Points.{Point, Segment, segments}
 use Rattle.curve.specs.Read.{taken}
-
-abbrev pub between : Point → Point → Segment
-between p q = record { left = p; right = q }
+use Rattle.curve.specs.Steps.{between}
 
 -- the test of two areas, by cases
 pub compare-areas : (a x : ℕ) → ((a ≤ x) × (leb a x ≡ true)) ⊎ ((x < a) × (leb a x ≡ false))

@@ -36,8 +36,8 @@ earlier false before = some before
 abbrev pub point-of : ℕ → ℕ → ℤ → Point
 point-of area value slope = record { area = area; value = value; slope = slope }
 
-abbrev pub joining : Point → Point → Segment
-joining left right = record { left = left; right = right }
+abbrev pub between : Point → Point → Segment
+between left right = record { left = left; right = right }
 
 -- equality, as a test
 abbrev pub eqZ : ℤ → ℤ → Bool

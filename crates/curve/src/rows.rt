@@ -8,7 +8,7 @@ ghost use Rattle.curve.specs.Points.{points, segments, shape-of};
 ghost use Rattle.curve.specs.Shape.{has-shape};
 ghost use Rattle.curve.specs.Check.{bad-lengths, bad-code, bad-area, point-rows, segment-rows, curve-rows};
 ghost use Rattle.curve.specs.Calls.{fault-answer};
-ghost use Rattle.curve.specs.Steps.{Lengths, earlier, point-of, joining, rises-by, bends-by};
+ghost use Rattle.curve.specs.Steps.{Lengths, earlier, point-of, between, rises-by, bends-by};
 
 // A fault's number and place; the number 0 is no fault.
 pub struct Fault {
@@ -134,7 +134,7 @@ fn bends(left: i64, chord: i64, right: i64) -> bool
 
 // Row 6 is passed: the segment between two points has its shape.
 pub fn has_shape(shape: u32, x0: u32, y0: u32, d0: i32, x1: u32, y1: u32, d1: i32) -> bool
-    ensures { λ r. ⌜ r ≡ has-shape (shape-of shape) (joining (point-of x0 y0 d0) (point-of x1 y1 d1)) ⌝ }
+    ensures { λ r. ⌜ r ≡ has-shape (shape-of shape) (between (point-of x0 y0 d0) (point-of x1 y1 d1)) ⌝ }
 {
     let f = (y1 as i64) - (y0 as i64);
     if shape == 1 {

@@ -3,7 +3,7 @@ ghost use mathlib.Core.Path.{_≡_};
 ghost use Prim.Native.Nat.{_^_, _<_};
 ghost use lib.IntN.{pos, natAbs, _-ℤ_, _*ℤ_};
 ghost use Rattle.curve.specs.Steps as steps;
-ghost use Rattle.curve.specs.Steps.{Weights, Climbing, rising-reading, Bending, above-tangent, Normal, Tangent, tangent-reading, point-of, segment-of, Inside};
+ghost use Rattle.curve.specs.Steps.{Weights, Climbing, rising-reading, Bending, above-tangent, Normal, Tangent, tangent-reading, point-of, between, Inside};
 ghost use Rattle.exact.specs.Rounding.{round};
 ghost use Rattle.curve.specs.Points.{Shape, shape-of};
 ghost use Rattle.curve.specs.Interpolant.{interpolant};
@@ -86,8 +86,8 @@ fn over_tangent(t: u64, h: u64, left: u64, e0: i64, above: u64) -> i64
 
 // The factor at an area of a rising segment.
 fn rising_factor(x0: u32, y0: u32, d0: i32, x1: u32, y1: u32, d1: i32, area: u32) -> i32
-    requires { ⌜ Inside Shape.rising (segment-of (point-of x0 y0 d0) (point-of x1 y1 d1)) area ⌝ }
-    ensures { λ r. ⌜ r ≡ round (interpolant Shape.rising (segment-of (point-of x0 y0 d0) (point-of x1 y1 d1)) area) ⌝ }
+    requires { ⌜ Inside Shape.rising (between (point-of x0 y0 d0) (point-of x1 y1 d1)) area ⌝ }
+    ensures { λ r. ⌜ r ≡ round (interpolant Shape.rising (between (point-of x0 y0 d0) (point-of x1 y1 d1)) area) ⌝ }
 {
     if y1 == y0 {
         return y0 as i32;
@@ -99,8 +99,8 @@ fn rising_factor(x0: u32, y0: u32, d0: i32, x1: u32, y1: u32, d1: i32, area: u32
 
 // The factor at an area of a convex segment.
 fn convex_factor(x0: u32, y0: u32, d0: i32, x1: u32, y1: u32, d1: i32, area: u32) -> i32
-    requires { ⌜ Inside Shape.convex (segment-of (point-of x0 y0 d0) (point-of x1 y1 d1)) area ⌝ }
-    ensures { λ r. ⌜ r ≡ round (interpolant Shape.convex (segment-of (point-of x0 y0 d0) (point-of x1 y1 d1)) area) ⌝ }
+    requires { ⌜ Inside Shape.convex (between (point-of x0 y0 d0) (point-of x1 y1 d1)) area ⌝ }
+    ensures { λ r. ⌜ r ≡ round (interpolant Shape.convex (between (point-of x0 y0 d0) (point-of x1 y1 d1)) area) ⌝ }
 {
     let t = (area - x0) as u64;
     let u = (x1 - area) as u64;
@@ -111,8 +111,8 @@ fn convex_factor(x0: u32, y0: u32, d0: i32, x1: u32, y1: u32, d1: i32, area: u32
 
 // The factor at an area of a segment that has its shape.
 pub fn factor(shape: u32, x0: u32, y0: u32, d0: i32, x1: u32, y1: u32, d1: i32, area: u32) -> i32
-    requires { ⌜ Inside (shape-of shape) (segment-of (point-of x0 y0 d0) (point-of x1 y1 d1)) area ⌝ }
-    ensures { λ r. ⌜ r ≡ round (interpolant (shape-of shape) (segment-of (point-of x0 y0 d0) (point-of x1 y1 d1)) area) ⌝ }
+    requires { ⌜ Inside (shape-of shape) (between (point-of x0 y0 d0) (point-of x1 y1 d1)) area ⌝ }
+    ensures { λ r. ⌜ r ≡ round (interpolant (shape-of shape) (between (point-of x0 y0 d0) (point-of x1 y1 d1)) area) ⌝ }
 {
     if shape == 1 {
         return rising_factor(x0, y0, d0, x1, y1, d1, area);

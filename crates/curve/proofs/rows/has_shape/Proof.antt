@@ -6,7 +6,7 @@ use mir.Facts.{toZ-ofZ}
 use borrow.Author.Needs.{needs}
 use Rattle.curve.specs.Points.{Segment, Shape}
 use Rattle.curve.specs.Shape.{has-shape}
-use Rattle.curve.specs.Steps.{point-of, joining}
+use Rattle.curve.specs.Steps.{point-of, between}
 use Rattle.curve.proofs.Bits.{widens, widened, difference-fits, difference-is, times-slope, hundredfold}
 use Rattle.curve.proofs.Faults.{is-rising, is-convex, rising-test, convex-test}
 use Rattle.curve.proofs.rows.has_shape.Statement.{statement}
@@ -14,7 +14,7 @@ use Rattle.curve.proofs.rows.has_shape.Tie as tie
 
 abbrev segment : tie.Start → Segment
 segment s =
-    joining (point-of (s .args .x0) (s .args .y0) (s .args .d0)) (point-of (s .args .x1) (s .args .y1) (s .args .d1))
+    between (point-of (s .args .x0) (s .args .y0) (s .args .d0)) (point-of (s .args .x1) (s .args .y1) (s .args .d1))
 
 cast-f : tie.Need-cast-f
 cast-f c = search needs

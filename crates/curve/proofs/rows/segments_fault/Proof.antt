@@ -10,7 +10,7 @@ use Rattle.curve.specs.Answer.{Answer, row, _then_}
 use Rattle.curve.specs.Points.{Point, shape-of}
 use Rattle.curve.specs.Shape.{has-shape}
 use Rattle.curve.specs.Calls.{fault-answer}
-use Rattle.curve.specs.Steps.{joining}
+use Rattle.curve.specs.Steps.{between}
 use Rattle.curve.proofs.Bits.{element-is}
 use Rattle.curve.proofs.Indexed.{point}
 use Rattle.curve.proofs.Faults.{segments-from, segment-turn, segment-end}
@@ -89,7 +89,7 @@ turn c =
     let l = c .before .before .before .before .before .before .before .before in
     let s = entry l in
     let slopes = s .args .slopes .now in
-    let shaped : c .has-shape .result ≡ has-shape (shape-of (s .args .shape)) (joining (at l (l .loop .left)) (at l (l .loop .left + 1))) =
+    let shaped : c .has-shape .result ≡ has-shape (shape-of (s .args .shape)) (between (at l (l .loop .left)) (at l (l .loop .left + 1))) =
     rw (element-is slopes (l .loop .left) (c .before .before .before .before .has-shape-arg .given), element-is slopes (l .loop .left + 1) (c .before .has-shape-arg2 .given)) at (c .has-shape .ensures) in
     ap (λ (b : Bool). row (not b) 6 (l .loop .left) then rows-from l (l .loop .left + 1)) shaped
     ∙ sym (segment-turn _ _ _ (s .pre) (shape-of (s .args .shape)) (l .loop .left) (omega arith)) ∙ l .loop .inv .2

@@ -14,7 +14,7 @@ use Rattle.exact.specs.Rounding.{round}
 use Rattle.curve.specs.Interpolant.{interpolant}
 use Rattle.exact.proofs.Magnitude.{fits-size, size--}
 use Rattle.curve.specs.Points.{Segment, convex}
-use Rattle.curve.specs.Steps.{point-of, segment-of, above-tangent}
+use Rattle.curve.specs.Steps.{point-of, between, above-tangent}
 use Rattle.curve.proofs.Segments.{rise, e₀, e₁, g, a, b}
 use Rattle.curve.proofs.Plain.{Convex, convex-inside, e₀-size, e₁-size, g-size, reading-fits}
 use Rattle.curve.proofs.segment.convex_factor.Statement.{statement}
@@ -25,7 +25,7 @@ slope-fits {z} h = fits-size w64 z (omega arith)
 
 -- the segment, and what is known of the area in it
 abbrev at : tie.Start → Segment
-at c = segment-of (point-of (c .args .x0) (c .args .y0) (c .args .d0)) (point-of (c .args .x1) (c .args .y1) (c .args .d1))
+at c = between (point-of (c .args .x0) (c .args .y0) (c .args .d0)) (point-of (c .args .x1) (c .args .y1) (c .args .d1))
 
 facts : (c : tie.Start) → Convex (at c) (c .args .area)
 facts c = convex-inside (c .pre)

@@ -10,7 +10,7 @@ use mir.Facts.{toZ-ofZ}
 use Rattle.exact.specs.Rounding.{round}
 use Rattle.curve.specs.Points.{Segment, Shape, rising, convex, shape-of}
 use Rattle.curve.specs.Interpolant.{interpolant}
-use Rattle.curve.specs.Steps.{Inside, point-of, segment-of}
+use Rattle.curve.specs.Steps.{Inside, point-of, between}
 use Rattle.curve.proofs.segment.factor.Statement.{statement}
 use Rattle.curve.proofs.segment.factor.Tie as tie
 
@@ -23,7 +23,7 @@ unfolding shape-of
 is-convex {code} n = rw (ne-eqb code 1 n)
 
 abbrev at : tie.Start → Segment
-at c = segment-of (point-of (c .args .x0) (c .args .y0) (c .args .d0)) (point-of (c .args .x1) (c .args .y1) (c .args .d1))
+at c = between (point-of (c .args .x0) (c .args .y0) (c .args .d0)) (point-of (c .args .x1) (c .args .y1) (c .args .d1))
 
 rising-factor-requires : tie.Need-rising-factor-requires
 rising-factor-requires c κs =

@@ -12,7 +12,7 @@ use mir.Facts.{toZ-ofZ, toZ-pos, fits-natAbs}
 use Rattle.exact.specs.Rounding.{round}
 use Rattle.curve.specs.Points.{rising}
 use Rattle.curve.specs.Interpolant.{interpolant}
-use Rattle.curve.specs.Steps.{point-of, segment-of}
+use Rattle.curve.specs.Steps.{point-of, between}
 use Rattle.curve.proofs.Plain.{Rising, rising-inside, flat-inside, reading-fits}
 use Rattle.curve.proofs.segment.rising_factor.Statement.{statement}
 use Rattle.curve.proofs.segment.rising_factor.Tie as tie
@@ -21,7 +21,7 @@ use Rattle.curve.proofs.segment.rising_factor.Tie as tie
 natural : (d : ℤ) → SFits w32 d → d ≡ pos (natAbs d) → T (nonNeg (toZ w32 (ofZ w32 d))) × Fits w64 (natAbs (toZ w32 (ofZ w32 d)))
 natural d f e = rw (toZ-ofZ f) (subst⁻¹ (λ (z : ℤ). T (nonNeg z)) e tt, fits-natAbs tt f)
 
-facts : (c : tie.Else1) → Rising (segment-of (point-of (c .before .args .x0) (c .before .args .y0) (c .before .args .d0)) (point-of (c .before .args .x1) (c .before .args .y1) (c .before .args .d1))) (c .before .args .area)
+facts : (c : tie.Else1) → Rising (between (point-of (c .before .args .x0) (c .before .args .y0) (c .before .args .d0)) (point-of (c .before .args .x1) (c .before .args .y1) (c .before .args .d1))) (c .before .args .area)
 facts c = rising-inside (c .before .pre) (c .if1 .left)
 
 cast-result : tie.Need-cast-result
@@ -58,7 +58,7 @@ rising-requires : tie.Need-rising-requires
 rising-requires c κs = rw (toZ-ofZ (c .before .fits .d0), toZ-ofZ (c .before .fits .d1)) (facts c .climbing)
 
 -- the result is the reading
-read : (c : tie.After-rising) → pos (c .rising .result) ≡ round (interpolant rising (segment-of (point-of (c .before .before .args .x0) (c .before .before .args .y0) (c .before .before .args .d0)) (point-of (c .before .before .args .x1) (c .before .before .args .y1) (c .before .before .args .d1))) (c .before .before .args .area))
+read : (c : tie.After-rising) → pos (c .rising .result) ≡ round (interpolant rising (between (point-of (c .before .before .args .x0) (c .before .before .args .y0) (c .before .before .args .d0)) (point-of (c .before .before .args .x1) (c .before .before .args .y1) (c .before .before .args .d1))) (c .before .before .args .area))
 read c = ap pos (rw (toZ-ofZ (c .before .before .fits .d0), toZ-ofZ (c .before .before .fits .d1)) at (c .rising .ensures)) ∙ sym (facts (c .before) .reading)
 
 read-fits : (c : tie.After-rising) → SFits w32 (pos (c .rising .result))
