@@ -1,0 +1,2 @@
+-- Proofs of the third demand.
+pub mod Demands

@@ -1,0 +1,1 @@
+// The third demand: theorems over the definitions of all the calls. No code.
