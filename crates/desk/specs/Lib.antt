@@ -1,0 +1,3 @@
+-- The desk reading.
+pub mod Desk
+pub mod Laws

@@ -1,0 +1,146 @@
+-- `file::open` meets its contract: rows 9 and 10, row 11, a fault of the points, or the points written; a refusal leaves the lists as
+-- they were.
+-- Assumes nothing.
+use mathlib.Core.Path.{_≡_, refl, sym, _∙_, ap}
+use mathlib.Core.Bool.{false}
+use mathlib.Core.List.{List}
+use Prim.Native.Nat.{ℕ, _+_, _*_, _-_, _≤_}
+use native.Mathlib.Omega.{arith}
+use borrow.Author.Needs.{needs}
+use lib.ListN.{length}
+use Rattle.curve.specs.Answer.{Answer, gives, refused, row, _then_}
+use Rattle.curve.specs.Check.{curve-rows, checked}
+use Rattle.curve.specs.Calls.{checked-answer}
+use Rattle.curve.proofs.Accepted.{then-first}
+use Rattle.curve.proofs.Faults.{a-fault, no-fault}
+use Rattle.file.specs.Layout.{shape-code, count, areas-of, values-of, slopes-of}
+use Rattle.file.specs.Open.{head-rows, list-rows, short-list, open-answer, open-list}
+use Rattle.file.specs.Calls.{opened-answer}
+use Rattle.file.proofs.Heads.{head-passed, room, refused-before}
+use Rattle.file.proofs.open.Statement.{statement}
+use Rattle.file.proofs.open.Tie as tie
+
+head-fault-requires : tie.Need-head-fault-requires
+head-fault-requires c κs = search needs
+
+returns : tie.Need-returns
+unfolding open-answer open-list opened-answer row _then_
+returns c = (rw (sym (c .before .head-fault .ensures) ∙ a-fault 0 (c .if1 .taken)), (refl, (refl, refl)))
+
+-- rows 9 and 10 are passed
+module _ (c : tie.Else1) where
+  abbrev start : tie.Start
+  start = c .before .before .before .before .before
+
+  abbrev bytes : List ℕ
+  bytes = start .args .bytes .now
+
+  passed : head-rows bytes ≡ gives tt
+  passed = sym (c .before .head-fault .ensures) ∙ no-fault 0 (c .if1 .left)
+
+  sized : length bytes ≡ 7 + 12 * count bytes
+  sized = head-passed bytes passed
+
+shared-slice-read-n : tie.Need-shared-slice-read-n
+shared-slice-read-n c = omega (arith, sized (c .before))
+
+cast-n : tie.Need-cast-n
+cast-n c = omega (arith, c .shared-slice-known2 .given 6)
+
+short-list-requires : tie.Need-short-list-requires
+short-list-requires c κs = search needs
+
+returns-2 : tie.Need-returns-2
+unfolding open-answer open-list opened-answer row _then_
+returns-2 c =
+    let e = c .before .before .before in
+    (rw (passed e, sym (c .before .short-list .ensures) ∙ c .if2 .taken), (refl, (refl, refl)))
+
+-- row 11 is passed
+module _ (c : tie.Else2) where
+  abbrev begin : tie.Start
+  begin = start (c .before .before .before)
+
+  abbrev input : List ℕ
+  input = bytes (c .before .before .before)
+
+  long : short-list (count input) (length (begin .args .areas .now)) (length (begin .args .values .now)) (length (begin .args .slopes .now)) ≡ false
+  long = sym (c .before .short-list .ensures) ∙ c .if2 .left
+
+  whole : length input ≡ 7 + 12 * count input
+  whole = sized (c .before .before .before)
+
+  -- the points are refused, or not
+  tried : {a : Answer (Unit {0})} → list-rows input ≡ a → open-answer input (length (begin .args .areas .now)) (length (begin .args .values .now)) (length (begin .args .slopes .now)) ≡ (a then gives (record { shape = shape-code input; count = count input }))
+  unfolding open-answer row _then_
+  tried e = rw (passed (c .before .before .before), long, e)
+
+shared-slice-read-shape : tie.Need-shared-slice-read-shape
+shared-slice-read-shape c = omega (arith, whole (c .before))
+
+cast-shape : tie.Need-cast-shape
+cast-shape c = omega (arith, c .shared-slice-known3 .given 5)
+
+check-points-requires : tie.Need-check-points-requires
+check-points-requires c κs = omega (arith, whole (c .before))
+
+enum-known-number : tie.Need-enum-known-number
+enum-known-number c = search needs
+
+enum-told : tie.Need-enum-told
+enum-told c = search needs
+
+decode-requires : tie.Need-decode-requires
+decode-requires c κs = (let e = c .before .before .before .before .before .before .before in room (omega (arith, whole e)) (long e))
+
+cast-t27 : tie.Need-cast-t27
+cast-t27 c = omega (arith, c .before .before .before .before .before .before .before .before .before .before .before .before .before .before .before .shared-slice-known2 .given 6)
+
+returns-3 : tie.Need-returns-3
+unfolding list-rows checked checked-answer open-list opened-answer _then_
+returns-3 c =
+    let n = c .before in
+    let k = n .before .before in
+    let e = k .before .before in
+    (sym (tried e (refused-before (list-rows (input e)) _ _ _ (sym (k .check-points .ensures) ∙ ap checked-answer (n .number .given .1)))), (refl, (refl, refl)))
+
+same-length : tie.Need-same-length
+same-length c = search needs
+
+same-length-2 : tie.Need-same-length-2
+same-length-2 c = search needs
+
+same-length-3 : tie.Need-same-length-3
+same-length-3 c = search needs
+
+returns-4 : tie.Need-returns-4
+unfolding list-rows checked checked-answer open-list opened-answer _then_
+returns-4 c =
+    let d = c .before .before .before .before .before in
+    let n = d .before .before .before .before in
+    let k = n .before .before in
+    let e = k .before .before in
+    (sym (tried e (then-first (list-rows (input e)) _ _ (sym (k .check-points .ensures) ∙ ap checked-answer (n .enum-told .given .1)))), d .decode .ensures)
+
+pub open-spec : {M : Type 1} → statement M
+open-spec =
+    tie.close
+    (tie.spec
+    head-fault-requires
+    returns
+    shared-slice-read-n
+    cast-n
+    short-list-requires
+    returns-2
+    shared-slice-read-shape
+    cast-shape
+    check-points-requires
+    enum-known-number
+    enum-told
+    decode-requires
+    cast-t27
+    returns-3
+    same-length
+    same-length-2
+    same-length-3
+    returns-4)

@@ -1,0 +1,150 @@
+// Curve files.
+ghost use mathlib.Core.Path.{_≡_};
+ghost use mathlib.Core.List.{_++_};
+ghost use Prim.Native.Nat.{_+_, _*_, _≤_};
+ghost use lib.ListN.{length, drop};
+ghost use Rattle.curve.specs.Check.{checked};
+ghost use Rattle.curve.specs.Calls.{fault-answer, checked-answer};
+ghost use Rattle.file.specs.Layout.{twos-complement, little-endian, areas-of, values-of, slopes-of};
+ghost use Rattle.file.specs.Open.{bad-head, head-rows, short-list, open-answer, open-list};
+ghost use Rattle.file.specs.Calls.{opened-answer};
+ghost use Rattle.file.specs.Steps.{Room};
+use curve::Checked;
+
+fn wide(x: u8) -> u32
+    ensures { λ r. ⌜ r ≡ x ⌝ }
+{
+    x as u32
+}
+
+// The number of 4 bytes, the lowest first.
+fn word(a: u8, b: u8, c: u8, d: u8) -> u32
+    ensures { λ r. ⌜ r ≡ a + 256 * b + 65536 * c + 16777216 * d ⌝ }
+{
+    wide(a) + 256 * wide(b) + 65536 * wide(c) + 16777216 * wide(d)
+}
+
+fn unsigned(bytes: &[u8], at: usize) -> u32
+    requires { ⌜ at + 4 ≤ length (now bytes) ⌝ }
+    ensures { λ r. ⌜ r ≡ little-endian (now (bytes .entry)) at 4 ⌝ }
+{
+    word(bytes[at], bytes[at + 1], bytes[at + 2], bytes[at + 3])
+}
+
+fn signed(x: u32) -> i32
+    ensures { λ r. ⌜ r ≡ twos-complement x ⌝ }
+{
+    if x < 2147483648 {
+        return x as i32;
+    }
+    -1 - ((4294967295 - x) as i32)
+}
+
+// Writes the file's first n points into the first entries of the lists. It asks that all of them are there, since its callers
+// have tested that.
+pub fn decode(bytes: &[u8], n: usize, areas: &mut [u32], values: &mut [u32], slopes: &mut [i32])
+    requires { ⌜ Room n (length (now bytes)) (length (now areas)) (length (now values)) (length (now slopes)) ⌝ }
+    ensures areas { λ _. ⌜ now (areas .exit) ≡ areas-of (now (bytes .entry)) n ++ drop n (now (areas .entry)) ⌝ }
+    ensures values { λ _. ⌜ now (values .exit) ≡ values-of (now (bytes .entry)) n ++ drop n (now (values .entry)) ⌝ }
+    ensures slopes { λ _. ⌜ now (slopes .exit) ≡ slopes-of (now (bytes .entry)) n ++ drop n (now (slopes .entry)) ⌝ }
+{
+    let mut at: usize = 7;
+    let mut i: usize = 0;
+    while i < n {
+        areas[i] = unsigned(bytes, at);
+        values[i] = unsigned(bytes, at + 4);
+        slopes[i] = signed(unsigned(bytes, at + 8));
+        at += 12;
+        i += 1;
+    }
+}
+
+// Row 9.
+fn bad_head(bytes: &[u8]) -> bool
+    ensures { λ r. ⌜ r ≡ bad-head (now (bytes .entry)) ⌝ }
+{
+    if bytes.len() < 7 {
+        return true;
+    }
+    if bytes[0] != 84 {
+        return true;
+    }
+    if bytes[1] != 82 {
+        return true;
+    }
+    if bytes[2] != 70 {
+        return true;
+    }
+    word(bytes[3], bytes[4], 0, 0) != 1
+}
+
+// Rows 9 and 10: the number of the first that applies, or 0.
+pub fn head_fault(bytes: &[u8]) -> u32
+    ensures { λ r. ⌜ fault-answer r 0 ≡ head-rows (now (bytes .entry)) ⌝ }
+{
+    if bad_head(bytes) {
+        return 9;
+    }
+    if bytes.len() != 7 + 12 * (bytes[6] as usize) {
+        return 10;
+    }
+    0
+}
+
+// Row 11.
+fn short_list(n: usize, areas: usize, values: usize, slopes: usize) -> bool
+    ensures { λ r. ⌜ r ≡ short-list n areas values slopes ⌝ }
+{
+    if areas < n {
+        return true;
+    }
+    if values < n {
+        return true;
+    }
+    slopes < n
+}
+
+// Rows 1 to 6 of the file's first n points.
+fn check_points(bytes: &[u8], n: usize, shape: u32) -> Checked
+    requires { ⌜ 7 + 12 * n ≤ length (now bytes) ⌝ }
+    ensures { λ r. ⌜ checked-answer r ≡ checked (areas-of (now (bytes .entry)) n) (values-of (now (bytes .entry)) n) (slopes-of (now (bytes .entry)) n) shape ⌝ }
+{
+    if n > 64 {
+        return Checked::Refused(1, 0);
+    }
+    let mut areas = [0u32; 64];
+    let mut values = [0u32; 64];
+    let mut slopes = [0i32; 64];
+    decode(bytes, n, &mut areas, &mut values, &mut slopes);
+    curve::check(&areas[..n], &values[..n], &slopes[..n], shape)
+}
+
+// What Open answers: shape and count, or a refusal's number and place.
+pub enum Opened {
+    Curve(u32, u32),
+    Refused(u32, u32),
+}
+
+pub fn open(bytes: &[u8], areas: &mut [u32], values: &mut [u32], slopes: &mut [i32]) -> Opened
+    ensures answer { λ r. ⌜ opened-answer r ≡ open-answer (now (bytes .entry)) (length (now (areas .entry))) (length (now (values .entry))) (length (now (slopes .entry))) ⌝ }
+    ensures areas { λ r. ⌜ now (areas .exit) ≡ open-list (opened-answer r) (areas-of (now (bytes .entry))) (now (areas .entry)) ⌝ }
+    ensures values { λ r. ⌜ now (values .exit) ≡ open-list (opened-answer r) (values-of (now (bytes .entry))) (now (values .entry)) ⌝ }
+    ensures slopes { λ r. ⌜ now (slopes .exit) ≡ open-list (opened-answer r) (slopes-of (now (bytes .entry))) (now (slopes .entry)) ⌝ }
+{
+    let fault = head_fault(bytes);
+    if fault != 0 {
+        return Opened::Refused(fault, 0);
+    }
+    let n = bytes[6] as usize;
+    if short_list(n, areas.len(), values.len(), slopes.len()) {
+        return Opened::Refused(11, 0);
+    }
+    let shape = bytes[5] as u32;
+    match check_points(bytes, n, shape) {
+        Checked::Refused(number, place) => Opened::Refused(number, place),
+        Checked::Segments(_) => {
+            decode(bytes, n, areas, values, slopes);
+            Opened::Curve(shape, n as u32)
+        }
+    }
+}
