@@ -6,6 +6,7 @@ use mathlib.Core.Bool.{Bool, true, false}
 use mathlib.Core.List.{List, [], _∷_}
 use native.Mathlib.Nat.{zero-add, add-zero}
 use native.Mathlib.Omega.{arith}
+use lib.Dec.{ltb}
 use lib.IntN.{ℤ, pos, _-ℤ_}
 use lib.ListN.{length, getD}
 use lib.Signed.{_≤ℤ_}
@@ -14,14 +15,17 @@ use Rattle.exact.proofs.Fractions.{<-weak}
 use Rattle.curve.specs.Answer.{Answer, gives, refused, row, _then_}
 use Rattle.curve.specs.Check.{curve-rows}
 use Rattle.curve.specs.Laws.{Curve, Area, value-at, factor-at}
-use Rattle.curve.specs.Read.{outside, reading}
+use Rattle.curve.specs.Read.{outside, reading, read-answer}
 use Rattle.curve.specs.Sheet.{bad-sheet, entry-area, entry-rows, tabulate, sheet-answer, sheet-list}
 use Rattle.curve.proofs.Accepted.{then-first, then-rest, row-passed}
 use Rattle.curve.proofs.Answers.{given, gives-reading}
 use Rattle.curve.proofs.Laws.{factors-are-near, rising-factors, convex-chords, convex-steps}
 use Rattle.curve.proofs.SheetRows.{rows-inside}
+use Rattle.file.specs.Layout.{shape-code, count, areas-of, values-of, slopes-of}
+use Rattle.file.specs.Open.{head-rows}
+use Rattle.desk.specs.Desk.{desk-answer}
 use Rattle.pair.specs.Pair.{Factors, factors, pair-answer}
-use Rattle.promises.specs.FactorRead.{FactorRead, by-read, by-pair-form, by-pair-plan, by-sheet, read-of, pair-of, sheet-of, list-of}
+use Rattle.promises.specs.FactorRead.{FileOf, FactorRead, by-read, by-pair-form, by-pair-plan, by-sheet, by-desk, read-of, pair-of, sheet-of, list-of}
 use Rattle.promises.specs.Demands as D
 
 gives-injective : {A : Type 0} {x y : A} → gives x ≡ gives y → x ≡ y
@@ -82,11 +86,25 @@ is-entry c start step out entries index e h =
         area = record { within = rows-inside (c .areas) start step 0 (length out) index (then-first row₇ (gives (length out)) entries e₁) zero-le (omega (arith, n)) };
         factor = sym (ap (λ (a : Answer ℕ). getD (sheet-list (c .areas) (c .values) (c .slopes) (c .code) start step a out) index (pos 0)) e ∙ tabulate-at f 0 entries index h ∙ ap f (zero-add index)) }
 
+-- ---- the desk reading
+
+-- rows 1 to 7 of the file are those of the curve
+file-reads : (c : Curve) (bytes : List ℕ) (x : ℕ) → FileOf c bytes → read-answer (areas-of bytes (count bytes)) (values-of bytes (count bytes)) (slopes-of bytes (count bytes)) (shape-code bytes) x ≡ read-of c x
+file-reads c bytes x k = rw (k .areas, k .values, k .slopes, k .code)
+
+is-desk : (c : Curve) (bytes : List ℕ) (x scratch : ℕ) (f : ℤ) → FileOf c bytes → desk-answer bytes x scratch ≡ gives f → Is c x f
+unfolding desk-answer
+is-desk c bytes x scratch f k e =
+    let reads = read-answer (areas-of bytes (count bytes)) (values-of bytes (count bytes)) (slopes-of bytes (count bytes)) (shape-code bytes) x in
+    let row₁₁ = row (ltb scratch (12 * count bytes)) 11 0 in
+    is-read c x f (sym (file-reads c bytes x k) ∙ then-rest row₁₁ reads f (then-rest (head-rows bytes) (row₁₁ then reads) f e))
+
 is : {c : Curve} {x : ℕ} {f : ℤ} → FactorRead c x f → Is c x f
 is {c} (by-read x f e) = is-read c x f e
 is {c} (by-pair-form form plan r e) = is-pair c form plan r e .at-form
 is {c} (by-pair-plan form plan r e) = is-pair c form plan r e .at-plan
 is {c} (by-sheet start step out entries index e h) = is-entry c start step out entries index e h
+is {c} (by-desk bytes x scratch f k e) = is-desk c bytes x scratch f k e
 
 -- ---- each area can be read
 
@@ -114,6 +132,15 @@ sheet-refuses-by-8 c start step out inside number place e =
     pass : entry-rows (c .areas) start step 0 (length out) ≡ gives tt
     pass = entries-pass (c .areas) start step 0 (length out) (λ i h. inside i (rw zero-add at h) .within)
     decide : (b : Bool) → (row b 8 0 then gives (length out)) ≡ refused number place → number ≡ 8
+    decide true h = cc
+    decide false h = absurd (let z : _≡_ {A = ℕ} 0 1 = cc in omega arith)
+
+pub desk-refuses-by-11 : D.DeskRefusesBy11
+unfolding desk-answer row _then_
+desk-refuses-by-11 c bytes x scratch k m number place e =
+    decide (ltb scratch (12 * count bytes)) (rw (k .head, file-reads c bytes x k, gives-reading (c .areas) (c .values) (c .slopes) (c .code) x (c .accepted) (m .within)) at e)
+  where
+    decide : (b : Bool) → (row b 11 0 then gives (factor-at c x)) ≡ refused number place → number ≡ 11
     decide true h = cc
     decide false h = absurd (let z : _≡_ {A = ℕ} 0 1 = cc in omega arith)
 

@@ -10,8 +10,9 @@ use Rattle.exact.specs.Fraction.{Proper, _over_, whole, _+ℚ_, _-ℚ_, _≤ℚ
 use Rattle.curve.specs.Answer.{gives, refused}
 use Rattle.curve.specs.Laws.{Curve, Area, value-at, chord-slope}
 use Rattle.curve.specs.Sheet.{entry-area}
+use Rattle.desk.specs.Desk.{desk-answer}
 use Rattle.pair.specs.Pair.{Factors}
-use Rattle.promises.specs.FactorRead.{FactorRead, read-of, pair-of, sheet-of}
+use Rattle.promises.specs.FactorRead.{FileOf, FactorRead, read-of, pair-of, sheet-of}
 
 -- each area can be read: Read and Pair refuse none of them
 abbrev pub ReadRefusesNone : Type 0
@@ -25,6 +26,12 @@ abbrev pub SheetRefusesBy8 : Type 0
 SheetRefusesBy8 =
     (c : Curve) (start step : ℕ) (out : List ℤ) → ((index : ℕ) → index < length out → Area c (entry-area start step index)) →
     (number place : ℕ) → sheet-of c start step out ≡ refused number place → number ≡ 8
+
+-- and the desk reading only by 11
+abbrev pub DeskRefusesBy11 : Type 0
+DeskRefusesBy11 =
+    (c : Curve) (bytes : List ℕ) (x scratch : ℕ) → FileOf c bytes → Area c x →
+    (number place : ℕ) → desk-answer bytes x scratch ≡ refused number place → number ≡ 11
 
 -- each factor is at most half a unit off
 abbrev pub HalfAUnit : Type 0
