@@ -20,6 +20,7 @@ import multiprocessing
 import random
 import struct
 import sys
+from fractions import Fraction
 
 import curves
 import exact_fractions as ref
@@ -96,6 +97,22 @@ def halves(rng):
         lists = [list(fields) for fields in zip(*points)]
         if ref.exact_value(*lists, shape, area).denominator == 2:
             yield data, area, scratch_for(rng, data)
+
+
+def beside_halves(rng):
+    """Exact values within a hundredth of a half, but not on it."""
+    points, shape = half_curve(rng)
+    at = rng.randrange(2)
+    slope = points[at][2] + rng.choice([-1, 1])
+    points = changed(points, at, 2, max(0, slope) if shape == 1 else slope)
+    lists = [list(fields) for fields in zip(*points)]
+    if ref.check(*lists, shape)[0] != 'ok':
+        return
+    data = curves.curve_file(points, shape)
+    area = points[1][0] // 2
+    beside = abs(ref.exact_value(*lists, shape, area) % 1 - Fraction(1, 2))
+    if 0 < beside < Fraction(1, 100):
+        yield data, area, scratch_for(rng, data)
 
 
 def changed(points, at, field, new):
@@ -273,6 +290,7 @@ KINDS = [
     (convex, 'convex curves', 65000),
     (limits, 'fields at the limits', 16000),
     (halves, 'exact halves', 8000),
+    (beside_halves, 'close to a half', 6000),
     (one_past, 'one field past its limit', 14000),
     (shifted, 'gap of 2,000 or 2,001', 3000),
     (counts_and_codes, 'wrong count or shape code', 6000),
