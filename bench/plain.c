@@ -42,17 +42,18 @@ static inline int point_fault(point p, uint32_t before, int first)
     return 0;
 }
 
+/* For points within the limits, where 32 bits hold every product. */
 static inline int has_shape(point l, point r, uint32_t shape)
 {
-    int64_t h = (int64_t)r.area - l.area;
-    int64_t rise = (int64_t)r.value - l.value;
+    int32_t h = (int32_t)(r.area - l.area);
+    int32_t rise = (int32_t)(r.value - l.value);
     if (shape == 1) {
         if (rise > 0)
             return (l.slope | r.slope) >= 0;
         return rise == 0 && (l.slope | r.slope) == 0;
     }
-    int64_t b = 100 * rise - h * l.slope;
-    int64_t a = h * r.slope - 100 * rise;
+    int32_t b = 100 * rise - h * l.slope;
+    int32_t a = h * r.slope - 100 * rise;
     return (a > 0 && b > 0) || (a == 0 && b == 0);
 }
 
@@ -101,18 +102,12 @@ static inline int32_t segment_factor(point l, point r, uint32_t shape,
     return shape == 1 ? rising(l, r, t, u) : convex(l, r, t, u);
 }
 
-/*
- * Rows 3 to 7 for the points of a file. Gives a refusal number, or 0 and the
- * index of the segment that holds the area.
- */
-static int scan(const uint8_t *records, size_t count, uint32_t shape,
-                uint32_t area, size_t *segment)
+/* Rows 3 to 6 for the points of a file: a refusal number, or 0. */
+static inline int scan(const uint8_t *records, size_t count, uint32_t shape)
 {
     point l = load_point(records);
-    uint32_t first = l.area;
     int fault = point_fault(l, 0, 1);
     int shapeless = 0;
-    size_t at = 0;
     if (fault)
         return fault;
     for (size_t i = 1; i < count; i++) {
@@ -120,16 +115,24 @@ static int scan(const uint8_t *records, size_t count, uint32_t shape,
         fault = point_fault(r, l.area, 0);
         if (fault)
             return fault;
-        shapeless |= !has_shape(l, r, shape);
-        at += r.area <= area;
+        if (!has_shape(l, r, shape))
+            shapeless = 1;
         l = r;
     }
-    if (shapeless)
-        return 6;
-    if (area < first || area > l.area)
-        return 7;
-    *segment = at < count - 1 ? at : count - 2;
-    return 0;
+    return shapeless ? 6 : 0;
+}
+
+/* The last segment whose left area is not above the area. */
+static inline size_t find_segment(const uint8_t *records, size_t count,
+                                  uint32_t area)
+{
+    size_t low = 0, left = count - 1;
+    while (left > 1) {
+        size_t half = left / 2;
+        low += load32(records + 12 * (low + half)) <= area ? half : 0;
+        left -= half;
+    }
+    return low;
 }
 
 int32_t plain_desk_reading(const uint8_t *bytes, size_t bytes_len,
@@ -149,10 +152,12 @@ int32_t plain_desk_reading(const uint8_t *bytes, size_t bytes_len,
     if (shape != 1 && shape != 2)
         return refused(2);
     const uint8_t *records = bytes + 7;
-    size_t segment = 0;
-    int fault = scan(records, count, shape, area, &segment);
+    int fault = shape == 1 ? scan(records, count, 1) : scan(records, count, 2);
     if (fault)
         return refused(fault);
+    if (area < load32(records) || area > load32(records + 12 * (count - 1)))
+        return refused(7);
+    size_t segment = find_segment(records, count, area);
     point l = load_point(records + 12 * segment);
     point r = load_point(records + 12 * segment + 12);
     memcpy(scratch, records, 12 * count);
@@ -173,10 +178,22 @@ static int check_lists(const uint32_t *areas, const uint32_t *values,
         fault = point_fault(r, l.area, 0);
         if (fault)
             return fault;
-        shapeless |= !has_shape(l, r, shape);
+        if (!has_shape(l, r, shape))
+            shapeless = 1;
         l = r;
     }
     return shapeless ? 6 : 0;
+}
+
+/* Fills the entries from index i on whose areas are below end. */
+static inline size_t fill(point l, point r, uint32_t shape, uint64_t end,
+                          uint32_t start, uint32_t step, int32_t *out,
+                          size_t i, size_t m)
+{
+    uint64_t area = start + (uint64_t)step * i;
+    for (; i < m && area < end; i++, area += step)
+        out[i] = segment_factor(l, r, shape, (uint32_t)area);
+    return i;
 }
 
 int32_t plain_sheet_factors(const uint32_t *areas, size_t areas_len,
@@ -198,14 +215,13 @@ int32_t plain_sheet_factors(const uint32_t *areas, size_t areas_len,
     uint64_t last = start + (uint64_t)step * (m - 1);
     if (start < areas[0] || last > areas[count - 1])
         return refused(7);
-    size_t s = 0;
-    uint32_t area = start;
-    for (size_t i = 0; i < m; i++, area += step) {
-        while (s + 2 < count && areas[s + 1] <= area)
-            s++;
-        point l = {areas[s], values[s], slopes[s]};
-        point r = {areas[s + 1], values[s + 1], slopes[s + 1]};
-        out[i] = segment_factor(l, r, shape, area);
+    size_t i = 0;
+    for (size_t k = 0; k + 1 < count && i < m; k++) {
+        point l = {areas[k], values[k], slopes[k]};
+        point r = {areas[k + 1], values[k + 1], slopes[k + 1]};
+        uint64_t end = k + 2 < count ? r.area : (uint64_t)r.area + 1;
+        i = shape == 1 ? fill(l, r, 1, end, start, step, out, i, m)
+                       : fill(l, r, 2, end, start, step, out, i, m);
     }
     return (int32_t)m;
 }
