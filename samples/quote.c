@@ -1,0 +1,106 @@
+/*
+ * quote: one factor from a curve file.
+ *
+ *     quote FILE AREA
+ *
+ * AREA is in tenths of a square metre. Prints the factor, or the refusal in
+ * words. Exit status: 0 a factor, 1 a refusal, 2 wrong usage or no such file.
+ *
+ * Build: cc -Iinclude samples/quote.c target/staticlib/libdesk.a -o quote
+ */
+#include <stdio.h>
+
+#include "desk.h"
+
+/* One byte more than a file of 255 points, so that a longer one shows. */
+#define FILE_ROOM (DESK_HEADER_BYTES + 255 * DESK_POINT_BYTES + 1)
+
+static const char *reason(int32_t refusal)
+{
+    switch (refusal) {
+    case DESK_REFUSED_COUNT:
+        return "the curve has fewer than 2 or more than 64 points";
+    case DESK_REFUSED_SHAPE:
+        return "the shape code is neither 1 (rising) nor 2 (convex)";
+    case DESK_REFUSED_AREA:
+        return "an area is above 20,000, not larger than the one before, "
+               "or more than 2,000 beyond it";
+    case DESK_REFUSED_VALUE:
+        return "a value is above 200,000";
+    case DESK_REFUSED_SLOPE:
+        return "a slope is outside -10,000 to 10,000";
+    case DESK_REFUSED_SEGMENT:
+        return "two neighbouring points do not fit the shape";
+    case DESK_REFUSED_OUTSIDE:
+        return "the area is outside the curve";
+    case DESK_REFUSED_MARK:
+        return "not a curve file of version 1";
+    case DESK_REFUSED_LENGTH:
+        return "the file's length does not fit its number of points";
+    case DESK_REFUSED_SCRATCH:
+        return "the scratch is too short";
+    }
+    return "unknown refusal";
+}
+
+/* Decimal digits, at most 4,294,967,295. Returns 1 if it is so. */
+static int parse_area(const char *text, uint32_t *area)
+{
+    uint64_t sum = 0;
+    if (*text == '\0')
+        return 0;
+    for (; *text != '\0'; text++) {
+        if (*text < '0' || *text > '9')
+            return 0;
+        sum = sum * 10 + (uint64_t)(*text - '0');
+        if (sum > UINT32_MAX)
+            return 0;
+    }
+    *area = (uint32_t)sum;
+    return 1;
+}
+
+/* Up to FILE_ROOM bytes of the file. Returns 1 if they could be read. */
+static int read_file(const char *name, uint8_t *bytes, size_t *length)
+{
+    FILE *file = fopen(name, "rb");
+    int good;
+    if (file == NULL)
+        return 0;
+    *length = fread(bytes, 1, FILE_ROOM, file);
+    good = !ferror(file);
+    fclose(file);
+    return good;
+}
+
+static void print_factor(int32_t units)
+{
+    int32_t size = units < 0 ? -units : units;
+    printf("factor %s%ld.%04ld (%ld units)\n", units < 0 ? "-" : "",
+           (long)(size / 10000), (long)(size % 10000), (long)units);
+}
+
+int main(int argc, char **argv)
+{
+    static uint8_t bytes[FILE_ROOM], scratch[DESK_SCRATCH_ENOUGH];
+    size_t length;
+    uint32_t area;
+    int32_t answer;
+
+    if (argc != 3 || !parse_area(argv[2], &area)) {
+        fprintf(stderr, "usage: quote FILE AREA\n");
+        return 2;
+    }
+    if (!read_file(argv[1], bytes, &length)) {
+        fprintf(stderr, "quote: cannot read %s\n", argv[1]);
+        return 2;
+    }
+    answer = desk_reading(bytes, length, area, scratch, sizeof scratch);
+    if (DESK_IS_REFUSED(answer)) {
+        printf("refused %ld: %s\n", (long)DESK_REFUSAL(answer),
+               reason(DESK_REFUSAL(answer)));
+        return 1;
+    }
+    print_factor(answer);
+    return 0;
+}

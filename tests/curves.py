@@ -1,0 +1,251 @@
+"""Random curves and curve files for the tests: inputs only, no answers.
+
+A curve is a list of points (area, value, slope) and a shape code. The curves
+made here are meant to be accepted; whether one is, exact_fractions.py says.
+"""
+
+AREA_MAX = 20000
+GAP_MAX = 2000
+VALUE_MAX = 200000
+SLOPE_MAX = 10000
+POINTS_MAX = 64
+RISING = 1
+CONVEX = 2
+
+
+def curve_file(points, shape):
+    """The bytes of a curve file. Fields are taken modulo their width."""
+    data = bytearray(b'TRF\1\0')
+    data += bytes([shape & 255, len(points) & 255])
+    for point in points:
+        for field in point:
+            data += (field & 0xFFFFFFFF).to_bytes(4, 'little')
+    return bytes(data)
+
+
+def some_count(rng):
+    """2 to 64 points; short curves and the ends more often."""
+    return rng.choice([2, 2, 3, 4, 64, rng.randint(2, 12),
+                       rng.randint(2, POINTS_MAX), rng.randint(2, POINTS_MAX)])
+
+
+def some_gap(rng, style, room):
+    """The distance to the next point, at most `room`."""
+    top = min(GAP_MAX, room)
+    if style == 'tight':
+        return min(top, rng.randint(1, 4))
+    if style == 'limit':
+        return rng.choice([top, top, 1, rng.randint(1, top)])
+    if style == 'even':
+        return min(top, 2 * rng.randint(1, 60))
+    return rng.randint(1, max(1, min(top, 600)))
+
+
+def some_gaps(rng, count):
+    """count - 1 gaps that fit below 20,000 together."""
+    style = rng.choice(['tight', 'limit', 'even', 'loose'])
+    gaps, room = [], AREA_MAX
+    for left in range(count - 1, 0, -1):
+        gap = some_gap(rng, style, room - (left - 1))
+        gaps.append(gap)
+        room -= gap
+    rng.shuffle(gaps)
+    return gaps
+
+
+def placed(rng, total, top):
+    """A start for a list that covers `total`, so that it ends by `top`."""
+    room = top - total
+    return rng.choice([0, room, rng.randint(0, room)])
+
+
+def running(start, steps):
+    sums = [start]
+    for step in steps:
+        sums.append(sums[-1] + step)
+    return sums
+
+
+# ---- rising curves ----
+
+def some_rises(rng, count):
+    """count - 1 differences of values, 0 or more, at most 200,000 together."""
+    style = rng.choice(['tiny', 'tariff', 'steep', 'one', 'flat'])
+    if style == 'one':                   # all of it in one segment
+        rises = [0] * (count - 1)
+        rises[rng.randrange(count - 1)] = rng.choice([1, VALUE_MAX])
+        return rises
+    top = {'tiny': 3, 'tariff': 3000, 'steep': VALUE_MAX, 'flat': 9}[style]
+    rises = [rng.randint(0, top) for _ in range(count - 1)]
+    if style == 'flat':                  # runs of constant segments
+        rises = [rise if rng.random() < 0.3 else 0 for rise in rises]
+    total = sum(rises)
+    if total > VALUE_MAX:
+        rises = [rise * VALUE_MAX // total for rise in rises]
+    return rises
+
+
+def rising_slope(rng, style):
+    if style == 'ends':
+        return rng.choice([0, SLOPE_MAX])
+    if style == 'near':
+        return rng.choice([0, 1, 2, SLOPE_MAX - 1, SLOPE_MAX])
+    if style == 'small':
+        return rng.randint(0, 300)
+    return rng.randint(0, SLOPE_MAX)
+
+
+def rising_curve(rng, count):
+    gaps = some_gaps(rng, count)
+    rises = some_rises(rng, count)
+    areas = running(placed(rng, sum(gaps), AREA_MAX), gaps)
+    values = running(placed(rng, sum(rises), VALUE_MAX), rises)
+    style = rng.choice(['ends', 'near', 'small', 'any'])
+    slopes = [rising_slope(rng, style) for _ in range(count)]
+    for segment, rise in enumerate(rises):
+        if rise == 0:                    # a constant segment has slopes 0
+            slopes[segment] = slopes[segment + 1] = 0
+    return list(zip(areas, values, slopes))
+
+
+# ---- convex curves ----
+
+def convex_step(rng, gap, slope, spread):
+    """A right slope and a rise for a segment with this left slope.
+
+    The chord slope lies strictly between the two, or equals both.
+    """
+    if gap * slope % 100 == 0 and rng.random() < 0.2:
+        return slope, gap * slope // 100            # straight
+    least = gap * slope // 100 + 1       # the least rise above the tangent
+    right = max(slope + rng.randint(1, spread), 100 * least // gap + 1)
+    right = min(right, SLOPE_MAX)
+    most = (gap * right - 1) // 100
+    if most < least:
+        return None
+    return right, rng.choice([least, most, rng.randint(least, most)])
+
+
+def convex_chain(rng, count, style):
+    """Gaps, rises and slopes from the left, until one does not fit."""
+    spread = rng.choice([1, 20, 300, 3000, 20000])
+    slope = rng.choice([-SLOPE_MAX, -spread, 0, rng.randint(-SLOPE_MAX, 9000)])
+    slope = max(slope, -SLOPE_MAX)
+    gaps, rises, slopes = [], [], [slope]
+    height = low = high = 0
+    room = AREA_MAX
+    while len(slopes) < count and room > 0:
+        gap = some_gap(rng, style, room)
+        step = convex_step(rng, gap, slope, spread)
+        if step is None:
+            break
+        height += step[1]
+        low, high = min(low, height), max(high, height)
+        if high - low > VALUE_MAX:
+            break
+        slope = step[0]
+        gaps.append(gap)
+        rises.append(step[1])
+        slopes.append(slope)
+        room -= gap
+    return gaps, rises, slopes
+
+
+def convex_curve(rng, count):
+    """Up to `count` points: as many as fit the limits."""
+    while True:
+        style = rng.choice(['tight', 'limit', 'even', 'loose'])
+        gaps, rises, slopes = convex_chain(rng, count, style)
+        if gaps:
+            break
+    heights = running(0, rises)
+    low, high = min(heights), max(heights)
+    start = placed(rng, high - low, VALUE_MAX) - low
+    areas = running(placed(rng, sum(gaps), AREA_MAX), gaps)
+    return list(zip(areas, running(start, rises), slopes))
+
+
+def gentle_convex_curve(rng, count):
+    """A convex curve of exactly `count` points: small gaps and slopes."""
+    while True:
+        points = convex_curve(rng, count)
+        if len(points) == count:
+            return points
+
+
+def some_curve(rng, shape):
+    count = some_count(rng)
+    if shape == RISING:
+        return rising_curve(rng, count)
+    if rng.random() < 0.3:
+        return gentle_convex_curve(rng, count)
+    return convex_curve(rng, count)
+
+
+# ---- curves at the limits ----
+
+def full_ladder(rng):
+    """Eleven points from 0 to 20,000, each gap 2,000."""
+    rises = [VALUE_MAX // 10] * 10
+    if rng.random() < 0.5:
+        rises = [0] * 9 + [VALUE_MAX]
+        rng.shuffle(rises)
+    slopes = [rng.choice([0, SLOPE_MAX]) for _ in range(11)]
+    for segment, rise in enumerate(rises):
+        if rise == 0:
+            slopes[segment] = slopes[segment + 1] = 0
+    areas = running(0, [GAP_MAX] * 10)
+    return list(zip(areas, running(0, rises), slopes))
+
+
+def limit_rising(rng):
+    gap = rng.choice([1, 2, 3, GAP_MAX - 1, GAP_MAX])
+    rise = rng.choice([1, 2, VALUE_MAX - 1, VALUE_MAX])
+    start = rng.choice([0, AREA_MAX - gap])
+    value = rng.choice([0, VALUE_MAX - rise])
+    slopes = [rng.choice([0, 1, SLOPE_MAX - 1, SLOPE_MAX]) for _ in range(2)]
+    return [(start, value, slopes[0]), (start + gap, value + rise, slopes[1])]
+
+
+def limit_convex(rng):
+    gap = rng.choice([1, 2, 3, GAP_MAX - 1, GAP_MAX])
+    start = rng.choice([0, AREA_MAX - gap])
+    top = gap * SLOPE_MAX // 100
+    rise = rng.choice([0, 1, -1, top - 1, 1 - top, rng.randint(1 - top, top - 1)])
+    value = rng.choice([max(0, -rise), min(VALUE_MAX, VALUE_MAX - rise)])
+    return [(start, value, -SLOPE_MAX), (start + gap, value + rise, SLOPE_MAX)]
+
+
+def limit_curve(rng):
+    """(points, shape) with fields at their limits."""
+    kind = rng.randrange(4)
+    if kind == 0:
+        return full_ladder(rng), RISING
+    if kind == 1:
+        return limit_rising(rng), RISING
+    return limit_convex(rng), CONVEX
+
+
+# ---- areas to read ----
+
+def inner_area(rng, points):
+    """An area of the curve: a point, beside one, a middle, or any."""
+    segment = rng.randrange(len(points) - 1)
+    left, right = points[segment][0], points[segment + 1][0]
+    return rng.choice([left, right, left + 1, right - 1, (left + right) // 2,
+                       rng.randint(left, right), rng.randint(left, right),
+                       rng.randint(points[0][0], points[-1][0])])
+
+
+def outer_area(rng, points):
+    """An area beyond the ends, most of them close to a number's end.
+
+    Some are inside the curve if only their low bits are looked at.
+    """
+    first, last = points[0][0], points[-1][0]
+    inside = rng.randint(first, last)
+    return rng.choice([first - 1, last + 1, 0, AREA_MAX, AREA_MAX + 1,
+                       2**31 - 1, 2**31, 2**32 - 1, 2**32 - 2,
+                       inside + 2**15, inside + 2**16, inside + 2**24,
+                       inside + 2**31, inside + 2**32 - 2**16,
+                       rng.randrange(2**32)]) & 0xFFFFFFFF

@@ -1,0 +1,286 @@
+"""Factor curves through rated points, computed with exact fractions.
+
+Follows document 01 sentence by sentence; speed does not matter.
+Equation numbers in brackets are those of report TR/10/83.
+
+An answer is ('ok', result...) or ('refused', number, place).
+Run as a program it is `ratesheet`: a curve file on standard input.
+"""
+
+import math
+import sys
+from fractions import Fraction
+
+# Document 01, The figures and their units: shape codes.
+RISING = 1
+CONVEX = 2
+
+
+def refused(number, place):
+    return ('refused', number, place)
+
+
+# ---- Document 01, The exact curve ----
+
+def p_over_q(left_value, right_value, h, d0, d1, r, t):
+    """(2.3) to (2.5): the curve as P / Q."""
+    u = h - t
+    p = Fraction(t, h)
+    q = Fraction(u, h)
+    P = (right_value * p**3
+         + (r * right_value - h * d1) * p**2 * q
+         + (r * left_value + h * d0) * p * q**2
+         + left_value * q**3)
+    Q = 1 + (r - 3) * p * q
+    return P / Q
+
+
+def segment_value(areas, values, slopes, shape, segment, area):
+    """The exact curve of one segment that has its shape."""
+    left, right = segment, segment + 1
+    h = areas[right] - areas[left]
+    F = values[right] - values[left]
+    t = area - areas[left]
+    d0 = Fraction(slopes[left], 100)     # the figure over 100
+    d1 = Fraction(slopes[right], 100)
+    c = Fraction(F, h)                   # the chord slope
+    if shape == RISING:
+        if F == 0:
+            return Fraction(values[left])        # (3.11): constant
+        r = 1 + (d0 + d1) / c                    # (3.9)
+    else:
+        if d0 == c == d1:
+            return values[left] + c * t          # the straight line
+        a = d1 - c
+        b = c - d0
+        r = 1 + a / b + b / a                    # (3.21)
+    return p_over_q(values[left], values[right], h, d0, d1, r, t)
+
+
+def segment_read(areas, area):
+    """Document 01, The calls, Read: the last segment whose left area is
+    not above the area read; at the last area, the last segment."""
+    found = 0
+    for segment in range(len(areas) - 1):
+        if areas[segment] <= area:
+            found = segment
+    return found
+
+
+def exact_value(areas, values, slopes, shape, area):
+    """The exact value, a Fraction.
+
+    Only for an accepted curve and an area from its first point's to its
+    last point's (document 01, The words of the third demand).
+    """
+    segment = segment_read(areas, area)
+    return segment_value(areas, values, slopes, shape, segment, area)
+
+
+# ---- Document 01, Rounding ----
+
+def reading(v):
+    """The greatest whole number not above v plus one half."""
+    return math.floor(v + Fraction(1, 2))
+
+
+# ---- Document 01, When a segment has its shape ----
+
+def has_shape(areas, values, slopes, shape, segment):
+    left, right = segment, segment + 1
+    h = areas[right] - areas[left]
+    F = values[right] - values[left]
+    if shape == RISING:
+        if F > 0:
+            return slopes[left] >= 0 and slopes[right] >= 0
+        return F == 0 and slopes[left] == 0 and slopes[right] == 0
+    if h * slopes[left] < 100 * F and h * slopes[right] > 100 * F:
+        return True
+    return h * slopes[left] == 100 * F == h * slopes[right]
+
+
+# ---- Document 01, Refusals and their places ----
+
+def point_fault(areas, values, slopes, point):
+    """Rows 3, 4 and 5 at one point: the number, or None."""
+    area = areas[point]
+    if area > 20000:
+        return 3
+    if point > 0:
+        before = areas[point - 1]
+        if not area > before or area > before + 2000:
+            return 3
+    if values[point] > 200000:
+        return 4
+    if slopes[point] < -10000 or slopes[point] > 10000:
+        return 5
+    return None
+
+
+def check(areas, values, slopes, shape):
+    """Rows 1 to 6. Result: the number of segments."""
+    count = len(areas)
+    if len(values) != count or len(slopes) != count:
+        return refused(1, 0)
+    if count < 2 or count > 64:
+        return refused(1, 0)
+    if shape != RISING and shape != CONVEX:
+        return refused(2, 0)
+    # Rows 3, 4 and 5 together: the first point with any of them decides.
+    for point in range(count):
+        number = point_fault(areas, values, slopes, point)
+        if number is not None:
+            return refused(number, point)
+    # Only when all points pass are segments tried, from the left.
+    for segment in range(count - 1):
+        if not has_shape(areas, values, slopes, shape, segment):
+            return refused(6, segment)
+    return ('ok', count - 1)
+
+
+def outside(areas, area):
+    """Row 7: before the first point's area or beyond the last."""
+    return area < areas[0] or area > areas[-1]
+
+
+# ---- Document 01, The calls ----
+
+def read(areas, values, slopes, shape, area):
+    """Rows 1 to 6, then 7. Result: the factor."""
+    checked = check(areas, values, slopes, shape)
+    if checked[0] == 'refused':
+        return checked
+    if outside(areas, area):
+        return refused(7, 0)
+    return ('ok', reading(exact_value(areas, values, slopes, shape, area)))
+
+
+def pair(areas, values, slopes, shape, form, plan):
+    """Rows 1 to 6, then 7, the form area first.
+
+    Result: the form factor, the plan factor, and the plan factor less
+    the form factor.
+    """
+    checked = check(areas, values, slopes, shape)
+    if checked[0] == 'refused':
+        return checked
+    if outside(areas, form):
+        return refused(7, 0)
+    if outside(areas, plan):
+        return refused(7, 1)
+    form_factor = reading(exact_value(areas, values, slopes, shape, form))
+    plan_factor = reading(exact_value(areas, values, slopes, shape, plan))
+    return ('ok', form_factor, plan_factor, plan_factor - form_factor)
+
+
+def sheet(areas, values, slopes, shape, start, step, entries_count):
+    """Rows 1 to 6, then 8, then 7.
+
+    Result: the number of entries, and the list that every entry holds
+    after the call. After a refusal the lent list holds what it held.
+    """
+    checked = check(areas, values, slopes, shape)
+    if checked[0] == 'refused':
+        return checked
+    if step == 0 or entries_count == 0 or entries_count > 1024:
+        return refused(8, 0)
+    # The true sum, never wrapped.
+    read_at = [start + index * step for index in range(entries_count)]
+    for index in range(entries_count):
+        if outside(areas, read_at[index]):
+            return refused(7, index)
+    factors = [reading(exact_value(areas, values, slopes, shape, area))
+               for area in read_at]
+    return ('ok', entries_count, factors)
+
+
+# ---- Document 01, The curve file ----
+
+def file_fault(data):
+    """Rows 9 and 10: the number, or None."""
+    if len(data) < 7 or data[0:3] != b'TRF':
+        return 9
+    if int.from_bytes(data[3:5], 'little') != 1:
+        return 9
+    count = data[6]
+    if len(data) != 7 + 12 * count:
+        return 10
+    return None
+
+
+def file_lists(data):
+    """The areas, values and slopes of a file that passes rows 9 and 10."""
+    areas, values, slopes = [], [], []
+    for point in range(data[6]):
+        record = data[7 + 12 * point:7 + 12 * point + 12]
+        areas.append(int.from_bytes(record[0:4], 'little'))
+        values.append(int.from_bytes(record[4:8], 'little'))
+        slopes.append(int.from_bytes(record[8:12], 'little', signed=True))
+    return areas, values, slopes
+
+
+def open_file(data, lengths):
+    """Rows 9, 10, 11, then 1 to 6. `lengths`: those of the three lent lists.
+
+    Result: the shape, the count, and the points as (area, value, slope),
+    which stand in the first entries of the lent lists. The entries after
+    them are as found; after a refusal all entries are.
+    """
+    number = file_fault(data)
+    if number is not None:
+        return refused(number, 0)
+    shape, count = data[5], data[6]
+    if any(length < count for length in lengths):
+        return refused(11, 0)
+    areas, values, slopes = file_lists(data)
+    # Row 1 speaks of the file's count alone: these lists have that length.
+    checked = check(areas, values, slopes, shape)
+    if checked[0] == 'refused':
+        return checked
+    return ('ok', shape, count, list(zip(areas, values, slopes)))
+
+
+def desk(data, area, scratch):
+    """Rows 9, 10, 11, 1 to 6, then 7.
+
+    Gives (number, scratch after the call). The number is the factor, or
+    -1,000,000 less the refusal number.
+    """
+    number = file_fault(data)
+    if number is not None:
+        return -1000000 - number, scratch
+    shape, count = data[5], data[6]
+    if len(scratch) < 12 * count:
+        return -1000000 - 11, scratch
+    areas, values, slopes = file_lists(data)
+    # Row 1 speaks of the file's count alone: these lists have that length.
+    answer = read(areas, values, slopes, shape, area)
+    if answer[0] == 'refused':
+        return -1000000 - answer[1], scratch
+    # The point records in file order; the other bytes as found.
+    records = data[7:7 + 12 * count]
+    return answer[1], records + scratch[12 * count:]
+
+
+def ratesheet(data):
+    """The text that the program prints for the bytes of standard input."""
+    # More than 775 bytes is refusal 10 once 9 is passed.
+    if file_fault(data) != 9 and len(data) > 775:
+        return 'refused 10 at 0\n'
+    opened = open_file(data, (64, 64, 64))
+    if opened[0] == 'refused':
+        return 'refused %d at %d\n' % (opened[1], opened[2])
+    shape, count = opened[1], opened[2]
+    areas, values, slopes = file_lists(data)
+    lines = ['shape %d points %d\n' % (shape, count)]
+    # The first area and every 25 tenths after it while not beyond the last.
+    area = areas[0]
+    while area <= areas[-1]:
+        factor = reading(exact_value(areas, values, slopes, shape, area))
+        lines.append('%d %d\n' % (area, factor))
+        area = area + 25
+    return ''.join(lines)
+
+
+if __name__ == '__main__':
+    sys.stdout.write(ratesheet(sys.stdin.buffer.read()))

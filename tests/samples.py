@@ -1,0 +1,147 @@
+"""Tests of samples/: the files, the quoting desk and the ratesheet program.
+
+    samples.py files             make.py writes exactly the files of samples/
+    samples.py quote PROGRAM     the quoting desk on the samples
+    samples.py sheet PROGRAM     ratesheet on the samples and on made-up files
+
+Expected answers are exact_fractions.py's. Exit status 0: all as expected.
+"""
+
+import glob
+import os
+import random
+import re
+import subprocess
+import sys
+import tempfile
+
+import curves
+import exact_fractions as ref
+
+SAMPLES = os.path.join(os.path.dirname(os.path.abspath(__file__)), '..',
+                       'samples')
+failures = 0
+tests = 0
+
+
+def expect(name, got, wanted):
+    global failures, tests
+    tests += 1
+    if got != wanted:
+        failures += 1
+        print('DIFFERENCE in %s: got %r, wanted %r' % (name, got, wanted))
+
+
+def sample_files():
+    """(name, bytes) of every sample."""
+    for path in sorted(glob.glob(os.path.join(SAMPLES, '*.trf'))):
+        with open(path, 'rb') as file:
+            yield os.path.basename(path), file.read()
+
+
+# ---- the files ----
+
+def test_files():
+    stored = dict(sample_files())
+    with tempfile.TemporaryDirectory() as folder:
+        subprocess.run([sys.executable, os.path.join(SAMPLES, 'make.py'),
+                        folder], check=True)
+        expect('names', sorted(os.listdir(folder)), sorted(stored))
+        for name in sorted(stored):
+            with open(os.path.join(folder, name), 'rb') as file:
+                expect(name, file.read(), stored[name])
+    numbers = set()
+    for name, data in stored.items():
+        said = re.match(r'refused-(\d+)-', name)
+        first = ref.ratesheet(data).split('\n')[0].split()
+        if said:
+            numbers.add(int(said.group(1)))
+            expect(name, first[:2], ['refused', said.group(1)])
+        else:
+            expect(name, first[0], 'shape')
+    expect('refusals shown', numbers, {1, 2, 3, 4, 5, 6, 9, 10})
+    dip = ref.ratesheet(stored['dips-below-zero.trf'])
+    expect('dips below zero', ' -' in dip, True)
+    expect('points of points-64', stored['points-64.trf'][6], 64)
+    expect('document 01', stored['document-01.trf'].hex(),
+           '54524601000202' 'f40100001027000000000000'
+           '58020000b036000010270000')
+
+
+# ---- the quoting desk ----
+
+def quoted(data, area):
+    """What quote begins with, and its exit status."""
+    answer, _ = ref.desk(data, area, bytes(3060))
+    if answer < -1000000:
+        return 'refused %d: ' % (-1000000 - answer), 1
+    sign = '-' if answer < 0 else ''
+    whole, part = divmod(abs(answer), 10000)
+    return 'factor %s%d.%04d (%d units)\n' % (sign, whole, part, answer), 0
+
+
+def run(*words, data=None):
+    return subprocess.run(words, input=data, stdout=subprocess.PIPE,
+                          stderr=subprocess.PIPE, timeout=60)
+
+
+def test_quote(program):
+    for name, data in sample_files():
+        path = os.path.join(SAMPLES, name)
+        for area in (0, 1, 499, 500, 550, 1000, 1999, 20000, 2**32 - 1):
+            wanted, status = quoted(data, area)
+            got = run(program, path, str(area))
+            text = got.stdout.decode()
+            expect('quote %s %d' % (name, area),
+                   (text[:len(wanted)], got.returncode, text.count('\n')),
+                   (wanted, status, 1))
+            expect('reason', 'unknown' in text, False)
+    good = os.path.join(SAMPLES, 'document-01.trf')
+    for words in ((), (good,), (good, ''), (good, '-1'), (good, '5x'),
+                  (good, str(2**32)), ('/no/such/file', '1')):
+        got = run(program, *words)
+        expect('quote %r' % (words,), (got.returncode, got.stdout), (2, b''))
+        expect('a message', len(got.stderr) > 0, True)
+
+
+# ---- the program ratesheet ----
+
+def sheet_inputs():
+    yield from sample_files()
+    rng = random.Random('ratesheets 1')
+    for index in range(120):
+        points = curves.some_curve(rng, 1 + index % 2)
+        data = curves.curve_file(points, 1 + index % 2)
+        yield 'curve %d' % index, data
+        if index % 4 == 0:
+            flipped = bytearray(data)
+            flipped[rng.randrange(len(data))] ^= 1 << rng.randrange(8)
+            yield 'flipped %d' % index, bytes(flipped)
+            yield 'cut %d' % index, data[:rng.randrange(len(data))]
+    flat = [(point, 5, 0) for point in range(255)]
+    for count in (0, 1, 2, 63, 64, 65, 255):
+        yield '%d points' % count, curves.curve_file(flat[:count], 1)
+    long_file = curves.curve_file(flat[:64], 1)
+    for more in (1, 12, 5000, 100000):
+        yield '%d bytes more' % more, long_file + bytes(more)
+        yield 'and a wrong mark', b'X' + long_file[1:] + bytes(more)
+
+
+def test_sheet(program):
+    for name, data in sheet_inputs():
+        got = run(program, data=data)
+        expect('ratesheet on ' + name, got.stdout.decode(),
+               ref.ratesheet(data))
+
+
+def main():
+    what, *words = sys.argv[1:]
+    words = [os.path.abspath(word) for word in words]
+    {'files': test_files, 'quote': test_quote,
+     'sheet': test_sheet}[what](*words)
+    print('samples, %s: %d tests, %d failures' % (what, tests, failures))
+    return 1 if failures or not tests else 0
+
+
+if __name__ == '__main__':
+    sys.exit(main())

@@ -1,0 +1,392 @@
+"""Self-check of exact_fractions.py. Expected values are document 01's.
+
+Run: python3 test_reference.py
+"""
+
+import os
+import subprocess
+import sys
+from fractions import Fraction
+
+import exact_fractions as ref
+
+tests = 0
+failures = 0
+
+
+def expect(name, got, wanted):
+    global tests, failures
+    tests += 1
+    if got != wanted:
+        failures += 1
+        print('FAILED %s: got %r, wanted %r' % (name, got, wanted))
+
+
+def lists(points):
+    """Points (area, value, slope) as three lists."""
+    return ([point[0] for point in points], [point[1] for point in points],
+            [point[2] for point in points])
+
+
+def curve_file(points, shape):
+    data = b'TRF' + bytes([1, 0, shape, len(points)])
+    for area, value, slope in points:
+        data += area.to_bytes(4, 'little') + value.to_bytes(4, 'little')
+        data += slope.to_bytes(4, 'little', signed=True)
+    return data
+
+
+def check(points, shape):
+    return ref.check(*lists(points), shape)
+
+
+def read(points, shape, area):
+    return ref.read(*lists(points), shape, area)
+
+
+def pair(points, shape, form, plan):
+    return ref.pair(*lists(points), shape, form, plan)
+
+
+def sheet(points, shape, start, step, entries_count):
+    return ref.sheet(*lists(points), shape, start, step, entries_count)
+
+
+def refused(number, place):
+    return ('refused', number, place)
+
+
+def flat(count, gap=1):
+    """A constant curve of shape 1, value 5 (F = 0 and slopes 0)."""
+    return [(point * gap, 5, 0) for point in range(count)]
+
+
+STEEP = [(500, 10000, 0), (600, 14000, 10000)]
+K5 = [(500, 10000, 2000), (600, 14000, 6000)]
+K6 = [(0, 0, 50), (2, 1, 50)]
+K7 = [(0, 0, -300), (2, 0, 300)]
+K8 = [(0, 0, 0), (2, 1, 100)]
+K9 = [(0, 0, 100), (100, 100, 200)]
+K10 = [(0, 5, 0), (10, 5, 1)]
+
+# Document 01, The curve file: the 31 bytes and what is printed.
+FILE_31 = bytes.fromhex('54 52 46 01 00 02 02'
+                        'F4 01 00 00 10 27 00 00 00 00 00 00'
+                        '58 02 00 00 B0 36 00 00 10 27 00 00')
+PRINTED_31 = ('shape 2 points 2\n'
+              '500 10000\n'
+              '525 10182\n'
+              '550 10800\n'
+              '575 12000\n'
+              '600 14000\n')
+
+LARGEST = 2**32 - 1
+
+
+def test_readings_to_prove():
+    """Document 01, Readings to prove: K1 to K10."""
+    expect('K1', read(STEEP, 1, 550), ('ok', 10889))
+    expect('K2', read(STEEP, 1, 525), ('ok', 10229))
+    expect('K3', read(STEEP, 2, 550), ('ok', 10800))
+    expect('K4', read(STEEP, 2, 525), ('ok', 10182))
+    expect('K5', read(K5, 1, 501), ('ok', 10020))
+    expect('K6', read(K6, 2, 1), ('ok', 1))
+    expect('K7', read(K7, 2, 1), ('ok', -1))
+    expect('K8', read(K8, 2, 1), ('ok', 0))
+    expect('K9', read(K9, 2, 1), refused(6, 0))
+    expect('K9 check', check(K9, 2), refused(6, 0))
+    expect('K10', read(K10, 1, 1), refused(6, 0))
+    expect('K10 check', check(K10, 1), refused(6, 0))
+
+
+def test_also_run():
+    """Document 01, Readings to prove: the paragraph "Also run"."""
+    expect('K1 at 499', read(STEEP, 1, 499), refused(7, 0))
+    expect('K1 at 601', read(STEEP, 1, 601), refused(7, 0))
+    expect('K1 at 500', read(STEEP, 1, 500), ('ok', 10000))
+    expect('K1 at 600', read(STEEP, 1, 600), ('ok', 14000))
+    expect('gap 2000', check(flat(2, 2000), 1), ('ok', 1))
+    expect('gap 2001', check(flat(2, 2001), 1), refused(3, 1))
+    expect('64 points', check(flat(64), 1), ('ok', 63))
+    expect('65 points', check(flat(65), 1), refused(1, 0))
+    expect('1,024 entries', sheet(flat(2, 2000), 1, 0, 1, 1024),
+           ('ok', 1024, [5] * 1024))
+    expect('1,025 entries', sheet(flat(2, 2000), 1, 0, 1, 1025), refused(8, 0))
+
+
+def test_rounding_and_exact_values():
+    """Document 01, Rounding and The exact curve."""
+    expect('-1.5 reads -1', ref.reading(Fraction(-3, 2)), -1)
+    expect('0.5 reads 1', ref.reading(Fraction(1, 2)), 1)
+    expect('whole', ref.reading(Fraction(-7)), -7)
+    expect('below a half', ref.reading(Fraction(499, 1000)), 0)
+    expect('K6 exact', ref.exact_value(*lists(K6), 2, 1), Fraction(1, 2))
+    expect('K7 exact', ref.exact_value(*lists(K7), 2, 1), Fraction(-3, 2))
+    constant = ref.exact_value(*lists(flat(2)), 1, 0)
+    expect('a fraction', type(constant), Fraction)
+    # At a rated point the segments on both sides give the point's value.
+    rising = [(0, 10, 200), (7, 90, 300), (20, 100, 5)]
+    convex = [(0, 90, -2000), (7, 10, -100), (20, 100, 900)]
+    for shape, points in ((1, rising), (2, convex)):
+        expect('two segments', check(points, shape), ('ok', 2))
+        for segment, point in ((0, 0), (0, 1), (1, 1), (1, 2)):
+            got = ref.segment_value(*lists(points), shape, segment,
+                                    points[point][0])
+            expect('rated point %d' % point, got, points[point][1])
+    # No factor is below -200,000: the deepest dip.
+    dip = read([(0, 0, -10000), (2000, 0, 10000)], 2, 1000)
+    expect('dip is read', dip[0], 'ok')
+    expect('dip', -200000 <= dip[1] < 0, True)
+
+
+def test_segment_read():
+    """Document 01, The calls: the segment that Read takes, and row 7."""
+    three = flat(3, 10)
+    expect('second segment', read(three, 1, 15), ('ok', 5))
+    expect('last area', read(three, 1, 20), ('ok', 5))
+    expect('beyond the last', read(three, 1, 21), refused(7, 0))
+    expect('largest', read(three, 1, LARGEST), refused(7, 0))
+    # K1 behind a constant segment.
+    behind = [(400, 10000, 0)] + STEEP
+    for area, factor in ((450, 10000), (500, 10000), (550, 10889),
+                         (600, 14000)):
+        expect('behind, %d' % area, read(behind, 1, area), ('ok', factor))
+    areas = [10, 20, 30]
+    for area, segment in ((10, 0), (19, 0), (20, 1), (29, 1), (30, 1)):
+        expect('segment at %d' % area, ref.segment_read(areas, area), segment)
+
+
+def test_has_shape():
+    """Document 01, When a segment has its shape."""
+    cases = [
+        ('rising', 1, (0, 0, 0), (10, 1, 0), True),
+        ('rising, left slope below 0', 1, (0, 0, -1), (10, 1, 0), False),
+        ('rising, right slope below 0', 1, (0, 0, 0), (10, 1, -1), False),
+        ('constant', 1, (0, 5, 0), (10, 5, 0), True),
+        ('constant, left slope', 1, (0, 5, 1), (10, 5, 0), False),
+        ('falling', 1, (0, 5, 0), (10, 4, 0), False),
+        ('convex', 2, (500, 0, 99), (600, 100, 101), True),
+        ('straight', 2, (500, 0, 100), (600, 100, 100), True),
+        ('left equal only', 2, (500, 0, 100), (600, 100, 101), False),
+        ('right equal only', 2, (500, 0, 99), (600, 100, 100), False),
+        ('concave', 2, (500, 0, 101), (600, 100, 99), False),
+        ('both slopes above', 2, (500, 0, 101), (600, 100, 102), False),
+        ('both slopes below', 2, (500, 0, 98), (600, 100, 99), False),
+        ('convex, falling', 2, (500, 100, -101), (600, 0, -99), True),
+    ]
+    for name, shape, left, right, wanted in cases:
+        expect(name, check([left, right], shape),
+               ('ok', 1) if wanted else refused(6, 0))
+
+
+def test_rows_1_to_6():
+    """Document 01, Refusals and their places: each row and its place."""
+    expect('0 points', check([], 1), refused(1, 0))
+    expect('1 point', check([(0, 5, 0)], 1), refused(1, 0))
+    expect('2 points', check(flat(2), 1), ('ok', 1))
+    expect('areas longer', ref.check([0, 1, 2], [5, 5], [0, 0], 1),
+           refused(1, 0))
+    expect('values longer', ref.check([0, 1], [5, 5, 5], [0, 0], 1),
+           refused(1, 0))
+    expect('slopes shorter', ref.check([0, 1], [5, 5], [0], 1), refused(1, 0))
+    for shape in (0, 3, 255):
+        expect('shape %d' % shape, check(flat(2), shape), refused(2, 0))
+    ok, big = (19999, 5, 0), (20001, 5, 0)
+    expect('area 20,000', check([ok, (20000, 5, 0)], 1), ('ok', 1))
+    expect('area 20,001', check([ok, big], 1), refused(3, 1))
+    expect('first area', check([big, (20002, 5, 0)], 1), refused(3, 0))
+    expect('equal areas', check([(9, 5, 0), (9, 5, 0)], 1), refused(3, 1))
+    expect('area falls', check([(9, 5, 0), (8, 5, 0)], 1), refused(3, 1))
+    expect('largest area', check([ok, (LARGEST, 5, 0)], 1), refused(3, 1))
+    expect('value 200,000', check([(0, 200000, 0), (1, 200000, 0)], 1),
+           ('ok', 1))
+    expect('value 200,001', check([(0, 5, 0), (1, 200001, 0)], 1),
+           refused(4, 1))
+    expect('slope ends', check([(0, 5, -10000), (1, 5, 10000)], 2), ('ok', 1))
+    expect('slope 10,001', check([(0, 5, 0), (1, 5, 10001)], 2), refused(5, 1))
+    expect('slope -10,001', check([(0, 5, -10001), (1, 5, 0)], 2),
+           refused(5, 0))
+    expect('least slope', check([(0, 5, -2**31), (1, 5, 0)], 2), refused(5, 0))
+    expect('no shape at 2', check(flat(3) + [(3, 4, 0), (4, 3, 0)], 1),
+           refused(6, 2))
+
+
+def test_order_of_rows():
+    """Document 01, Refusals and their places: the order of trial."""
+    expect('1 before 2', check(flat(65), 9), refused(1, 0))
+    expect('2 before 3', check([(9, 5, 0), (8, 5, 0)], 9), refused(2, 0))
+    bad_3 = (30000, 300000, 20000)
+    bad_4 = (1, 300000, 20000)
+    bad_5 = (1, 5, 20000)
+    start = (0, 5, 0)
+    expect('3 before 4 and 5', check([start, bad_3], 1), refused(3, 1))
+    expect('4 before 5', check([start, bad_4], 1), refused(4, 1))
+    expect('point 1 has 5, point 2 has 3', check([start, bad_5, bad_3], 1),
+           refused(5, 1))
+    expect('point 1 has 4, point 2 has 3', check([start, bad_4, bad_3], 1),
+           refused(4, 1))
+    expect('point 1 has 5, point 2 has 4',
+           check([start, bad_5, (2, 300000, 0)], 1), refused(5, 1))
+    expect('points before segments',
+           check([start, (1, 4, 0), (2, 5, 10001)], 1), refused(5, 2))
+    expect('first segment', check([start, (1, 4, 0), (2, 3, 0)], 1),
+           refused(6, 0))
+    expect('read, 6 before 7', read(K9, 2, 101), refused(6, 0))
+    expect('pair, 6 before 7', pair(K9, 2, 50, 101), refused(6, 0))
+    expect('sheet, 6 before 8', sheet(K9, 2, 0, 0, 0), refused(6, 0))
+    expect('sheet, 8 before 7', sheet(STEEP, 1, 499, 1, 1025), refused(8, 0))
+
+
+def test_pair():
+    """Document 01, The calls: Pair."""
+    expect('pair', pair(STEEP, 1, 525, 550), ('ok', 10229, 10889, 660))
+    expect('pair, negative', pair(STEEP, 2, 550, 525),
+           ('ok', 10800, 10182, -618))
+    expect('pair at the ends', pair(STEEP, 1, 500, 600),
+           ('ok', 10000, 14000, 4000))
+    expect('form outside', pair(STEEP, 1, 499, 550), refused(7, 0))
+    expect('plan outside', pair(STEEP, 1, 550, 601), refused(7, 1))
+    expect('form first', pair(STEEP, 1, 601, 499), refused(7, 0))
+
+
+def test_sheet():
+    """Document 01, The calls: Sheet."""
+    expect('sheet', sheet(STEEP, 2, 500, 25, 5),
+           ('ok', 5, [10000, 10182, 10800, 12000, 14000]))
+    expect('one entry', sheet(STEEP, 1, 550, LARGEST, 1), ('ok', 1, [10889]))
+    expect('step 0', sheet(STEEP, 1, 550, 0, 1), refused(8, 0))
+    expect('0 entries', sheet(STEEP, 1, 550, 1, 0), refused(8, 0))
+    expect('start before', sheet(STEEP, 1, 499, 1, 5), refused(7, 0))
+    expect('entry 5 beyond', sheet(STEEP, 1, 500, 25, 7), refused(7, 5))
+    # Wrapped to 32 bits the second area would be 525.
+    expect('true sum', sheet(STEEP, 1, 550, 2**32 - 25, 2), refused(7, 1))
+
+
+def test_file_faults():
+    """Document 01, The curve file: rows 9 and 10, in both file calls."""
+    long_file = curve_file(flat(2), 1) + b'\0'
+    cases = [
+        ('empty', b'', 9),
+        ('6 bytes', FILE_31[:6], 9),
+        ('mark, byte 0', b'tRF' + FILE_31[3:], 9),
+        ('mark, byte 2', b'TRf' + FILE_31[3:], 9),
+        ('version 2', b'TRF\2\0' + FILE_31[5:], 9),
+        ('version 257', b'TRF\1\1' + FILE_31[5:], 9),
+        ('30 bytes', FILE_31[:30], 10),
+        ('32 bytes', long_file, 10),
+        ('7 bytes, count 2', FILE_31[:7], 10),
+        ('9 before 10', b'TRF\2\0' + FILE_31[5:30], 9),
+    ]
+    for name, data, number in cases:
+        # The lists and the scratch are too short: 9 and 10 come before 11.
+        expect('open ' + name, ref.open_file(data, (0, 0, 0)),
+               refused(number, 0))
+        expect('desk ' + name, ref.desk(data, 550, b'ab'),
+               (-1000000 - number, b'ab'))
+        expect('ratesheet ' + name, ref.ratesheet(data),
+               'refused %d at 0\n' % number)
+
+
+def test_open():
+    """Document 01, The calls: Open."""
+    opened = ('ok', 2, 2, [(500, 10000, 0), (600, 14000, 10000)])
+    expect('open', ref.open_file(FILE_31, (2, 2, 2)), opened)
+    expect('open, longer lists', ref.open_file(FILE_31, (2, 3, 64)), opened)
+    for lengths in ((1, 2, 2), (2, 1, 2), (2, 2, 1)):
+        expect('open %r' % (lengths,), ref.open_file(FILE_31, lengths),
+               refused(11, 0))
+    convex = curve_file(K7, 2)
+    expect('open, slope below 0', ref.open_file(convex, (2, 2, 2)),
+           ('ok', 2, 2, K7))
+    file_65 = curve_file(flat(65), 1)
+    expect('open, 11 before 1', ref.open_file(file_65, (65, 64, 65)),
+           refused(11, 0))
+    expect('open, 65 points', ref.open_file(file_65, (65, 65, 65)),
+           refused(1, 0))
+    expect('open, 0 points', ref.open_file(curve_file([], 1), (0, 0, 0)),
+           refused(1, 0))
+    expect('open, 1 point', ref.open_file(curve_file(flat(1), 1), (2, 2, 2)),
+           refused(1, 0))
+
+
+def bad_files():
+    """Files for each of rows 2 to 6, with the number and the place."""
+    start = (0, 5, 0)
+    return [
+        (curve_file(flat(2), 3), 2, 0),
+        (curve_file([start, (LARGEST, 5, 0)], 1), 3, 1),
+        (curve_file([start, (2**24 + 1, 5, 0)], 1), 3, 1),
+        (curve_file([start, (1, LARGEST, 0)], 1), 4, 1),
+        (curve_file([start, (1, 2**24 + 5, 0)], 1), 4, 1),
+        (curve_file([start, (1, 5, -2**31)], 1), 5, 1),
+        (curve_file(K9, 2), 6, 0),
+        (curve_file(flat(2) + [(2, 4, 0)], 1), 6, 1),
+    ]
+
+
+def test_bad_files():
+    """Rows 2 to 6 by Open, the desk reading and ratesheet."""
+    scratch = bytes(range(40))
+    for data, number, place in bad_files():
+        expect('open, %d' % number, ref.open_file(data, (9, 9, 9)),
+               refused(number, place))
+        # Area 9,999 is outside: 2 to 6 come before 7.
+        expect('desk, %d' % number, ref.desk(data, 9999, scratch),
+               (-1000000 - number, scratch))
+        expect('ratesheet, %d' % number, ref.ratesheet(data),
+               'refused %d at %d\n' % (number, place))
+
+
+def test_desk():
+    """Document 01, The calls: the desk reading."""
+    scratch = bytes(range(100, 130))
+    after = FILE_31[7:] + scratch[24:]
+    expect('desk', ref.desk(FILE_31, 550, scratch), (10800, after))
+    expect('desk, scratch of 24', ref.desk(FILE_31, 525, bytes(24)),
+           (10182, FILE_31[7:]))
+    expect('desk, below 0', ref.desk(curve_file(K7, 2), 1, bytes(24))[0], -1)
+    expect('desk, scratch of 23', ref.desk(FILE_31, 550, bytes(23)),
+           (-1000011, bytes(23)))
+    expect('desk, 499', ref.desk(FILE_31, 499, scratch), (-1000007, scratch))
+    expect('desk, 601', ref.desk(FILE_31, 601, scratch), (-1000007, scratch))
+    expect('desk, largest', ref.desk(FILE_31, LARGEST, scratch),
+           (-1000007, scratch))
+    file_65 = curve_file(flat(65), 1)
+    expect('desk, 11 before 1', ref.desk(file_65, 0, bytes(779)),
+           (-1000011, bytes(779)))
+    expect('desk, 65 points', ref.desk(file_65, 0, bytes(780)),
+           (-1000001, bytes(780)))
+    expect('desk, 0 points', ref.desk(curve_file([], 1), 0, b''),
+           (-1000001, b''))
+
+
+def test_ratesheet():
+    """Document 01, The curve file: the program ratesheet."""
+    expect('31 bytes', ref.ratesheet(FILE_31), PRINTED_31)
+    expect('file as written', curve_file(STEEP, 2), FILE_31)
+    expect('not beyond the last', ref.ratesheet(curve_file(flat(2, 60), 1)),
+           'shape 1 points 2\n0 5\n25 5\n50 5\n')
+    expect('775 bytes', ref.ratesheet(curve_file(flat(64), 1)),
+           'shape 1 points 64\n0 5\n25 5\n50 5\n')
+    file_65 = curve_file(flat(65), 1)
+    expect('787 bytes', ref.ratesheet(file_65), 'refused 10 at 0\n')
+    expect('787 bytes, wrong mark', ref.ratesheet(b'X' + file_65[1:]),
+           'refused 9 at 0\n')
+    expect('0 points', ref.ratesheet(curve_file([], 1)), 'refused 1 at 0\n')
+    program = os.path.join(os.path.dirname(os.path.abspath(ref.__file__)),
+                           'exact_fractions.py')
+    run = subprocess.run([sys.executable, program], input=FILE_31,
+                         stdout=subprocess.PIPE)
+    expect('program', run.stdout.decode(), PRINTED_31)
+
+
+def main():
+    for name, function in sorted(globals().items()):
+        if name.startswith('test_'):
+            function()
+    print('%d tests, %d failures' % (tests, failures))
+    return 1 if failures or tests == 0 else 0
+
+
+if __name__ == '__main__':
+    sys.exit(main())
