@@ -70,6 +70,10 @@ def limits(rng):
     yield from readings(rng, points, shape, 10)
 
 
+def dips(rng):
+    yield from readings(rng, curves.dipping_curve(rng), 2, 5)
+
+
 def half_curve(rng):
     """A short curve likely to have exact halves (and quarters)."""
     gap = 2 * rng.choice([1, 1, 2, 2, 4, 5, 10, 50, 100, 500])
@@ -289,6 +293,7 @@ KINDS = [
     (rising, 'rising curves', 65000),
     (convex, 'convex curves', 65000),
     (limits, 'fields at the limits', 16000),
+    (dips, 'convex curves close to zero', 8000),
     (halves, 'exact halves', 8000),
     (beside_halves, 'close to a half', 6000),
     (one_past, 'one field past its limit', 14000),

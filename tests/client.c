@@ -30,7 +30,8 @@ typedef struct {
 
 static char names[KINDS_MAX][256];
 static int kinds;
-static unsigned long ran[KINDS_MAX], factors, refusals[16], total, failures;
+static unsigned long ran[KINDS_MAX], total, failures;
+static unsigned long factors, below_zero, refusals[16];
 static int use_heap;
 static test_case current;
 
@@ -146,6 +147,7 @@ static void on_trap(int sig)
 
 /* ---- one case ---- */
 
+/* The first few differences; the whole file of the first. */
 static void show(const test_case *c, int32_t got, const char *what, long at)
 {
     if (++failures > SHOWN)
@@ -154,10 +156,10 @@ static void show(const test_case *c, int32_t got, const char *what, long at)
     if (at >= 0)
         printf(" at byte %ld", at);
     printf("\n  answer %ld, wanted %ld; area %lu, scratch of %lu bytes\n"
-           "  file of %lu bytes:", (long)got, (long)c->wanted,
+           "  file of %lu bytes", (long)got, (long)c->wanted,
            (unsigned long)c->area, (unsigned long)c->scratch_len,
            (unsigned long)c->file_len);
-    for (uint32_t i = 0; i < c->file_len; i++)
+    for (uint32_t i = 0; failures == 1 && i < c->file_len; i++)
         printf("%s%02X", i >= 7 && (i - 7) % 12 == 0 ? ", " : " ", c->file[i]);
     printf("\n");
 }
@@ -182,9 +184,10 @@ static void tally(const test_case *c, int32_t got)
 {
     total++;
     ran[c->kind]++;
-    if (!DESK_IS_REFUSED(got))
+    if (!DESK_IS_REFUSED(got)) {
         factors++;
-    else if (DESK_REFUSAL(got) < 16)
+        below_zero += got < 0;
+    } else if (DESK_REFUSAL(got) < 16)
         refusals[DESK_REFUSAL(got)]++;
 }
 
@@ -227,7 +230,8 @@ static void report(void)
 {
     for (int k = 0; k < kinds; k++)
         printf("  %8lu  %s\n", ran[k], names[k]);
-    printf("  %8lu  in all: %lu factors; refusals", total, factors);
+    printf("  %8lu  in all: %lu factors, %lu of them below zero;\n"
+           "            refusals", total, factors, below_zero);
     for (int n = 1; n <= 11; n++)
         if (n != 8)
             printf(" %d: %lu%s", n, refusals[n], n < 11 ? "," : "\n");

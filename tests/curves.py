@@ -226,6 +226,17 @@ def limit_curve(rng):
     return limit_convex(rng), CONVEX
 
 
+def dipping_curve(rng):
+    """Two low points, the curve falling from the left and to the right."""
+    gap = rng.choice([2, 3, 5, rng.randint(2, GAP_MAX), GAP_MAX])
+    top = rng.choice([300, SLOPE_MAX])
+    left, right = -rng.randint(100, top), rng.randint(100, top)
+    least, most = gap * left // 100 + 1, (gap * right - 1) // 100
+    rise = rng.randint(max(least, -40), min(most, 40))
+    value = max(0, -rise) + rng.choice([0, 0, 1, 7])
+    return [(0, value, left), (gap, value + rise, right)]
+
+
 # ---- areas to read ----
 
 def inner_area(rng, points):

@@ -109,7 +109,7 @@ def test_quote(program):
 def sheet_inputs():
     yield from sample_files()
     rng = random.Random('ratesheets 1')
-    for index in range(120):
+    for index in range(80):
         points = curves.some_curve(rng, 1 + index % 2)
         data = curves.curve_file(points, 1 + index % 2)
         yield 'curve %d' % index, data
