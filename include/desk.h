@@ -61,7 +61,7 @@ extern "C" {
  *                         of the file are needed
  *
  * Neither pointer may be null, even with length 0. Each must be good for its
- * length, and the two must not overlap. Any contents are allowed.
+ * length, and the two must not overlap. The bytes may be anything.
  *
  * Returns the factor in ten-thousandths (10889 is 1.0889), from -200,000 to
  * 200,000; a convex curve may dip below zero. Or returns -1,000,000 less the

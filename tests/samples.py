@@ -14,6 +14,7 @@ import re
 import subprocess
 import sys
 import tempfile
+import time
 
 import curves
 import exact_fractions as ref
@@ -127,10 +128,27 @@ def sheet_inputs():
         yield 'and a wrong mark', b'X' + long_file[1:] + bytes(more)
 
 
+def run_slowly(program, data):
+    """The input comes in pieces, as from a slow pipe."""
+    process = subprocess.Popen([program], stdin=subprocess.PIPE,
+                               stdout=subprocess.PIPE, bufsize=0)
+    for start in range(0, len(data), 300):
+        for piece in (data[start:start + 5], data[start + 5:start + 300]):
+            time.sleep(0.02)
+            try:
+                process.stdin.write(piece)
+            except BrokenPipeError:     # it has seen enough
+                break
+    return process.communicate(timeout=60)[0]
+
+
 def test_sheet(program):
     for name, data in sheet_inputs():
         got = run(program, data=data)
         expect('ratesheet on ' + name, got.stdout.decode(),
+               ref.ratesheet(data))
+    for name, data in sample_files():
+        expect('slowly, ' + name, run_slowly(program, data).decode(),
                ref.ratesheet(data))
 
 
