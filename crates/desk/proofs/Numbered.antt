@@ -9,7 +9,7 @@ use lib.IntN.{ℤ}
 use Rattle.curve.specs.Answer.{Answer, gives, refused, row, _then_}
 use Rattle.curve.specs.Points.{Point, Segment, Shape}
 use Rattle.curve.specs.Shape.{has-shape}
-use Rattle.curve.specs.Check.{bad-lengths, bad-code, bad-area, bad-value, bad-slope, point-rows, segment-rows, curve-rows}
+use Rattle.curve.specs.Check.{bad-area, bad-value, bad-slope, point-rows, segment-rows, curve-rows}
 use Rattle.curve.specs.Read.{outside, read-answer}
 use Rattle.file.specs.Layout.{count}
 use Rattle.file.specs.Open.{bad-head, bad-size, head-rows}

@@ -1,19 +1,15 @@
 -- `desk::desk_reading` meets its contract: rows 9 and 10, row 11, rows 1 to 7 of the points, or the factor and the records copied; a
 -- refusal leaves the scratch as it was.
 -- Assumes nothing.
-use mathlib.Core.Path.{_≡_, refl, sym, _∙_, ap, subst}
-use mathlib.Core.Bool.{true, false}
-use mathlib.Core.List.{List, _++_}
-use Prim.Native.Nat.{ℕ, _+_, _*_, _-_, _≤_}
+use mathlib.Core.Path.{_≡_, sym, _∙_, ap, subst}
+use mathlib.Core.List.{List}
+use Prim.Native.Nat.{ℕ, _+_, _*_, _-_}
 use native.Mathlib.Omega.{arith}
 use borrow.Author.Needs.{needs}
 use borrow.Author.Tests.{lt-ltb, le-ltb}
-use lib.Dec.{ltb}
 use lib.IntN.{ℤ}
-use lib.ListN.{length, take, drop}
-use lib.Seq.{take-length}
+use lib.ListN.{length}
 use mir.Syntax.{w32}
-use mir.Val.{SFits}
 use mir.Facts.{toZ-ofZ}
 use Rattle.curve.specs.Answer.{Answer, gives, refused, row, _then_}
 use Rattle.curve.specs.Read.{read-answer}
@@ -22,7 +18,7 @@ use Rattle.curve.proofs.Faults.{a-fault, no-fault}
 use Rattle.file.specs.Layout.{shape-code, count, areas-of, values-of, slopes-of}
 use Rattle.file.specs.Open.{head-rows}
 use Rattle.file.proofs.Heads.{head-passed}
-use Rattle.desk.specs.Desk.{desk-answer, desk-number, point-records, desk-scratch}
+use Rattle.desk.specs.Desk.{desk-answer, desk-number, desk-scratch}
 use Rattle.desk.proofs.Numbered.{Numbered, in-head, in-reading}
 use Rattle.desk.proofs.Records.{body-fits, body-copied}
 use Rattle.desk.proofs.desk_reading.Statement.{statement}

@@ -1,13 +1,10 @@
 -- `file::check_points` meets its contract.
 -- Assumes nothing.
-use mathlib.Core.Path.{_≡_, refl, sym, _∙_, ap}
-use Prim.Native.Nat.{_<_}
-use native.Mathlib.Omega.{arith}
+use mathlib.Core.Path.{sym}
 use borrow.Author.Needs.{needs}
 use Rattle.curve.specs.Answer.{_then_}
 use Rattle.curve.specs.Check.{checked}
 use Rattle.curve.specs.Calls.{checked-answer}
-use Rattle.file.specs.Layout.{area-at, value-at, slope-at}
 use Rattle.file.proofs.Filling.{front, front-length}
 use Rattle.file.proofs.Heads.{too-many}
 use Rattle.file.proofs.check_points.Statement.{statement}

@@ -5,7 +5,6 @@ use mathlib.Core.Bool.{false}
 use native.Mathlib.Omega.{arith}
 use borrow.Author.Needs.{needs}
 use borrow.Author.Tests.{eq-eqb, ne-eqb}
-use lib.Dec.{eqb}
 use Rattle.curve.specs.Answer.{row, _then_}
 use Rattle.curve.specs.Calls.{fault-answer}
 use Rattle.file.specs.Open.{bad-head, bad-size, head-rows}

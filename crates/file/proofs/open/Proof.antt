@@ -4,16 +4,16 @@
 use mathlib.Core.Path.{_≡_, refl, sym, _∙_, ap}
 use mathlib.Core.Bool.{false}
 use mathlib.Core.List.{List}
-use Prim.Native.Nat.{ℕ, _+_, _*_, _-_, _≤_}
+use Prim.Native.Nat.{ℕ, _+_, _*_, _-_}
 use native.Mathlib.Omega.{arith}
 use borrow.Author.Needs.{needs}
 use lib.ListN.{length}
-use Rattle.curve.specs.Answer.{Answer, gives, refused, row, _then_}
-use Rattle.curve.specs.Check.{curve-rows, checked}
+use Rattle.curve.specs.Answer.{Answer, gives, row, _then_}
+use Rattle.curve.specs.Check.{checked}
 use Rattle.curve.specs.Calls.{checked-answer}
 use Rattle.curve.proofs.Accepted.{then-first}
 use Rattle.curve.proofs.Faults.{a-fault, no-fault}
-use Rattle.file.specs.Layout.{shape-code, count, areas-of, values-of, slopes-of}
+use Rattle.file.specs.Layout.{shape-code, count}
 use Rattle.file.specs.Open.{head-rows, list-rows, short-list, open-answer, open-list}
 use Rattle.file.specs.Calls.{opened-answer}
 use Rattle.file.proofs.Heads.{head-passed, room, refused-before}
