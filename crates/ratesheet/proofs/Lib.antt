@@ -1,0 +1,2 @@
+-- Proofs of `ratesheet`.
+pub mod Opened

@@ -1,0 +1,79 @@
+-- `ratesheet::print_curve` is safe: an accepted curve has its first area not beyond its last, and the last is at most 20,000.
+-- Assumes nothing.
+use mathlib.Core.Path.{_≡_, sym, ap}
+use mathlib.Core.List.{List}
+use Prim.Native.Nat.{ℕ, zero, suc, _-_, _≤_, _<_}
+use native.Mathlib.Nat.{le-refl}
+use native.Mathlib.Omega.{arith}
+use borrow.Author.Needs.{needs}
+use lib.IntN.{ℤ}
+use lib.ListN.{length, getD}
+use lib.Seq.{length-take-le}
+use Rattle.curve.specs.Check.{Accepted}
+use Rattle.curve.proofs.Accepted.{lengths, view}
+use Rattle.ratesheet.proofs.print_curve.Statement.{statement}
+use Rattle.ratesheet.proofs.print_curve.Tie as tie
+
+module _ {areas values : List ℕ} {slopes : List ℤ} {code : ℕ} (k : Accepted areas values slopes code) where
+  first-least : (i : ℕ) → i < length areas → getD areas 0 0 ≤ getD areas i 0
+  first-least zero h = le-refl (getD areas 0 0)
+  first-least (suc i) h =
+      let g = view k .good-at i h .ordered in
+      let m = first-least i (omega arith) in
+      omega arith
+
+  last : getD areas (length areas - 1) 0 ≤ 20000
+  last =
+      let n = lengths k .least in
+      let g = view k .good-at (length areas - 2) (omega arith) .limit in
+      let same = ap (λ (i : ℕ). getD areas i 0) (next (length areas) n) in
+      omega arith
+    where
+      next : (n : ℕ) → 2 ≤ n → suc (n - 2) ≡ n - 1
+      next n h = omega arith
+
+shared-slice-read-first : tie.Need-shared-slice-read-first
+shared-slice-read-first c = omega (arith, lengths (c .before .before .before .pre) .least)
+
+sub-entries : tie.Need-sub-entries
+sub-entries c = omega (arith, lengths (c .before .before .before .pre) .least)
+
+mul-entries : tie.Need-mul-entries
+mul-entries c = search needs
+
+shared-slice-read-entries : tie.Need-shared-slice-read-entries
+shared-slice-read-entries c = omega (arith, lengths (c .before .before .before .before .pre) .least)
+
+entries-requires : tie.Need-entries-requires
+entries-requires c κs =
+    let k = c .before .before .before .before .pre in
+    (first-least k _ (let n = lengths k .least in omega arith), last k)
+
+few : (c : tie.After-entries) → c .entries .result ≤ 801
+few c = omega (arith, c .entries .ensures, last (c .before .before .before .before .before .pre))
+
+array-borrow-prefix-factors : tie.Need-array-borrow-prefix-factors
+array-borrow-prefix-factors c = few c
+
+slice-aggregate-print-sheet : tie.Need-slice-aggregate-print-sheet
+slice-aggregate-print-sheet c = sym (length-take-le _ _ (few (c .before)))
+
+print-sheet-requires : tie.Need-print-sheet-requires
+print-sheet-requires c κs = rw (length-take-le _ _ (few (c .before))) (few (c .before))
+
+returns : tie.Need-returns
+returns c = search needs
+
+pub print-curve-spec : {M : Type 1} → statement M
+print-curve-spec =
+    tie.close
+    (tie.spec
+    shared-slice-read-first
+    sub-entries
+    mul-entries
+    shared-slice-read-entries
+    entries-requires
+    array-borrow-prefix-factors
+    slice-aggregate-print-sheet
+    print-sheet-requires
+    returns)
