@@ -10,6 +10,7 @@ use lib.IntN.{ℤ, pos, negsuc, negℤ, natAbs, _+ℤ_, _-ℤ_, _*ℤ_, *ℤ-com
 use lib.Signed.{_≤ℤ_, _<ℤ_, ≤ℤ-refl}
 use Rattle.exact.specs.Fraction.{Fraction, Proper, _over_, whole, _+ℚ_, _-ℚ_, _≈ℚ_, _≤ℚ_, _<ℚ_}
 use Rattle.exact.specs.Rounding.{floorDiv, floor, half, round, Greatest, FloorIsGreatest, RoundKeepsOrder, RoundIsNear}
+use Rattle.exact.proofs.Integer.{negsuc-is}
 use Rattle.exact.proofs.Ring.{ring, terms}
 use Rattle.exact.proofs.Order as Z
 use Rattle.exact.proofs.Order.{signs}
@@ -21,13 +22,6 @@ use Rattle.exact.proofs.Fractions.{propers, positivity}
 pub record Quotient (n : ℤ) (d : ℕ) (q : ℤ) : Type 0 where
   pub low : (q *ℤ pos d) ≤ℤ n
   pub high : n <ℤ ((q +ℤ pos 1) *ℤ pos d)
-
--- negsuc n is −(n + 1)
-negsuc-is : (n : ℕ) → negsuc n ≡ negℤ (pos n +ℤ pos 1)
-negsuc-is n = ap (λ (m : ℕ). negℤ (pos m)) (one-more n)
-  where
-    one-more : (n : ℕ) → suc n ≡ n + 1
-    one-more n = omega arith
 
 pub quotient : (n : ℤ) {d : ℕ} → 0 < d → Quotient n d (floorDiv n d)
 unfolding floorDiv

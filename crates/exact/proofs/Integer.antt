@@ -4,6 +4,10 @@ use mathlib.Core.Path.{_≡_, refl, sym, _∙_, ap, subst, _≡⟨_⟩_, _∎}
 use Prim.Native.Nat.{ℕ, zero, suc}
 use lib.IntN.{ℤ, pos, negsuc, negℤ, sucℤ, predℤ, one, _+ℤ_, _-ℤ_, _*ℤ_, ℤ-ind, suc-pred, +ℤ-idl, +ℤ-idr, +ℤ-assoc, +ℤ-comm, +ℤ-invl, +ℤ-invr, +ℤ-one, -ℤ-one, sucℤ-+ℤ, predℤ-+ℤ, *ℤ-comm, *ℤ-one, *ℤ-zero, zero-*ℤ, sucℤ-*ℤ, predℤ-*ℤ, negℤ-negℤ, negℤ-+ℤ}
 
+-- negsuc n is −(n + 1)
+pub negsuc-is : (n : ℕ) → negsuc n ≡ negℤ (pos n +ℤ pos (suc zero))
+negsuc-is n = sym (ap negℤ (+ℤ-one (pos n)))
+
 -- four summands, the inner two exchanged
 pub exchange : (a b c d : ℤ) → (a +ℤ b) +ℤ (c +ℤ d) ≡ (a +ℤ c) +ℤ (b +ℤ d)
 exchange a b c d =

@@ -5,7 +5,6 @@ use mathlib.Core.Bool.{Bool, cond}
 use mathlib.Core.List.{[], _∷_}
 use Prim.Native.Nat.{ℕ, zero, suc, _/_, _≤_, _<_, zero-le}
 use native.Mathlib.Nat.{div-le-self, le-of-suc-le-suc}
-use native.Mathlib.Numerals.{one-add}
 use lib.Dec.{ltb→lt}
 use lib.IntN.{ℤ, pos, negsuc, negℤ, _+ℤ_, _-ℤ_}
 use lib.Signed.{mag, quotZ, ltZ, _<ℤ_}
@@ -14,6 +13,7 @@ use mir.Syntax.{Width}
 use mir.Val.{SFits, ofZ}
 use mir.ValLaws.{sfits-le}
 use Rattle.exact.specs.Rounding.{floorDiv}
+use Rattle.exact.proofs.Integer.{negsuc-is}
 use Rattle.exact.proofs.Ring.{ring, terms}
 
 pub bits-above : (w : Width) {z : ℤ} → pos 0 <ℤ z → 0 < ofZ w z
@@ -24,16 +24,13 @@ bits-above w {z = negsuc n} h = absurd (h .lt)
 abbrev pub mirror : ℤ → ℤ
 mirror z = negsuc 0 -ℤ z
 
-negsuc-is : (m : ℕ) → negsuc m ≡ negℤ (pos 1 +ℤ pos m)
-negsuc-is m = ap (λ (n : ℕ). negℤ (pos n)) (sym (one-add m))
-
 pub mirror-pos : (m : ℕ) → mirror (pos m) ≡ negsuc m
 mirror-pos m = ring (pos m ∷ []) {a = negℤ (pos 1) -ℤ pos m} (search terms depth 20 fits 9999) tt ∙ sym (negsuc-is m)
 
 pub mirror-negsuc : (m : ℕ) → mirror (negsuc m) ≡ pos m
 mirror-negsuc m =
     ap mirror (negsuc-is m)
-    ∙ ring (pos m ∷ []) {a = negℤ (pos 1) -ℤ negℤ (pos 1 +ℤ pos m)} (search terms depth 20 fits 9999) tt
+    ∙ ring (pos m ∷ []) {a = negℤ (pos 1) -ℤ negℤ (pos m +ℤ pos 1)} (search terms depth 20 fits 9999) tt
 
 pub sfits-mirror : {w : Width} {z : ℤ} → SFits w z → SFits w (mirror z)
 sfits-mirror {w = w} {z = pos m} f = subst⁻¹ (SFits w) (mirror-pos m) (record { sfits = f .sfits })

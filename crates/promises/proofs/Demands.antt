@@ -58,8 +58,9 @@ is-pair c form plan r e =
     let e₁ = then-rest row₀ (row₁ then g) r e₀ in
     let same = gives-injective (then-rest row₁ g r e₁) in
     record {
-        at-form = record { area = record { within = row-passed (outside (c .areas) form) 7 0 (row₁ then g) r e₀ }; factor = ap (λ (y : Factors). y .form) same };
-        at-plan = record { area = record { within = row-passed (outside (c .areas) plan) 7 1 g r e₁ }; factor = ap (λ (y : Factors). y .plan) same } }
+      at-form = record { area = record { within = row-passed (outside (c .areas) form) 7 0 (row₁ then g) r e₀ }; factor = ap (λ (y : Factors). y .form) same };
+      at-plan = record { area = record { within = row-passed (outside (c .areas) plan) 7 1 g r e₁ }; factor = ap (λ (y : Factors). y .plan) same };
+    }
 
 -- ---- Sheet
 
@@ -83,8 +84,9 @@ is-entry c start step out entries index e h =
     let n = gives-injective (then-rest row₇ (gives (length out)) entries e₁) in
     let f : ℕ → ℤ = λ j. reading (c .areas) (c .values) (c .slopes) (c .code) (entry-area start step j) in
     record {
-        area = record { within = rows-inside (c .areas) start step 0 (length out) index (then-first row₇ (gives (length out)) entries e₁) zero-le (omega (arith, n)) };
-        factor = sym (ap (λ (a : Answer ℕ). getD (sheet-list (c .areas) (c .values) (c .slopes) (c .code) start step a out) index (pos 0)) e ∙ tabulate-at f 0 entries index h ∙ ap f (zero-add index)) }
+      area = record { within = rows-inside (c .areas) start step 0 (length out) index (then-first row₇ (gives (length out)) entries e₁) zero-le (omega (arith, n)) };
+      factor = sym (ap (λ (a : Answer ℕ). getD (sheet-list (c .areas) (c .values) (c .slopes) (c .code) start step a out) index (pos 0)) e ∙ tabulate-at f 0 entries index h ∙ ap f (zero-add index));
+    }
 
 -- ---- the desk reading
 
@@ -131,6 +133,7 @@ sheet-refuses-by-8 c start step out inside number place e =
   where
     pass : entry-rows (c .areas) start step 0 (length out) ≡ gives tt
     pass = entries-pass (c .areas) start step 0 (length out) (λ i h. inside i (rw zero-add at h) .within)
+
     decide : (b : Bool) → (row b 8 0 then gives (length out)) ≡ refused number place → number ≡ 8
     decide true h = cc
     decide false h = absurd (let z : _≡_ {A = ℕ} 0 1 = cc in omega arith)
