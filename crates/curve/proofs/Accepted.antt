@@ -158,26 +158,26 @@ view-of (a ∷ a' ∷ areas) (v ∷ v' ∷ values) (s ∷ s' ∷ slopes) code e 
     one-less : (n : ℕ) → suc (suc n) - 1 ≡ suc n
     one-less n = omega arith
 
-module _ {areas values : List ℕ} {slopes : List ℤ} {code : ℕ} (k : Accepted areas values slopes code) where
-  lengths-passed : bad-lengths (length areas) (length values) (length slopes) ≡ false
-  unfolding curve-rows
-  lengths-passed = row-passed (bad-lengths (length areas) (length values) (length slopes)) 1 0 _ tt (k .none-applies)
+-- row 1 passed: what it says of the lengths
+pub lengths-passed : (areas values slopes : ℕ) → bad-lengths areas values slopes ≡ false → Lengths areas values slopes
+unfolding bad-lengths
+lengths-passed areas values slopes e =
+    let first = not (eqb areas values) in
+    let second = not (eqb areas slopes) in
+    let few = or-left (first || second || ltb areas 2) (ltb 64 areas) e in
+    let same = or-left (first || second) (ltb areas 2) few in
+    record {
+      values-too = eqb-true areas values (not-false (eqb areas values) (or-left first second same));
+      slopes-too = eqb-true areas slopes (not-false (eqb areas slopes) (or-right first second same));
+      least = ltb-false areas 2 (or-right (first || second) (ltb areas 2) few);
+      most = ltb-false 64 areas (or-right (first || second || ltb areas 2) (ltb 64 areas) e);
+    }
 
+module _ {areas values : List ℕ} {slopes : List ℤ} {code : ℕ} (k : Accepted areas values slopes code) where
   -- row 1, as facts
   pub lengths : Lengths (length areas) (length values) (length slopes)
-  unfolding bad-lengths
-  lengths =
-      let n = length areas in
-      let differ₀ = not (eqb n (length values)) in
-      let differ₁ = not (eqb n (length slopes)) in
-      let few = or-left (differ₀ || differ₁ || ltb n 2) (ltb 64 n) lengths-passed in
-      let same = or-left (differ₀ || differ₁) (ltb n 2) few in
-      record {
-        values-too = eqb-true n (length values) (not-false (eqb n (length values)) (or-left differ₀ differ₁ same));
-        slopes-too = eqb-true n (length slopes) (not-false (eqb n (length slopes)) (or-right differ₀ differ₁ same));
-        least = ltb-false n 2 (or-right (differ₀ || differ₁) (ltb n 2) few);
-        most = ltb-false 64 n (or-right (differ₀ || differ₁ || ltb n 2) (ltb 64 n) lengths-passed);
-      }
+  unfolding curve-rows
+  lengths = lengths-passed _ _ _ (row-passed (bad-lengths (length areas) (length values) (length slopes)) 1 0 _ tt (k .none-applies))
 
   pub view : View areas values slopes code
   unfolding curve-rows

@@ -11,7 +11,7 @@ use Rattle.curve.specs.Check.{curve-rows, Accepted}
 use Rattle.curve.specs.Read.{outside, reading, read-answer}
 use Rattle.curve.proofs.Accepted.{then-first, then-rest, row-passed}
 
-gives-injective : {A : Type 0} {x y : A} → gives x ≡ gives y → x ≡ y
+pub gives-injective : {A : Type 0} {x y : A} → gives x ≡ gives y → x ≡ y
 gives-injective e = cc
 
 -- rows that refuse do so before whatever follows

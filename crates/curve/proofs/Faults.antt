@@ -45,22 +45,6 @@ pub stops : {number : ℕ} (place : ℕ) (rest : Answer (Unit {0})) → (number 
 unfolding _then_
 stops place rest n = rw (a-fault place n)
 
--- ---- row 1
-
-pub lengths-passed : (areas values slopes : ℕ) → bad-lengths areas values slopes ≡ false → Lengths areas values slopes
-unfolding bad-lengths
-lengths-passed areas values slopes e =
-    let first = not (eqb areas values) in
-    let second = not (eqb areas slopes) in
-    let few = or-left (first || second || ltb areas 2) (ltb 64 areas) e in
-    let same = or-left (first || second) (ltb areas 2) few in
-    record {
-      values-too = eqb-true areas values (not-false (eqb areas values) (or-left first second same));
-      slopes-too = eqb-true areas slopes (not-false (eqb areas slopes) (or-right first second same));
-      least = ltb-false areas 2 (or-right (first || second) (ltb areas 2) few);
-      most = ltb-false 64 areas (or-right (first || second || ltb areas 2) (ltb 64 areas) e);
-    }
-
 -- ---- row 3
 
 pub too-large : (before : Option ℕ) (area : ℕ) → 20000 < area → bad-area before area ≡ true
@@ -133,14 +117,6 @@ module _ (areas values : List ℕ) (slopes : List ℤ) where
         rw (next i k, end (i + 1) e)
 
 -- ---- row 6
-
-pub is-rising : {code : ℕ} → code ≡ 1 → shape-of code ≡ rising
-unfolding shape-of
-is-rising {code} e = rw (eq-eqb code 1 e)
-
-pub is-convex : {code : ℕ} → (code ≡ 1 → ⊥) → shape-of code ≡ convex
-unfolding shape-of
-is-convex {code} n = rw (ne-eqb code 1 n)
 
 apart : (a b : ℤ) → ltZ a b ≡ true → (eqZ a b ≡ false) × (eqZ b a ≡ false)
 apart a b e = (rw (le-is b a, e) (and-false (leZ a b)), rw (le-is b a, e))

@@ -25,6 +25,7 @@ use Rattle.curve.specs.Check.{Accepted}
 use Rattle.curve.specs.Read.{exact-value, reading}
 use Rattle.curve.specs.Laws.{Curve, Area, value-at, factor-at, point-at, segment-at, chord-slope, step, SegmentsMeet, RatedPointsRead, ValuesAreProper, FactorsAreNear, FactorsAreRanged, RisingValues, RisingFactors, Support, ConvexSupports, ConvexChords, ConvexMiddle, ConvexSteps}
 use Rattle.curve.proofs.ClosedForm.{Closed}
+use Rattle.curve.proofs.Codes.{is-rising, code-2}
 use Rattle.curve.proofs.Walk.{Chain, Reads, stop, stop-reads, compare-areas}
 use Rattle.curve.specs.Steps.{Good}
 use Rattle.curve.proofs.Segments.{interpolant-proper, interpolant-left, interpolant-right, proper-gradient}
@@ -102,14 +103,6 @@ rated-points-read c i h =
     let v = rated c i h in
     round-≈ _ _ (v .proper) (Q.proper-whole (pos (getD (c .values) i 0))) (v .same) ∙ round-whole (pos (getD (c .values) i 0))
 
-is-rising : {code : ℕ} → code ≡ 1 → shape-of code ≡ rising
-unfolding shape-of
-is-rising e = rw e
-
-is-convex : {code : ℕ} → code ≡ 2 → shape-of code ≡ convex
-unfolding shape-of
-is-convex e = rw e
-
 pub rising-values : RisingValues
 rising-values c e x y kx ky h =
     subst₂ (λ (v w : Fraction). v ≤ℚ w) (sym (value-as c (is-rising e) x)) (sym (value-as c (is-rising e) y))
@@ -129,17 +122,17 @@ module _ (c : Curve) (e : c .code ≡ 2) where
 
   related : (x y : ℕ) → Area c x → Area c y → x ≤ y → Convex (taken-by c x) x (taken-by c y) y
   related x y kx ky h =
-      tangents-support (chained c (is-convex e)) x y (inside-low (seen c) x (kx .within)) h (inside-high (seen c) y (ky .within))
+      tangents-support (chained c (code-2 e)) x y (inside-low (seen c) x (kx .within)) h (inside-high (seen c) y (ky .within))
 
   convex-reads : (x : ℕ) → Area c x → Reads (Good convex) (taken-by c x) x
-  convex-reads x k = subst (λ (sh : Shape). Reads (Good sh) (taken-by c x) x) (is-convex e) (reads c x k)
+  convex-reads x k = subst (λ (sh : Shape). Reads (Good sh) (taken-by c x) x) (code-2 e) (reads c x k)
 
   σ-proper : (x : ℕ) → Area c x → Proper (σ x)
   σ-proper x k = slope-proper (taken-by c x) x (convex-reads x k)
 
   supports : (x z : ℕ) → Area c x → Area c z → value-at c x +ℚ σ x *ℚ whole (pos z -ℤ pos x) ≤ℚ value-at c z
   supports x z kx kz =
-      subst₂ (λ (v w : Fraction). v +ℚ σ x *ℚ whole (pos z -ℤ pos x) ≤ℚ w) (sym (value-as c (is-convex e) x)) (sym (value-as c (is-convex e) z))
+      subst₂ (λ (v w : Fraction). v +ℚ σ x *ℚ whole (pos z -ℤ pos x) ≤ℚ w) (sym (value-as c (code-2 e) x)) (sym (value-as c (code-2 e) z))
       (⊎-elim (λ (w : (x ≤ z) × (leb x z ≡ true)). related x z kx kz (w .0) .rightwards)
       (λ (w : (z < x) × (leb x z ≡ false)). related z x kz kx (le-of-lt (w .0)) .leftwards) (compare-areas x z))
 

@@ -1,6 +1,7 @@
 -- Theorems and laws that other crates cite.
 pub mod Readings
 pub mod ClosedForm
+mod Codes
 pub mod Walk
 pub mod Inside
 pub mod Curves

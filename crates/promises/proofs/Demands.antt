@@ -18,7 +18,7 @@ use Rattle.curve.specs.Laws.{Curve, Area, value-at, factor-at}
 use Rattle.curve.specs.Read.{outside, reading, read-answer}
 use Rattle.curve.specs.Sheet.{bad-sheet, entry-area, entry-rows, tabulate, sheet-answer, sheet-list}
 use Rattle.curve.proofs.Accepted.{then-first, then-rest, row-passed}
-use Rattle.curve.proofs.Answers.{given, gives-reading}
+use Rattle.curve.proofs.Answers.{gives-injective, given, gives-reading}
 use Rattle.curve.proofs.Laws.{factors-are-near, rising-factors, convex-chords, convex-steps}
 use Rattle.curve.proofs.SheetRows.{rows-inside}
 use Rattle.file.specs.Layout.{shape-code, count, areas-of, values-of, slopes-of}
@@ -27,9 +27,6 @@ use Rattle.desk.specs.Desk.{desk-answer}
 use Rattle.pair.specs.Pair.{Factors, factors, pair-answer}
 use Rattle.promises.specs.FactorRead.{FileOf, FactorRead, by-read, by-pair-form, by-pair-plan, by-sheet, by-desk, read-of, pair-of, sheet-of, list-of}
 use Rattle.promises.specs.Demands as D
-
-gives-injective : {A : Type 0} {x y : A} → gives x ≡ gives y → x ≡ y
-gives-injective e = cc
 
 -- a factor read is the reading at an area of the curve
 record Is (c : Curve) (x : ℕ) (f : ℤ) : Type 0 where

@@ -8,13 +8,11 @@ use lib.ListN.{length}
 use Rattle.curve.specs.Answer.{gives, row, _then_}
 use Rattle.curve.specs.Check.{Accepted}
 use Rattle.curve.proofs.Accepted.{then-first, then-rest, row-passed}
+use Rattle.curve.proofs.Answers.{gives-injective}
 use Rattle.file.specs.Layout.{shape-code, count, areas-of, values-of, slopes-of}
 use Rattle.file.specs.Open.{Head, head-rows, list-rows, short-list, open-answer}
 use Rattle.file.specs.Steps.{Room}
 use Rattle.file.proofs.Heads.{head-passed, room}
-
-gives-injective : {A : Type 0} {x y : A} → gives x ≡ gives y → x ≡ y
-gives-injective e = cc
 
 pub record Given (bytes : List ℕ) (areas values slopes : ℕ) (head : Head) : Type 0 where
   pub fits : Room (head .count) (length bytes) areas values slopes

@@ -6,7 +6,8 @@ use Rattle.curve.specs.Answer.{Answer, row, _then_}
 use Rattle.curve.specs.Points.{points, segments, shape-of}
 use Rattle.curve.specs.Check.{segment-rows, curve-rows}
 use Rattle.curve.specs.Calls.{fault-answer}
-use Rattle.curve.proofs.Faults.{lengths-passed, passes, stops}
+use Rattle.curve.proofs.Accepted.{lengths-passed}
+use Rattle.curve.proofs.Faults.{passes, stops}
 use Rattle.curve.proofs.rows.curve_fault.Statement.{statement}
 use Rattle.curve.proofs.rows.curve_fault.Tie as tie
 

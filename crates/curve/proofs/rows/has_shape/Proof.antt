@@ -8,7 +8,8 @@ use Rattle.curve.specs.Points.{Segment, Shape}
 use Rattle.curve.specs.Shape.{has-shape}
 use Rattle.curve.specs.Steps.{point-of, between}
 use Rattle.curve.proofs.Bits.{widens, widened, difference-fits, difference-is, times-slope, hundredfold}
-use Rattle.curve.proofs.Faults.{is-rising, is-convex, rising-test, convex-test}
+use Rattle.curve.proofs.Codes.{is-rising, is-convex}
+use Rattle.curve.proofs.Faults.{rising-test, convex-test}
 use Rattle.curve.proofs.rows.has_shape.Statement.{statement}
 use Rattle.curve.proofs.rows.has_shape.Tie as tie
 

@@ -2,7 +2,6 @@
 -- Assumes nothing.
 use mathlib.Core.Path.{_≡_, _∙_, ap, sym, subst}
 use Prim.Native.Nat.{ℕ}
-use borrow.Author.Tests.{ne-eqb}
 use lib.IntN.{ℤ}
 use mir.Syntax.{w32}
 use mir.Val.{SFits}
@@ -11,16 +10,9 @@ use Rattle.exact.specs.Rounding.{round}
 use Rattle.curve.specs.Points.{Segment, Shape, rising, convex, shape-of}
 use Rattle.curve.specs.Interpolant.{interpolant}
 use Rattle.curve.specs.Steps.{Inside, point-of, between}
+use Rattle.curve.proofs.Codes.{is-rising, is-convex}
 use Rattle.curve.proofs.segment.factor.Statement.{statement}
 use Rattle.curve.proofs.segment.factor.Tie as tie
-
-is-rising : {code : ℕ} → code ≡ 1 → shape-of code ≡ rising
-unfolding shape-of
-is-rising e = rw e
-
-is-convex : {code : ℕ} → (code ≡ 1 → ⊥) → shape-of code ≡ convex
-unfolding shape-of
-is-convex {code} n = rw (ne-eqb code 1 n)
 
 abbrev at : tie.Start → Segment
 at c = between (point-of (c .args .x0) (c .args .y0) (c .args .d0)) (point-of (c .args .x1) (c .args .y1) (c .args .d1))
