@@ -1,7 +1,7 @@
 -- An accepted curve, as a chain of segments that each have their shape.
 -- Assumes nothing.
-use mathlib.Core.Path.{_≡_, refl, sym, _∙_, ap, subst, subst⁻¹}
-use mathlib.Core.Bool.{Bool, true, false, not, _&&_, _||_}
+use mathlib.Core.Path.{_≡_, refl, _∙_, ap, subst, subst⁻¹}
+use mathlib.Core.Bool.{Bool, true, false, not, _||_}
 use mathlib.Core.List.{List, [], _∷_}
 use mathlib.Core.Logic.{_⊎_, inl, inr, ⊎-elim}
 use mathlib.Core.Option.{Option, none, some}
@@ -17,7 +17,7 @@ use Rattle.curve.specs.Points.{Point, points, Segment, segments, Shape, 
 use Rattle.curve.specs.Interpolant.{interpolant}
 use Rattle.curve.specs.Shape.{has-shape}
 use Rattle.curve.specs.Check.{bad-lengths, bad-code, bad-area, bad-value, bad-slope, point-rows, segment-rows, curve-rows, Accepted}
-use Rattle.curve.specs.Read.{taken, value-in, outside, exact-value}
+use Rattle.curve.specs.Read.{value-in, outside, exact-value}
 use Rattle.curve.specs.Steps.{between, Lengths, Good}
 use Rattle.curve.proofs.Indexed.{segment, linked-at, stop-at, stop-somewhere}
 use Rattle.curve.proofs.Walk.{Chain, end, link, last-area, stop, taken-is-stop}

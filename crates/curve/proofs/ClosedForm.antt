@@ -1,8 +1,8 @@
 -- The closed forms of the curve equal P / Q, over any common denominator S of the three slopes of a segment: left slope e₀ / S,
 -- chord g / S, right slope e₁ / S. Denominators are above 0 on the whole segment.
 -- Assumes nothing.
-use mathlib.Core.Path.{_≡_, refl, sym, _∙_, ap, subst}
-use mathlib.Core.List.{List, [], _∷_}
+use mathlib.Core.Path.{subst}
+use mathlib.Core.List.{[], _∷_}
 use mathlib.Core.Logic.{_⊎_, inl, inr}
 use lib.IntN.{ℤ, pos, _+ℤ_, _-ℤ_, _*ℤ_}
 use lib.Signed.{_≤ℤ_, _<ℤ_}

@@ -4,7 +4,7 @@ use mathlib.Core.Path.{_≡_}
 use Prim.Native.Nat.{ℕ}
 use native.Mathlib.Omega.{arith}
 use borrow.Author.Tests.{eq-eqb, ne-eqb}
-use Rattle.curve.specs.Points.{Shape, rising, convex, shape-of}
+use Rattle.curve.specs.Points.{rising, convex, shape-of}
 
 pub is-rising : {code : ℕ} → code ≡ 1 → shape-of code ≡ rising
 unfolding shape-of

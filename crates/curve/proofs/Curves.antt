@@ -1,14 +1,14 @@
 -- What a segment with its shape gives, by the two cases of each shape, so that nothing above looks at a formula again: a rising
 -- curve joins its ends and rises; a convex curve joins its ends and has a tangent at each area that lies below it.
 -- Assumes nothing.
-use mathlib.Core.Path.{_≡_, refl, sym, _∙_, ap, subst, subst⁻¹}
+use mathlib.Core.Path.{_≡_, sym, _∙_, ap, subst⁻¹}
 use mathlib.Core.Bool.{Bool, true, false, cond, _&&_, _||_}
-use mathlib.Core.List.{List, [], _∷_}
+use mathlib.Core.List.{[], _∷_}
 use mathlib.Core.Logic.{_⊎_, inl, inr}
 use lib.Dec.{T}
-use lib.IntN.{ℤ, pos, _+ℤ_, _-ℤ_, _*ℤ_, zero-*ℤ, +ℤ-invr}
+use lib.IntN.{ℤ, pos, _+ℤ_, _-ℤ_, zero-*ℤ, +ℤ-invr}
 use lib.Signed.{_≤ℤ_, _<ℤ_, ltZ, ≤ℤ-refl}
-use Rattle.exact.specs.Fraction.{Fraction, Proper, _over_, whole, _+ℚ_, _-ℚ_, _*ℚ_, _/ℚ_, _≈ℚ_, _≤ℚ_, _<ℚ_, leℚ, ltℚ, eqℚ}
+use Rattle.exact.specs.Fraction.{Fraction, Proper, _over_, whole, _+ℚ_, _*ℚ_, _≈ℚ_, _≤ℚ_, _<ℚ_, leℚ, ltℚ, eqℚ}
 use Rattle.exact.proofs.Integer.{difference}
 use Rattle.exact.proofs.Poly.{and-left, and-right}
 use Rattle.exact.proofs.Ring.{ring, terms}
@@ -16,10 +16,10 @@ use Rattle.exact.proofs.Order as Z
 use Rattle.exact.proofs.Order.{signs}
 use Rattle.exact.proofs.Field.{field, ratios}
 use Rattle.exact.proofs.Fractions as Q
-use Rattle.exact.proofs.Fractions.{T-true, NonNeg, propers, positivity}
+use Rattle.exact.proofs.Fractions.{T-true, NonNeg, propers}
 use Rattle.curve.specs.Interpolant as I
 use Rattle.curve.specs.Shape.{rises, bends, 0ℚ}
-use Rattle.curve.proofs.ClosedForm.{Normal, Around, Closed, A, B, W, B-positive, W-positive, F-≈, right-≈, g-positive, a-positive, b-positive, rising-closed, convex-closed, congruence}
+use Rattle.curve.proofs.ClosedForm.{Normal, Around, Closed, W, B-positive, W-positive, right-≈, g-positive, a-positive, b-positive, rising-closed, convex-closed}
 use Rattle.curve.proofs.Inside.{In, rising-form, convex-form, convex-slope, rising-order, tangent-below}
 
 -- ---- what a curve v and its slope σ are to do in a segment of length h

@@ -7,7 +7,7 @@ use mathlib.Core.Option.{Option, none, some}
 use Prim.Native.Nat.{ℕ, _+_, _-_, _<_}
 use native.Mathlib.Numerals.{add-one}
 use native.Mathlib.Omega.{arith}
-use borrow.Author.Tests.{eqb-true, ltb-false, not-false, eq-eqb, ne-eqb, lt-ltb}
+use borrow.Author.Tests.{eq-eqb, ne-eqb, lt-ltb}
 use lib.Dec.{eqb, ltb, ltb→lt, lt→ltb}
 use lib.IntN.{ℤ, pos, _*ℤ_, one, *ℤ-one, *ℤ-comm}
 use lib.ListN.{length, getD, drop}
@@ -15,12 +15,11 @@ use lib.Seq.{drop-cons, drop-length}
 use lib.Signed.{leZ, ltZ}
 use Rattle.exact.specs.Fraction.{_over_, whole, leℚ, ltℚ, eqℚ}
 use Rattle.curve.specs.Answer.{Answer, gives, refused, row, _then_}
-use Rattle.curve.specs.Points.{Point, gradient, points, Segment, segments, Shape, rising, convex, shape-of}
+use Rattle.curve.specs.Points.{Point, gradient, points, Segment, segments, Shape, rising, convex}
 use Rattle.curve.specs.Shape.{rises, bends, fits, has-shape}
-use Rattle.curve.specs.Check.{bad-lengths, bad-area, point-rows, segment-rows}
+use Rattle.curve.specs.Check.{bad-area, point-rows, segment-rows}
 use Rattle.curve.specs.Calls.{fault-answer}
 use Rattle.curve.specs.Steps.{Lengths, earlier, between, eqZ, rises-by, bends-by}
-use Rattle.curve.proofs.Accepted.{or-left, or-right}
 use Rattle.curve.proofs.Bits.{same-test, le-is}
 use Rattle.curve.proofs.Indexed.{point}
 use Rattle.curve.proofs.Segments.{gap, rise, e₀, g, e₁}

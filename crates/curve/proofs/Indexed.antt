@@ -1,6 +1,6 @@
 -- The points of the three lists by their index, and the segment that an area takes by its index.
 -- Assumes nothing.
-use mathlib.Core.Path.{_≡_, refl, sym, _∙_, ap}
+use mathlib.Core.Path.{_≡_, refl}
 use mathlib.Core.Bool.{true, false}
 use mathlib.Core.List.{List, [], _∷_}
 use mathlib.Core.Logic.{_⊎_, inl, inr, ⊎-elim}
@@ -13,7 +13,7 @@ use lib.IntN.{ℤ, pos}
 use lib.ListN.{length, getD}
 use Rattle.curve.specs.Points.{Point, points, Segment}
 use Rattle.curve.specs.Steps.{between}
-use Rattle.curve.proofs.Walk.{Chain, end, link, stop, compare-areas}
+use Rattle.curve.proofs.Walk.{Chain, link, stop, compare-areas}
 
 abbrev pub point : List ℕ → List ℕ → List ℤ → ℕ → Point
 point areas values slopes i =

@@ -1,11 +1,10 @@
 -- Inside one segment, with its slopes over a common denominator S: the rising curve rises, and the convex curve lies above each of
 -- its tangents. Each is one certificate by the field tactic.
 -- Assumes nothing.
-use mathlib.Core.Path.{_≡_, refl, sym, _∙_, ap, subst}
-use mathlib.Core.List.{List, [], _∷_}
+use mathlib.Core.List.{[], _∷_}
 use lib.IntN.{ℤ, pos, _+ℤ_, _-ℤ_, _*ℤ_}
 use lib.Signed.{_≤ℤ_, _<ℤ_}
-use Rattle.exact.specs.Fraction.{Fraction, Proper, _over_, whole, _+ℚ_, _-ℚ_, _*ℚ_, _/ℚ_, _≈ℚ_, _≤ℚ_}
+use Rattle.exact.specs.Fraction.{Fraction, _over_, whole, _+ℚ_, _*ℚ_, _≤ℚ_}
 use Rattle.exact.proofs.Order as Z
 use Rattle.exact.proofs.Order.{signs}
 use Rattle.exact.proofs.Field.{field, ratios}

@@ -1,34 +1,31 @@
 -- The laws of an accepted curve (specs/Laws.antt), from the relations across it.
 -- Assumes nothing.
-use mathlib.Core.Path.{_≡_, refl, sym, _∙_, ap, subst, subst⁻¹, subst₂}
+use mathlib.Core.Path.{_≡_, sym, _∙_, ap, subst, subst⁻¹, subst₂}
 use mathlib.Core.Bool.{true, false}
-use mathlib.Core.List.{List, [], _∷_}
+use mathlib.Core.List.{[], _∷_}
 use mathlib.Core.Logic.{_⊎_, inl, inr, ⊎-elim}
-use Prim.Native.Nat.{ℕ, zero, suc, _+_, _*_, _-_, _≤_, _<_}
+use Prim.Native.Nat.{ℕ, zero, suc, _+_, _*_, _≤_, _<_}
 use native.Mathlib.Nat.{le-refl, le-of-lt}
 use native.Mathlib.Omega.{arith}
 use lib.Dec.{leb}
 use lib.IntN.{ℤ, pos, _+ℤ_, _-ℤ_, _*ℤ_}
 use lib.ListN.{length, getD}
 use lib.Signed.{_≤ℤ_, _<ℤ_}
-use Rattle.exact.specs.Fraction.{Fraction, Proper, _over_, whole, _+ℚ_, _-ℚ_, _*ℚ_, _/ℚ_, _≈ℚ_, _≤ℚ_, _<ℚ_}
-use Rattle.exact.specs.Rounding.{round}
-use Rattle.exact.proofs.Ring.{ring, terms}
+use Rattle.exact.specs.Fraction.{Fraction, Proper, _over_, whole, _+ℚ_, _-ℚ_, _*ℚ_, _/ℚ_, _≤ℚ_, _<ℚ_}
 use Rattle.exact.proofs.Order as Z
 use Rattle.exact.proofs.Field.{field, ratios}
 use Rattle.exact.proofs.Fractions as Q
 use Rattle.exact.proofs.Fractions.{propers, positivity}
 use Rattle.exact.proofs.Floor.{round-keeps-order, round-is-near, round-≈, round-whole, whole-<}
-use Rattle.curve.specs.Points.{Point, gradient, Segment, Shape, rising, convex, shape-of}
+use Rattle.curve.specs.Points.{gradient, Segment, Shape, convex, shape-of}
 use Rattle.curve.specs.Interpolant.{interpolant}
-use Rattle.curve.specs.Check.{Accepted}
-use Rattle.curve.specs.Read.{exact-value, reading}
-use Rattle.curve.specs.Laws.{Curve, Area, value-at, factor-at, point-at, segment-at, chord-slope, step, SegmentsMeet, RatedPointsRead, ValuesAreProper, FactorsAreNear, FactorsAreRanged, RisingValues, RisingFactors, Support, ConvexSupports, ConvexChords, ConvexMiddle, ConvexSteps}
+use Rattle.curve.specs.Read.{reading}
+use Rattle.curve.specs.Laws.{Curve, Area, value-at, point-at, segment-at, SegmentsMeet, RatedPointsRead, ValuesAreProper, FactorsAreNear, FactorsAreRanged, RisingValues, RisingFactors, ConvexSupports, ConvexChords, ConvexMiddle, ConvexSteps}
 use Rattle.curve.proofs.ClosedForm.{Closed}
 use Rattle.curve.proofs.Codes.{is-rising, code-2}
-use Rattle.curve.proofs.Walk.{Chain, Reads, stop, stop-reads, compare-areas}
+use Rattle.curve.proofs.Walk.{Chain, Reads, stop-reads, compare-areas}
 use Rattle.curve.specs.Steps.{Good}
-use Rattle.curve.proofs.Segments.{interpolant-proper, interpolant-left, interpolant-right, proper-gradient}
+use Rattle.curve.proofs.Segments.{interpolant-proper, interpolant-left, interpolant-right}
 use Rattle.curve.proofs.Accepted.{View, view, lengths, segment-of, value-is, inside-low, inside-high}
 use Rattle.curve.proofs.Range.{Ranged, value-range, reading-low, reading-high}
 use Rattle.curve.proofs.Relations.{values-rise, slope, Convex, tangents-support, slope-proper, slope-above, slope-below}

@@ -1,13 +1,11 @@
 -- The reading of a segment by two divisions, and the sizes of all that is computed on the way.
 -- Assumes nothing.
-use mathlib.Core.Path.{_≡_, refl, sym, _∙_, ap, ap₂, subst, subst⁻¹, subst₂}
-use mathlib.Core.List.{List, [], _∷_}
-use Prim.Native.Nat.{ℕ, _+_, _*_, _/_, _≤_, _<_}
+use mathlib.Core.Path.{_≡_, refl, sym, _∙_, ap₂, subst₂}
+use mathlib.Core.List.{[], _∷_}
+use Prim.Native.Nat.{ℕ, _+_, _*_, _/_, _<_}
 use native.Mathlib.Nat.{mul-pos}
-use native.Mathlib.Omega.{arith}
 use lib.Dec.{lit<}
-use lib.IntN.{ℤ, pos, natAbs, _+ℤ_, _-ℤ_, _*ℤ_}
-use lib.Signed.{_≤ℤ_, _<ℤ_}
+use lib.IntN.{ℤ, pos, _+ℤ_, _-ℤ_, _*ℤ_}
 use Rattle.exact.specs.Fraction.{Fraction, Proper, _over_, whole, _+ℚ_, _*ℚ_, _≈ℚ_}
 use Rattle.exact.specs.Rounding.{floorDiv, floor, round}
 use Rattle.exact.proofs.Ring.{ring, terms, ring-ℕ, counts}

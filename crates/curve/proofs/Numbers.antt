@@ -1,14 +1,13 @@
 -- The reading of a segment in plain numbers: t and u are the distances of the area from the two ends.
 -- Assumes nothing.
-use mathlib.Core.Path.{_≡_, refl, sym, _∙_, ap, ap₂, subst, subst⁻¹}
-use mathlib.Core.List.{List, [], _∷_}
-use Prim.Native.Nat.{ℕ, _+_, _*_, _≤_, _<_}
+use mathlib.Core.Path.{_≡_, sym, _∙_, ap, ap₂, subst, subst⁻¹}
+use mathlib.Core.List.{[], _∷_}
+use Prim.Native.Nat.{ℕ, _+_, _*_, _<_}
 use native.Mathlib.Omega.{arith}
 use native.Mathlib.Nat.{zero-mul, zero-div}
-use lib.Dec.{lit<}
 use lib.IntN.{ℤ, pos, _+ℤ_, _-ℤ_, _*ℤ_, *ℤ-comm}
 use lib.Signed.{_≤ℤ_, _<ℤ_}
-use Rattle.exact.specs.Fraction.{Fraction, Proper, _over_, whole, _+ℚ_, _*ℚ_, _≈ℚ_, _<ℚ_}
+use Rattle.exact.specs.Fraction.{_over_, whole, _+ℚ_, _*ℚ_, _≈ℚ_, _<ℚ_}
 use Rattle.exact.specs.Rounding.{round}
 use Rattle.exact.proofs.Ring.{ring, terms}
 use Rattle.exact.proofs.Order as Z
@@ -18,9 +17,9 @@ use Rattle.exact.proofs.Floor.{round-≈, round-whole}
 use Rattle.curve.specs.Points.{Point, gradient, Segment, rising, convex}
 use Rattle.curve.specs.Interpolant as I
 use Rattle.curve.specs.Shape.{fits, has-shape}
-use Rattle.curve.proofs.ClosedForm.{Closed, B, W, B-positive, W-positive, g-positive, a-positive, b-positive, congruence}
+use Rattle.curve.proofs.ClosedForm.{B, B-positive, W-positive, g-positive, a-positive, b-positive}
 use Rattle.curve.proofs.Inside.{In}
-use Rattle.curve.proofs.Curves.{Rise, climbs, flat, Bend, bent, straight, rise-kind, bend-kind, over-S, flat-value, rising-value, bent-value, straight-value}
+use Rattle.curve.proofs.Curves.{Bend, bent, straight, bend-kind, over-S, flat-value, rising-value, bent-value, straight-value}
 use Rattle.curve.specs.Steps.{Good, part, above-tangent}
 use Rattle.curve.proofs.Segments.{gap, rise, distance, S, g, e₀, e₁, a, b, normal, around, proper-gradient, gap-positive, S-positive, within}
 use Rattle.curve.proofs.Machine.{rising-numbers, B-is, rising-machine, convex-numbers, W-is, convex-machine, straight-machine}

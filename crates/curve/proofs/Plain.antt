@@ -1,16 +1,15 @@
 -- What the code of a segment's reading needs, from an area inside an accepted segment: t = x − x₀ and u = x₁ − x.
 -- Assumes nothing.
-use mathlib.Core.Path.{_≡_, refl, sym, _∙_, ap, ap₂, subst, subst⁻¹}
-use mathlib.Core.List.{List, [], _∷_}
-use Prim.Native.Nat.{ℕ, zero, suc, _+_, _-_, _*_, _≤_, _<_}
+use mathlib.Core.Path.{_≡_, refl, sym, _∙_, ap, subst}
+use mathlib.Core.List.{[], _∷_}
+use Prim.Native.Nat.{ℕ, _+_, _-_, _≤_, _<_}
 use native.Mathlib.Nat.{mul-le-mul}
 use native.Mathlib.Omega.{arith}
-use lib.Dec.{T}
-use lib.IntN.{ℤ, pos, negsuc, natAbs, _+ℤ_, _-ℤ_, _*ℤ_, *ℤ-comm}
-use lib.Signed.{_≤ℤ_, _<ℤ_, nonNeg, yes-nonNeg, pos-natAbs}
+use lib.IntN.{ℤ, pos, negsuc, natAbs, _+ℤ_, _-ℤ_, _*ℤ_}
+use lib.Signed.{_≤ℤ_, _<ℤ_, yes-nonNeg, pos-natAbs}
 use mir.Syntax.{w32}
 use mir.Val.{SFits}
-use Rattle.exact.specs.Fraction.{Fraction, _over_, _≈ℚ_, _≤ℚ_, _<ℚ_}
+use Rattle.exact.specs.Fraction.{_over_, _≤ℚ_}
 use Rattle.exact.specs.Rounding.{round}
 use Rattle.exact.proofs.Ring.{ring, terms}
 use Rattle.exact.proofs.Order as Z
@@ -20,10 +19,9 @@ use Rattle.exact.proofs.Magnitude.{size-between, size--, size-*, size-differenc
 use Rattle.curve.specs.Points.{Point, gradient, Segment, Shape, rising, convex}
 use Rattle.curve.specs.Interpolant.{interpolant}
 use Rattle.curve.specs.Shape.{fits, has-shape}
-use Rattle.curve.specs.Steps.{Good, Inside, Ends, Climbing, rising-reading, Bending, above-tangent, Tangent, tangent-reading}
-use Rattle.curve.proofs.ClosedForm.{a-positive, b-positive}
+use Rattle.curve.specs.Steps.{Inside, Ends, Climbing, rising-reading, Bending, above-tangent, Tangent, tangent-reading}
 use Rattle.curve.proofs.Curves.{Rise, climbs, flat, Bend, bent, straight, rise-kind, bend-kind}
-use Rattle.curve.proofs.Segments.{gap, rise, S, g, e₀, e₁, a, b, around, proper-gradient, gap-positive, S-positive, interpolant-proper}
+use Rattle.curve.proofs.Segments.{gap, rise, g, e₀, e₁, a, b, interpolant-proper}
 use Rattle.curve.proofs.Numbers.{gap-is, segment-rising, segment-flat, segment-convex}
 use Rattle.curve.proofs.Range.{value-range, reading-low, reading-high}
 use Rattle.curve.proofs.Sizes.{above-size}

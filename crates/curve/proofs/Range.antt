@@ -1,12 +1,11 @@
 -- Every value of an accepted curve is from −200,000 to 200,000.
 -- Assumes nothing.
-use mathlib.Core.Path.{_≡_, refl, sym, _∙_, ap, subst, subst⁻¹}
-use mathlib.Core.List.{List, [], _∷_}
+use mathlib.Core.Path.{refl, subst}
+use mathlib.Core.List.{[], _∷_}
 use mathlib.Core.Logic.{_⊎_, inl, inr}
-use Prim.Native.Nat.{ℕ, _+_, _≤_, _<_}
-use native.Mathlib.Omega.{arith}
+use Prim.Native.Nat.{ℕ, _+_, _≤_}
 use lib.IntN.{ℤ, pos, negsuc, negℤ, _+ℤ_, _-ℤ_, _*ℤ_}
-use lib.Signed.{_≤ℤ_, _<ℤ_}
+use lib.Signed.{_≤ℤ_}
 use Rattle.exact.specs.Fraction.{Fraction, Proper, _over_, whole, _+ℚ_, _-ℚ_, _*ℚ_, _≈ℚ_, _≤ℚ_, _<ℚ_}
 use Rattle.exact.specs.Rounding.{round}
 use Rattle.exact.proofs.Ring.{ring, terms}
@@ -16,12 +15,12 @@ use Rattle.exact.proofs.Field.{field, ratios}
 use Rattle.exact.proofs.Fractions as Q
 use Rattle.exact.proofs.Fractions.{NonNeg, propers, positivity}
 use Rattle.exact.proofs.Floor.{round-keeps-order, round-whole}
-use Rattle.curve.specs.Points.{Point, gradient, Segment, Shape, rising, convex}
+use Rattle.curve.specs.Points.{gradient, Segment, Shape, rising, convex}
 use Rattle.curve.specs.Interpolant.{interpolant, curve}
 use Rattle.curve.proofs.Inside.{In}
-use Rattle.curve.proofs.Curves.{Joins, Rises, Bends, end-left, end-right}
+use Rattle.curve.proofs.Curves.{Joins, Bends, end-left, end-right}
 use Rattle.curve.specs.Steps.{Good}
-use Rattle.curve.proofs.Segments.{gap, distance, curve-at, slope-at, gap-positive, proper-gradient, segment-rises, segment-bends, within, interpolant-proper}
+use Rattle.curve.proofs.Segments.{gap, distance, curve-at, slope-at, gap-positive, segment-rises, segment-bends, within}
 use Rattle.curve.proofs.Walk.{Reads}
 
 whole-≤ : (a b : ℤ) → a ≤ℤ b → whole a ≤ℚ whole b

@@ -15,8 +15,8 @@ use lib.ListN.{length, getD}
 use Rattle.exact.specs.Rounding.{round}
 use Rattle.curve.specs.Points.{Segment, shape-of}
 use Rattle.curve.specs.Interpolant.{interpolant}
-use Rattle.curve.specs.Read.{outside, reading}
-use Rattle.curve.specs.Steps.{Inside, Reached, Taken, Readable}
+use Rattle.curve.specs.Read.{reading}
+use Rattle.curve.specs.Steps.{Inside, Readable}
 use Rattle.curve.proofs.Indexed.{segment}
 use Rattle.curve.proofs.Accepted.{view, lengths, value-is, not-beyond}
 

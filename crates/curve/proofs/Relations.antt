@@ -1,25 +1,24 @@
 -- The two relations between readings that hold inside each segment and join at the points: the values rise; the tangents lie below.
 -- Assumes nothing.
-use mathlib.Core.Path.{_≡_, refl, sym, _∙_, ap, subst, subst⁻¹}
+use mathlib.Core.Path.{_≡_, subst, subst⁻¹}
 use mathlib.Core.List.{List, [], _∷_}
-use mathlib.Core.Logic.{_⊎_, inl, inr, ⊎-elim}
+use mathlib.Core.Logic.{_⊎_, inl, inr}
 use Prim.Native.Nat.{ℕ, _≤_, _<_}
 use native.Mathlib.Nat.{le-refl, le-trans, le-antisymm, le-of-lt}
 use mathlib.Core.Bool.{true, false}
 use lib.Dec.{leb}
-use lib.IntN.{ℤ, pos, _+ℤ_, _-ℤ_, _*ℤ_, +ℤ-invr}
+use lib.IntN.{ℤ, pos, _-ℤ_, +ℤ-invr}
 use lib.Signed.{_≤ℤ_, _<ℤ_}
-use Rattle.exact.specs.Fraction.{Fraction, Proper, _over_, whole, _+ℚ_, _-ℚ_, _*ℚ_, _≈ℚ_, _≤ℚ_, _<ℚ_}
+use Rattle.exact.specs.Fraction.{Fraction, Proper, whole, _+ℚ_, _-ℚ_, _*ℚ_, _≈ℚ_, _≤ℚ_}
 use Rattle.exact.proofs.Ring.{ring, terms}
 use Rattle.exact.proofs.Order as Z
-use Rattle.exact.proofs.Order.{signs}
 use Rattle.exact.proofs.Field.{field, ratios}
 use Rattle.exact.proofs.Fractions as Q
-use Rattle.exact.proofs.Fractions.{NonNeg, Positive, propers, positivity}
+use Rattle.exact.proofs.Fractions.{NonNeg, propers}
 use Rattle.curve.specs.Points.{Point, gradient, Segment, Shape, rising, convex}
 use Rattle.curve.specs.Interpolant.{interpolant}
 use Rattle.curve.specs.Steps.{between, Good}
-use Rattle.curve.proofs.Segments.{proper-gradient, gap, distance, slope-at, segment-rises, segment-bends, within, interpolant-proper, interpolant-left, interpolant-right}
+use Rattle.curve.proofs.Segments.{proper-gradient, distance, slope-at, segment-rises, segment-bends, within, interpolant-proper, interpolant-left, interpolant-right}
 use Rattle.curve.proofs.Walk.{Chain, Reads, stop, last-area, across, compare-areas}
 
 value-proper : (shape : Shape) (s : Segment) (x : ℕ) → Reads (Good shape) s x → Proper (interpolant shape s x)

@@ -1,18 +1,15 @@
 -- A segment of an accepted curve: its slopes over 100 × h, and what its curve does between its two areas.
 -- Assumes nothing.
-use mathlib.Core.Path.{_≡_, refl, sym, _∙_, ap, subst, subst⁻¹}
-use mathlib.Core.List.{List, [], _∷_}
-use Prim.Native.Nat.{ℕ, _+_, _≤_, _<_}
-use lib.Dec.{T}
-use lib.IntN.{ℤ, pos, negsuc, _+ℤ_, _-ℤ_, _*ℤ_, +ℤ-invr}
+use mathlib.Core.Path.{subst, subst⁻¹}
+use mathlib.Core.List.{[], _∷_}
+use Prim.Native.Nat.{ℕ, _≤_, _<_}
+use lib.IntN.{ℤ, pos, _-ℤ_, _*ℤ_, +ℤ-invr}
 use lib.Signed.{_≤ℤ_, _<ℤ_}
-use Rattle.exact.specs.Fraction.{Fraction, Proper, _over_, whole, _≈ℚ_, _≤ℚ_}
+use Rattle.exact.specs.Fraction.{Fraction, Proper, _over_, whole, _≈ℚ_}
 use Rattle.exact.proofs.Ring.{ring, terms}
 use Rattle.exact.proofs.Order as Z
-use Rattle.exact.proofs.Order.{signs}
 use Rattle.exact.proofs.Field.{field, ratios}
 use Rattle.exact.proofs.Fractions as Q
-use Rattle.exact.proofs.Fractions.{propers}
 use Rattle.curve.specs.Points.{Point, gradient, Segment, Shape, rising, convex}
 use Rattle.curve.specs.Interpolant as I
 use Rattle.curve.specs.Shape.{fits, has-shape}
@@ -20,7 +17,6 @@ use Rattle.curve.specs.Steps.{Good}
 use Rattle.curve.proofs.ClosedForm.{Normal, Around}
 use Rattle.curve.proofs.Inside.{In}
 use Rattle.curve.proofs.Curves.{Joins, Rises, Bends, rise-kind, bend-kind, rising-rises, convex-bends, tangent}
-use Rattle.curve.proofs.Walk.{Reads}
 
 module _ (s : Segment) where
   abbrev pub gap : ℤ

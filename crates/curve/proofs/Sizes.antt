@@ -1,6 +1,6 @@
 -- The sizes of what is computed in a segment.
 -- Assumes nothing.
-use Prim.Native.Nat.{ℕ, _+_, _*_, _≤_, _<_}
+use Prim.Native.Nat.{ℕ, _+_, _*_, _≤_}
 use native.Mathlib.Nat.{mul-le-mul, mul-le-mul-left, mul-le-mul-right}
 use native.Mathlib.Omega.{arith}
 use lib.IntN.{ℤ, pos, natAbs, _+ℤ_, _*ℤ_}
@@ -8,7 +8,7 @@ use mir.Syntax.{w64}
 use mir.Val.{SFits}
 use Rattle.exact.proofs.Size.{scaled-size}
 use Rattle.exact.proofs.Magnitude.{size-+, size-*, fits-size}
-use Rattle.curve.specs.Steps.{Ends, part, Weights, Climbing, Bending, above-tangent, Tangent}
+use Rattle.curve.specs.Steps.{part, Weights, Climbing, Bending, above-tangent, Tangent}
 
 -- a sum weighted by the distances from the two ends
 pub blend-size : {t u g e : ℕ} → Weights t u g e → g * t + e * u ≤ 40000000000

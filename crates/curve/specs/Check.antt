@@ -9,7 +9,7 @@ use lib.Dec.{eqb, leb, ltb}
 use lib.IntN.{ℤ, pos, negsuc}
 use lib.ListN.{length}
 use lib.Signed.{ltZ}
-use Rattle.curve.specs.Answer.{Answer, gives, refused, row, _then_}
+use Rattle.curve.specs.Answer.{Answer, gives, row, _then_}
 use Rattle.curve.specs.Points.{Point, points, Segment, segments, Shape, shape-of}
 use Rattle.curve.specs.Shape.{has-shape}
 

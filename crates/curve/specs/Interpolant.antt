@@ -6,7 +6,7 @@ use mathlib.Core.Bool.{cond, _&&_}
 use lib.IntN.{ℤ, pos, _-ℤ_}
 use lib.Signed.{ltZ}
 use Rattle.exact.specs.Fraction.{Fraction, _over_, whole, _+ℚ_, _-ℚ_, _*ℚ_, _/ℚ_, ltℚ}
-use Rattle.curve.specs.Points.{Point, gradient, Segment, Shape, rising, convex}
+use Rattle.curve.specs.Points.{gradient, Segment, Shape, rising, convex}
 
 module _ (h left right t : ℤ) where
   -- c = F / h, the chord slope

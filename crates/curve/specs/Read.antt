@@ -9,7 +9,7 @@ use lib.ListN.{length, getD}
 use Rattle.exact.specs.Fraction.{Fraction, whole}
 use Rattle.exact.specs.Rounding.{round}
 use Rattle.curve.specs.Answer.{Answer, gives, row, _then_}
-use Rattle.curve.specs.Points.{Point, points, Segment, segments, Shape, shape-of}
+use Rattle.curve.specs.Points.{points, Segment, segments, Shape, shape-of}
 use Rattle.curve.specs.Interpolant.{interpolant}
 use Rattle.curve.specs.Check.{curve-rows}
 

@@ -4,7 +4,7 @@
 use mathlib.Core.Bool.{Bool, _&&_, _||_}
 use lib.IntN.{ℤ, pos, _-ℤ_}
 use Rattle.exact.specs.Fraction.{Fraction, _over_, whole, leℚ, ltℚ, eqℚ}
-use Rattle.curve.specs.Points.{Point, gradient, Segment, Shape, rising, convex}
+use Rattle.curve.specs.Points.{gradient, Segment, Shape, rising, convex}
 
 abbrev pub 0ℚ : Fraction
 0ℚ = whole (pos 0)

@@ -2,9 +2,9 @@
 -- `field ρ (search ratios depth 20 fits 9999) tt` proves x ≈ℚ y where the cross products have the same normal form.
 -- Assumes nothing.
 use mathlib.Core.Path.{_≡_, refl, sym, _∙_, ap, ap₂}
-use mathlib.Core.List.{List, [], _∷_}
+use mathlib.Core.List.{List}
 use lib.Dec.{T}
-use lib.IntN.{ℤ, pos, negsuc, negℤ, _+ℤ_, _-ℤ_, _*ℤ_}
+use lib.IntN.{ℤ, pos, negℤ, _+ℤ_, _*ℤ_}
 use Rattle.exact.specs.Fraction.{Fraction, _over_, whole, _+ℚ_, _-ℚ_, _*ℚ_, _/ℚ_, _≈ℚ_}
 use Rattle.exact.proofs.Integer.{difference}
 use Rattle.exact.proofs.Poly.{Poly, con, value, plus, times, isZero, plus-value, times-value, zero-value}

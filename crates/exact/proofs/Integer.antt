@@ -1,8 +1,8 @@
 -- The ring laws of ℤ that `lib.IntN` lacks: distributivity, associativity of the product, signs.
 -- Assumes nothing.
-use mathlib.Core.Path.{_≡_, refl, sym, _∙_, ap, subst, _≡⟨_⟩_, _∎}
+use mathlib.Core.Path.{_≡_, sym, _∙_, ap}
 use Prim.Native.Nat.{ℕ, zero, suc}
-use lib.IntN.{ℤ, pos, negsuc, negℤ, sucℤ, predℤ, one, _+ℤ_, _-ℤ_, _*ℤ_, ℤ-ind, suc-pred, +ℤ-idl, +ℤ-idr, +ℤ-assoc, +ℤ-comm, +ℤ-invl, +ℤ-invr, +ℤ-one, -ℤ-one, sucℤ-+ℤ, predℤ-+ℤ, *ℤ-comm, *ℤ-one, *ℤ-zero, zero-*ℤ, sucℤ-*ℤ, predℤ-*ℤ, negℤ-negℤ, negℤ-+ℤ}
+use lib.IntN.{ℤ, pos, negsuc, negℤ, one, _+ℤ_, _-ℤ_, _*ℤ_, ℤ-ind, +ℤ-idl, +ℤ-idr, +ℤ-assoc, +ℤ-comm, +ℤ-invl, +ℤ-invr, +ℤ-one, -ℤ-one, sucℤ-+ℤ, predℤ-+ℤ, *ℤ-comm, *ℤ-one, zero-*ℤ, sucℤ-*ℤ, predℤ-*ℤ}
 
 -- negsuc n is −(n + 1)
 pub negsuc-is : (n : ℕ) → negsuc n ≡ negℤ (pos n +ℤ pos (suc zero))

@@ -4,9 +4,8 @@
 use mathlib.Core.Path.{_≡_, refl, sym, _∙_, ap, ap₂}
 use mathlib.Core.Bool.{Bool, true, false, cond, _&&_}
 use mathlib.Core.List.{List, [], _∷_}
-use Prim.Native.Nat.{ℕ, zero, suc}
 use lib.Dec.{T, eqb, eqb→eq}
-use lib.IntN.{ℤ, pos, negsuc, _+ℤ_, _*ℤ_, +ℤ-idl, +ℤ-assoc, +ℤ-comm, *ℤ-comm, zero-*ℤ, *ℤ-zero}
+use lib.IntN.{ℤ, pos, negsuc, _+ℤ_, _*ℤ_, +ℤ-idl, +ℤ-assoc, +ℤ-comm, *ℤ-comm, zero-*ℤ}
 use Rattle.exact.proofs.Integer.{exchange, +-*, *-+, *-assoc}
 
 infixr 5 _·x+_

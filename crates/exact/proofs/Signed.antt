@@ -1,6 +1,6 @@
 -- −1 − z and the quotient toward zero, which fit where z does, and floor division from the two.
 -- Assumes nothing.
-use mathlib.Core.Path.{_≡_, refl, sym, ap, _∙_, subst⁻¹}
+use mathlib.Core.Path.{_≡_, sym, ap, _∙_, subst⁻¹}
 use mathlib.Core.Bool.{Bool, cond}
 use mathlib.Core.List.{[], _∷_}
 use Prim.Native.Nat.{ℕ, zero, suc, _/_, _≤_, _<_, zero-le}

@@ -3,7 +3,7 @@
 use mathlib.Core.Path.{_≡_}
 use Prim.Native.Nat.{ℕ, _+_, _*_}
 use lib.IntN.{ℤ, pos, _+ℤ_, _-ℤ_, _*ℤ_}
-use Rattle.exact.specs.Fraction.{Fraction, _+ℚ_, _-ℚ_, _*ℚ_, _/ℚ_, _≈ℚ_}
+use Rattle.exact.specs.Fraction.{Fraction, _+ℚ_, _-ℚ_, _/ℚ_, _≈ℚ_}
 
 abbrev pub SquareOfDifference : Type 0
 SquareOfDifference =

@@ -1,7 +1,6 @@
 -- Floor division and the one rounding rule, with what must hold of each.
 -- Assumes nothing.
-use mathlib.Core.Path.{_≡_}
-use Prim.Native.Nat.{ℕ, suc, _/_}
+use Prim.Native.Nat.{ℕ, _/_}
 use lib.IntN.{ℤ, pos, negsuc, natAbs}
 use lib.Signed.{_≤ℤ_}
 use Rattle.exact.specs.Fraction.{Fraction, Proper, _over_, whole, _+ℚ_, _-ℚ_, _≤ℚ_, _<ℚ_}

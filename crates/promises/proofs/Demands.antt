@@ -1,16 +1,16 @@
 -- The third demand: a factor read, whichever call gives it, is the reading at an area of the curve; the laws of the reading do the rest.
 -- Assumes nothing.
-use Prim.Native.Nat.{ℕ, zero, suc, _+_, _*_, _≤_, _<_, zero-le}
+use Prim.Native.Nat.{ℕ, zero, suc, _+_, _*_, _<_, zero-le}
 use mathlib.Core.Path.{_≡_, refl, sym, _∙_, ap, subst, subst₂}
 use mathlib.Core.Bool.{Bool, true, false}
-use mathlib.Core.List.{List, [], _∷_}
+use mathlib.Core.List.{List}
 use native.Mathlib.Nat.{zero-add, add-zero}
 use native.Mathlib.Omega.{arith}
 use lib.Dec.{ltb}
 use lib.IntN.{ℤ, pos, _-ℤ_}
 use lib.ListN.{length, getD}
 use lib.Signed.{_≤ℤ_}
-use Rattle.exact.specs.Fraction.{_over_, whole, _+ℚ_, _-ℚ_, _≤ℚ_, _<ℚ_}
+use Rattle.exact.specs.Fraction.{_over_, whole, _+ℚ_, _-ℚ_, _≤ℚ_}
 use Rattle.exact.proofs.Fractions.{<-weak}
 use Rattle.curve.specs.Answer.{Answer, gives, refused, row, _then_}
 use Rattle.curve.specs.Check.{curve-rows}

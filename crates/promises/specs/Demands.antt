@@ -6,7 +6,7 @@ use mathlib.Core.List.{List}
 use lib.IntN.{ℤ, pos, _-ℤ_}
 use lib.ListN.{length}
 use lib.Signed.{_≤ℤ_}
-use Rattle.exact.specs.Fraction.{Proper, _over_, whole, _+ℚ_, _-ℚ_, _≤ℚ_, _<ℚ_}
+use Rattle.exact.specs.Fraction.{Proper, _over_, whole, _+ℚ_, _-ℚ_, _≤ℚ_}
 use Rattle.curve.specs.Answer.{gives, refused}
 use Rattle.curve.specs.Laws.{Curve, Area, value-at, chord-slope}
 use Rattle.curve.specs.Sheet.{entry-area}

@@ -1,19 +1,17 @@
 -- `curve::sheet` meets its contract: a fault of the curve, row 8, row 7, or the list filled; a refusal leaves it as it was.
 -- Assumes nothing.
-use mathlib.Core.Path.{_≡_, refl, sym, _∙_, ap}
-use mathlib.Core.Bool.{Bool, true, false, _||_}
-use Prim.Native.Nat.{ℕ, zero, suc, _+_, _*_, _≤_, _<_, zero-le}
+use mathlib.Core.Path.{_≡_, refl, sym, _∙_}
+use mathlib.Core.Bool.{false, _||_}
+use Prim.Native.Nat.{ℕ, zero, suc, _≤_, _<_, zero-le}
 use native.Mathlib.Nat.{zero-add}
 use native.Mathlib.Omega.{arith}
 use borrow.Author.Needs.{needs}
 use borrow.Author.Tests.{lt-ltb, le-ltb, eqb-false, ltb-false}
 use lib.Dec.{eqb, ltb}
 use lib.ListN.{length}
-use Rattle.curve.specs.Answer.{gives, refused, row, _then_}
+use Rattle.curve.specs.Answer.{gives, row, _then_}
 use Rattle.curve.specs.Check.{Accepted}
-use Rattle.curve.specs.Read.{outside}
 use Rattle.curve.specs.Sheet.{bad-sheet, entry-rows, sheet-answer, sheet-list}
-use Rattle.curve.specs.Steps.{first-answer, Fillable}
 use Rattle.curve.specs.Calls.{filled-answer}
 use Rattle.curve.proofs.Accepted.{lengths, or-left, or-right}
 use Rattle.curve.proofs.Faults.{a-fault, no-fault}

@@ -1,23 +1,22 @@
 -- `curve::entries::fill` meets its contract. The loop's invariant: the first i entries are filled, the others as found, and the segment
 -- at k begins not above the next area.
 -- Assumes nothing.
-use borrow.Author.Needs.{needs}
 use mathlib.Core.Path.{_≡_, refl, sym, _∙_, ap, subst⁻¹}
 use mathlib.Core.Bool.{false}
 use mathlib.Core.List.{List, [], _∷_, _++_}
-use Prim.Native.Nat.{ℕ, suc, _+_, _*_, _-_, _≤_, _<_}
+use Prim.Native.Nat.{ℕ, _+_, _*_, _-_, _≤_, _<_}
 use native.Mathlib.Nat.{zero-mul, add-zero}
 use native.Mathlib.Numerals.{add-one}
 use native.Mathlib.Omega.{arith}
 use lib.IntN.{ℤ, pos}
-use lib.ListN.{length, getD, set, drop, length-set}
+use lib.ListN.{length, getD, drop, length-set}
 use mir.Syntax.{w32}
 use mir.Val.{SFits, toZ, ofZ}
 use mir.Facts.{toZ-ofZ}
 use Rattle.exact.proofs.Ring.{ring-ℕ, counts}
 use Rattle.curve.specs.Read.{outside, reading}
 use Rattle.curve.specs.Sheet.{entry-area, tabulate}
-use Rattle.curve.specs.Steps.{Reached, Fillable}
+use Rattle.curve.specs.Steps.{Reached}
 use Rattle.curve.proofs.Accepted.{area-limit, lengths, not-before}
 use Rattle.curve.proofs.SheetRows.{fill-more, fill-all}
 use Rattle.curve.proofs.entries.fill.Statement.{statement}

@@ -4,7 +4,6 @@ use mathlib.Core.Logic.{inl, inr}
 use Prim.Native.Nat.{_-_}
 use native.Mathlib.Numerals.{add-one}
 use native.Mathlib.Omega.{arith}
-use borrow.Author.Needs.{needs}
 use lib.ListN.{length}
 use Rattle.curve.specs.Steps.{Reached}
 use Rattle.curve.proofs.lookup.find.Statement.{statement}

@@ -1,10 +1,8 @@
 -- `curve::rows::bends` meets its contract. A signed local holds bits, which are read back where it is tested.
 -- Assumes nothing.
-use mathlib.Core.Path.{_≡_, sym, _∙_}
-use mathlib.Core.Bool.{Bool, true, false}
+use mathlib.Core.Path.{sym, _∙_}
 use borrow.Author.Tests.{eq-eqb, ne-eqb}
-use lib.Signed.{ltZ}
-use Rattle.curve.specs.Steps.{eqZ, bends-by}
+use Rattle.curve.specs.Steps.{bends-by}
 use Rattle.curve.proofs.Bits.{lt-bits, eq-bits}
 use Rattle.curve.proofs.rows.bends.Statement.{statement}
 use Rattle.curve.proofs.rows.bends.Tie as tie

@@ -1,7 +1,6 @@
 -- `curve::rows::has_shape` meets its contract: 64 bits hold every difference and product, and the tests are the fractions' cross products.
 -- Assumes nothing.
-use mathlib.Core.Path.{_≡_, sym, _∙_, ap}
-use lib.IntN.{pos}
+use mathlib.Core.Path.{sym, _∙_, ap}
 use mir.Facts.{toZ-ofZ}
 use borrow.Author.Needs.{needs}
 use Rattle.curve.specs.Points.{Segment, Shape}

@@ -1,14 +1,12 @@
 -- `curve::rows::points_fault` meets its contract. The loop's invariant: the rows from point i on decide as those from the first.
 -- Assumes nothing.
 use mathlib.Core.Path.{_≡_, refl, sym, _∙_, ap}
-use mathlib.Core.List.{List}
 use mathlib.Core.Logic.{⊎-elim}
 use mathlib.Core.Option.{Option, none, some}
 use Prim.Native.Nat.{ℕ, _+_, _-_, _≤_}
 use native.Mathlib.Omega.{arith}
 use borrow.Author.Needs.{needs}
 use lib.Dec.{eqb}
-use lib.IntN.{ℤ}
 use lib.ListN.{length, getD}
 use Rattle.curve.specs.Answer.{Answer, _then_}
 use Rattle.curve.specs.Calls.{fault-answer}

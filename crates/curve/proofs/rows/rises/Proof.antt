@@ -3,11 +3,11 @@
 use mathlib.Core.Path.{_≡_, sym, _∙_, ap}
 use mathlib.Core.Bool.{true, false}
 use borrow.Author.Tests.{eq-eqb, ne-eqb}
-use lib.IntN.{ℤ, pos}
+use lib.IntN.{pos}
 use lib.Signed.{leZ, ltZ}
 use lib.Dec.{eqb}
-use mir.Syntax.{Width, w32, w64}
-use mir.Val.{SFits, ofZ}
+use mir.Syntax.{w32, w64}
+use mir.Val.{ofZ}
 use mir.Facts.{toZ-ofZ}
 use Rattle.curve.specs.Steps.{eqZ, rises-by}
 use Rattle.curve.proofs.Bits.{zero-fits, le-is, eq-bits}

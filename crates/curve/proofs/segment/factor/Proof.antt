@@ -1,14 +1,8 @@
 -- `curve::segment::factor` meets its contract.
 -- Assumes nothing.
-use mathlib.Core.Path.{_≡_, _∙_, ap, sym, subst}
-use Prim.Native.Nat.{ℕ}
-use lib.IntN.{ℤ}
-use mir.Syntax.{w32}
-use mir.Val.{SFits}
+use mathlib.Core.Path.{_∙_, subst}
 use mir.Facts.{toZ-ofZ}
-use Rattle.exact.specs.Rounding.{round}
-use Rattle.curve.specs.Points.{Segment, Shape, rising, convex, shape-of}
-use Rattle.curve.specs.Interpolant.{interpolant}
+use Rattle.curve.specs.Points.{Segment, Shape}
 use Rattle.curve.specs.Steps.{Inside, point-of, between}
 use Rattle.curve.proofs.Codes.{is-rising, is-convex}
 use Rattle.curve.proofs.segment.factor.Statement.{statement}

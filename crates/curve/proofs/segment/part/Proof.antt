@@ -1,7 +1,6 @@
 -- `curve::segment::part` meets its contract.
 -- Assumes nothing.
 use borrow.Author.Needs.{needs}
-use native.Mathlib.Nat.{mul-le-mul-right}
 use native.Mathlib.Omega.{arith}
 use Rattle.curve.proofs.Sizes.{blend-size, part-size}
 use Rattle.curve.proofs.segment.part.Statement.{statement}

@@ -1,6 +1,6 @@
 -- `curve::segment::scaled` meets its contract.
 -- Assumes nothing.
-use Prim.Native.Nat.{_^_, _*_, _<_, _≤_}
+use Prim.Native.Nat.{_^_, _<_}
 use native.Mathlib.Nat.{mul-le-mul}
 use native.Mathlib.Omega.{arith}
 use lib.IntN.{ℤ, natAbs, _*ℤ_}
