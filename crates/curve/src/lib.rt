@@ -7,8 +7,8 @@ ghost use Rattle.curve.specs.Calls.{checked-answer, reading-answer, fill
 
 mod entries;
 mod lookup;
-mod rows;
-mod segment;
+pub mod rows;
+pub mod segment;
 
 // What Check answers: the number of segments, or a refusal's number and place.
 pub enum Checked {

@@ -17,7 +17,7 @@ pub struct Fault {
 }
 
 // Row 1.
-fn bad_lengths(areas: usize, values: usize, slopes: usize) -> bool
+pub fn bad_lengths(areas: usize, values: usize, slopes: usize) -> bool
     ensures { λ r. ⌜ r ≡ bad-lengths areas values slopes ⌝ }
 {
     if areas != values {
@@ -33,7 +33,7 @@ fn bad_lengths(areas: usize, values: usize, slopes: usize) -> bool
 }
 
 // Row 2.
-fn bad_code(shape: u32) -> bool
+pub fn bad_code(shape: u32) -> bool
     ensures { λ r. ⌜ r ≡ bad-code shape ⌝ }
 {
     if shape == 1 {
@@ -59,7 +59,7 @@ fn bad_area(first: bool, before: u32, area: u32) -> bool
 }
 
 // Rows 3, 4 and 5 at one point.
-fn point_fault(first: bool, before: u32, area: u32, value: u32, slope: i32) -> u32
+pub fn point_fault(first: bool, before: u32, area: u32, value: u32, slope: i32) -> u32
     ensures { λ r. ⌜ ((i : ℕ) → fault-answer r i ≡ point-rows i (earlier first before) (point-of area value slope ∷ [])) ⌝ }
 {
     if bad_area(first, before, area) {

@@ -8,6 +8,7 @@ ghost use Rattle.curve.specs.Calls.{reading-answer};
 ghost use Rattle.file.specs.Layout.{areas-of, values-of, slopes-of};
 ghost use Rattle.desk.specs.Desk.{desk-answer, desk-number, desk-scratch};
 use curve::Reading;
+use file::records;
 
 // The number of a refusal.
 fn refusal(number: u32) -> i32
@@ -22,14 +23,15 @@ fn read_points(bytes: &[u8], n: usize, shape: u32, area: u32) -> Reading
     requires { ⌜ 7 + 12 * n ≤ length (now bytes) ⌝ }
     ensures { λ r. ⌜ reading-answer r ≡ read-answer (areas-of (now (bytes .entry)) n) (values-of (now (bytes .entry)) n) (slopes-of (now (bytes .entry)) n) shape area ⌝ }
 {
-    if n > 64 {
-        return Reading::Refused(1, 0);
+    let fault = records::curve_fault(bytes, n, shape);
+    if fault.number != 0 {
+        return Reading::Refused(fault.number, fault.place);
     }
-    let mut areas = [0u32; 64];
-    let mut values = [0u32; 64];
-    let mut slopes = [0i32; 64];
-    file::decode(bytes, n, &mut areas, &mut values, &mut slopes);
-    curve::read(&areas[..n], &values[..n], &slopes[..n], shape, area)
+    if records::outside(bytes, n, area) {
+        return Reading::Refused(7, 0);
+    }
+    let i = records::find(bytes, n, area);
+    Reading::Factor(records::factor_at(bytes, n, shape, i, area))
 }
 
 #[no_mangle]

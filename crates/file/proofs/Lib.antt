@@ -2,3 +2,4 @@
 pub mod Numbers
 pub mod Heads
 pub mod Filling
+pub mod Placed

@@ -9,3 +9,13 @@ pub record Room (n bytes areas values slopes : ℕ) : Type 0 where
   pub in-areas : n ≤ areas
   pub in-values : n ≤ values
   pub in-slopes : n ≤ slopes
+
+-- n points are in a file of so many bytes
+pub record Holds (n bytes : ℕ) : Type 0 where
+  pub file : 7 + 12 * n ≤ bytes
+
+-- and as many as a curve has
+pub record Several (n bytes : ℕ) : Type 0 where
+  pub file : 7 + 12 * n ≤ bytes
+  pub least : 2 ≤ n
+  pub most : n ≤ 64

@@ -11,6 +11,8 @@ ghost use Rattle.file.specs.Calls.{opened-answer};
 ghost use Rattle.file.specs.Steps.{Room};
 use curve::Checked;
 
+pub mod records;
+
 fn wide(x: u8) -> u32
     ensures { λ r. ⌜ r ≡ x ⌝ }
 {

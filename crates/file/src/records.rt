@@ -1,0 +1,160 @@
+// The points of a curve file, read where they stand.
+ghost use mathlib.Core.Path.{_≡_};
+ghost use mathlib.Core.Option.{none};
+ghost use Prim.Native.Nat.{suc, _+_, _*_, _≤_};
+ghost use lib.ListN.{length};
+ghost use Rattle.curve.specs.Points.{points, segments, shape-of};
+ghost use Rattle.curve.specs.Check.{point-rows, segment-rows, curve-rows};
+ghost use Rattle.curve.specs.Read.{reading, outside as lies-outside};
+ghost use Rattle.curve.specs.Calls.{fault-answer};
+ghost use Rattle.curve.specs.Steps.{Taken, Readable};
+ghost use Rattle.file.specs.Layout.{area-at, value-at, slope-at, areas-of, values-of, slopes-of};
+ghost use Rattle.file.specs.Steps.{Holds, Several};
+use curve::rows;
+use curve::rows::Fault;
+use curve::segment;
+
+// A point of a file.
+struct Record {
+    area: u32,
+    value: u32,
+    slope: i32,
+}
+
+// The area of the point at i.
+fn area_of(bytes: &[u8], i: usize) -> u32
+    requires { ⌜ Holds (suc i) (length (now bytes)) ⌝ }
+    ensures { λ r. ⌜ r ≡ area-at (now (bytes .entry)) i ⌝ }
+{
+    super::unsigned(bytes, 7 + 12 * i)
+}
+
+// The point at i.
+fn record_at(bytes: &[u8], i: usize) -> Record
+    requires { ⌜ Holds (suc i) (length (now bytes)) ⌝ }
+    ensures { λ r. ⌜ (r .area ≡ area-at (now (bytes .entry)) i) × (r .value ≡ value-at (now (bytes .entry)) i) × (r .slope ≡ slope-at (now (bytes .entry)) i) ⌝ }
+{
+    let at = 7 + 12 * i;
+    Record {
+        area: super::unsigned(bytes, at),
+        value: super::unsigned(bytes, at + 4),
+        slope: super::signed(super::unsigned(bytes, at + 8)),
+    }
+}
+
+// Rows 3, 4 and 5: the first bad point of n.
+fn points_fault(bytes: &[u8], n: usize) -> Fault
+    requires { ⌜ Several n (length (now bytes)) ⌝ }
+    ensures { λ r. ⌜ fault-answer (r .number) (r .place) ≡ point-rows 0 none (points (areas-of (now (bytes .entry)) n) (values-of (now (bytes .entry)) n) (slopes-of (now (bytes .entry)) n)) ⌝ }
+{
+    let mut number: u32 = 0;
+    let mut before: u32 = 0;
+    let mut i: usize = 0;
+    while i < n {
+        let p = record_at(bytes, i);
+        number = rows::point_fault(i == 0, before, p.area, p.value, p.slope);
+        if number != 0 {
+            break;
+        }
+        before = p.area;
+        i += 1;
+    }
+    Fault {
+        number,
+        place: i as u32,
+    }
+}
+
+// Row 6: the first segment without its shape, at its left point.
+fn segments_fault(bytes: &[u8], n: usize, shape: u32) -> Fault
+    requires { ⌜ Several n (length (now bytes)) ⌝ }
+    ensures { λ r. ⌜ fault-answer (r .number) (r .place) ≡ segment-rows 0 (shape-of shape) (segments (points (areas-of (now (bytes .entry)) n) (values-of (now (bytes .entry)) n) (slopes-of (now (bytes .entry)) n))) ⌝ }
+{
+    let last = n - 1;
+    let mut left: usize = 0;
+    while left < last {
+        let p = record_at(bytes, left);
+        let right = left + 1;
+        let q = record_at(bytes, right);
+        if !rows::has_shape(shape, p.area, p.value, p.slope, q.area, q.value, q.slope) {
+            return Fault {
+                number: 6,
+                place: left as u32,
+            };
+        }
+        left = right;
+    }
+    Fault {
+        number: 0,
+        place: 0,
+    }
+}
+
+// Rows 1 to 6 of the file's first n points.
+pub fn curve_fault(bytes: &[u8], n: usize, shape: u32) -> Fault
+    requires { ⌜ Holds n (length (now bytes)) ⌝ }
+    ensures { λ r. ⌜ fault-answer (r .number) (r .place) ≡ curve-rows (areas-of (now (bytes .entry)) n) (values-of (now (bytes .entry)) n) (slopes-of (now (bytes .entry)) n) shape ⌝ }
+{
+    if rows::bad_lengths(n, n, n) {
+        return Fault {
+            number: 1,
+            place: 0,
+        };
+    }
+    if rows::bad_code(shape) {
+        return Fault {
+            number: 2,
+            place: 0,
+        };
+    }
+    let fault = points_fault(bytes, n);
+    if fault.number != 0 {
+        return fault;
+    }
+    segments_fault(bytes, n, shape)
+}
+
+// Row 7 of the first n points.
+pub fn outside(bytes: &[u8], n: usize, area: u32) -> bool
+    requires { ⌜ Several n (length (now bytes)) ⌝ }
+    ensures { λ r. ⌜ r ≡ lies-outside (areas-of (now (bytes .entry)) n) area ⌝ }
+{
+    if area < area_of(bytes, 0) {
+        return true;
+    }
+    area_of(bytes, n - 1) < area
+}
+
+// The index of the left point of the segment that the area takes.
+pub fn find(bytes: &[u8], n: usize, area: u32) -> usize
+    requires { ⌜ Several n (length (now bytes)) × (area-at (now bytes) 0 ≤ area) ⌝ }
+    ensures { λ r. ⌜ Taken (areas-of (now (bytes .entry)) n) r area ⌝ }
+{
+    let mut i: usize = 0;
+    while i + 2 < n {
+        if area < area_of(bytes, i + 1) {
+            return i;
+        }
+        i += 1;
+    }
+    i
+}
+
+// The factor at an area that takes the segment at i.
+pub fn factor_at(bytes: &[u8], n: usize, shape: u32, i: usize, area: u32) -> i32
+    requires { ⌜ Several n (length (now bytes)) × Readable (areas-of (now bytes) n) (values-of (now bytes) n) (slopes-of (now bytes) n) shape i area ⌝ }
+    ensures { λ r. ⌜ r ≡ reading (areas-of (now (bytes .entry)) n) (values-of (now (bytes .entry)) n) (slopes-of (now (bytes .entry)) n) shape area ⌝ }
+{
+    let p = record_at(bytes, i);
+    let q = record_at(bytes, i + 1);
+    segment::factor(
+        shape,
+        p.area,
+        p.value,
+        p.slope,
+        q.area,
+        q.value,
+        q.slope,
+        area,
+    )
+}
