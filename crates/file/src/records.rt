@@ -2,7 +2,7 @@
 ghost use mathlib.Core.Path.{_≡_};
 ghost use mathlib.Core.Bool.{true};
 ghost use mathlib.Core.Option.{none};
-ghost use Prim.Native.Nat.{suc, _+_, _*_, _≤_};
+ghost use Prim.Native.Nat.{suc, _+_, _*_, _≤_, _<_};
 ghost use lib.ListN.{length};
 ghost use Rattle.curve.specs.Points.{points, segments, shape-of};
 ghost use Rattle.curve.specs.Check.{point-rows, segment-rows, curve-rows};
@@ -158,12 +158,27 @@ pub fn outside(bytes: &[u8], n: usize, area: u32) -> bool
     area_of(bytes, n - 1) < area
 }
 
+// Every eighth point, to the last of them whose area is not above the area.
+fn skip(bytes: &[u8], n: usize, area: u32) -> usize
+    requires { ⌜ Several n (length (now bytes)) × (area-at (now bytes) 0 ≤ area) ⌝ }
+    ensures { λ r. ⌜ (r + 1 < n) × (area-at (now (bytes .entry)) r ≤ area) ⌝ }
+{
+    let mut i: usize = 0;
+    while i + 9 < n {
+        if area < area_of(bytes, i + 8) {
+            return i;
+        }
+        i += 8;
+    }
+    i
+}
+
 // The index of the left point of the segment that the area takes.
 pub fn find(bytes: &[u8], n: usize, area: u32) -> usize
     requires { ⌜ Several n (length (now bytes)) × (area-at (now bytes) 0 ≤ area) ⌝ }
     ensures { λ r. ⌜ Taken (areas-of (now (bytes .entry)) n) r area ⌝ }
 {
-    let mut i: usize = 0;
+    let mut i = skip(bytes, n, area);
     while i + 2 < n {
         if area < area_of(bytes, i + 1) {
             return i;
