@@ -38,14 +38,25 @@ returns-2 c =
     let a = b .before .before .before .args in
     rw (lengths-are (a .bytes .now) (a .n), lengths b, sym (c .before .bad-code .ensures) ∙ c .if2 .taken)
 
-points-fault-requires : tie.Need-points-fault-requires
-points-fault-requires c κs =
+all-pass-requires : tie.Need-all-pass-requires
+all-pass-requires c κs =
     let k = lengths-passed _ _ _ (lengths (c .before .before)) in
     record { file = c .before .before .before .before .before .pre .file; least = k .least; most = k .most }
 
+returns-3 : tie.Need-returns-3
+unfolding curve-rows fault-answer row _then_
+returns-3 c =
+    let code = c .before .before in
+    let a = code .before .before .before .before .before .args in
+    let k = c .before .all-pass .ensures (c .if3 .taken) in
+    rw (lengths-are (a .bytes .now) (a .n), lengths (code .before .before), sym (code .before .bad-code .ensures) ∙ code .if2 .left, k .in-points, k .in-segments)
+
+points-fault-requires : tie.Need-points-fault-requires
+points-fault-requires c κs = all-pass-requires (c .before .before) κs
+
 module _ (c : tie.After-points-fault) where
   abbrev start : tie.Start
-  start = c .before .before .before .before .before .before
+  start = c .before .before .before .before .before .before .before .before
 
   abbrev bytes : List ℕ
   bytes = start .args .bytes .now
@@ -60,23 +71,23 @@ module _ (c : tie.After-points-fault) where
   after-points : curve-rows (areas-of bytes n) (values-of bytes n) (slopes-of bytes n) (start .args .shape) ≡ (fault-answer (c .points-fault .result .number) (c .points-fault .result .place) then rest)
   unfolding curve-rows row _then_
   after-points =
-      let code = c .before in
+      let code = c .before .before .before in
       rw (lengths-are bytes n, lengths (code .before .before), sym (code .before .bad-code .ensures) ∙ code .if2 .left, sym (c .points-fault .ensures))
 
-returns-3 : tie.Need-returns-3
-returns-3 c =
+returns-4 : tie.Need-returns-4
+returns-4 c =
     let p = c .before .before in
-    rw (after-points p, stops (p .points-fault .result .place) (rest p) (c .if3 .taken))
+    rw (after-points p, stops (p .points-fault .result .place) (rest p) (c .if4 .taken))
 
 segments-fault-requires : tie.Need-segments-fault-requires
 segments-fault-requires c κs = points-fault-requires (c .before .before .before) κs
 
-returns-4 : tie.Need-returns-4
-returns-4 c =
+returns-5 : tie.Need-returns-5
+returns-5 c =
     let p = c .before .before .before in
-    rw (after-points p, passes (p .points-fault .result .place) (rest p) (c .before .if3 .left)) (c .segments-fault .ensures)
+    rw (after-points p, passes (p .points-fault .result .place) (rest p) (c .before .if4 .left)) (c .segments-fault .ensures)
 
 pub curve-fault-spec : {M : Type 1} → statement M
 curve-fault-spec =
     tie.close
-    (tie.spec bad-lengths-requires returns bad-code-requires returns-2 points-fault-requires returns-3 segments-fault-requires returns-4)
+    (tie.spec bad-lengths-requires returns bad-code-requires returns-2 all-pass-requires returns-3 points-fault-requires returns-4 segments-fault-requires returns-5)

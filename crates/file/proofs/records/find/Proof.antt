@@ -13,8 +13,11 @@ Inv-loop bytes n area i₀ i = (i + 1 < n) × (area-at bytes i ≤ area)
 abbrev μ-loop : tie.MeasureT-loop
 μ-loop bytes n area i₀ i = n - i
 
+skip-requires : tie.Need-skip-requires Inv-loop μ-loop
+skip-requires c κs = c .before .pre
+
 loop-holds : tie.Need-loop-holds Inv-loop μ-loop
-loop-holds c = (omega arith, c .before .pre .1)
+loop-holds c = c .skip .ensures
 
 add-loop : tie.Need-add-loop Inv-loop μ-loop
 add-loop c = omega arith
@@ -45,4 +48,4 @@ returns-2 c = taken-last _ _ (omega arith) (c .before .loop .inv .1)
 pub find-spec : {M : Type 1} → statement M
 find-spec =
     tie.close
-    (tie.spec Inv-loop μ-loop loop-holds add-loop add-area-of area-of-requires returns add-i loop-less loop-again returns-2)
+    (tie.spec Inv-loop μ-loop skip-requires loop-holds add-loop add-area-of area-of-requires returns add-i loop-less loop-again returns-2)
