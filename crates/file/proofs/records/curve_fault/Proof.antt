@@ -9,7 +9,8 @@ use Rattle.curve.specs.Answer.{Answer, row, _then_}
 use Rattle.curve.specs.Points.{points, segments, shape-of}
 use Rattle.curve.specs.Check.{bad-lengths, segment-rows, curve-rows}
 use Rattle.curve.specs.Calls.{fault-answer}
-use Rattle.curve.proofs.Faults.{lengths-passed, passes, stops}
+use Rattle.curve.proofs.Accepted.{lengths-passed}
+use Rattle.curve.proofs.Faults.{passes, stops}
 use Rattle.file.specs.Layout.{areas-of, values-of, slopes-of}
 use Rattle.file.proofs.Placed.{lengths-are}
 use Rattle.file.proofs.records.curve_fault.Statement.{statement}
