@@ -4,22 +4,24 @@ ghost use lib.ListN.{length};
 
 mod calls;
 mod squares;
+mod two;
+
+use two::P;
 
 // The curve of K1 to K4: 500/10000/0, 600/14000/10000.
 fn k_check(name: &[u8], shape: u32) {
-    calls::check(name, &[500, 600], &[10000, 14000], &[0, 10000], shape);
+    two::check(name, P(500, 10000, 0), P(600, 14000, 10000), shape);
 }
 
 fn k_read(name: &[u8], shape: u32, area: u32) {
-    calls::read(name, &[500, 600], &[10000, 14000], &[0, 10000], shape, area);
+    two::read(name, P(500, 10000, 0), P(600, 14000, 10000), shape, area);
 }
 
 fn k_pair(name: &[u8], shape: u32, form: u32, plan: u32) {
-    calls::pair(
+    two::pair(
         name,
-        &[500, 600],
-        &[10000, 14000],
-        &[0, 10000],
+        P(500, 10000, 0),
+        P(600, 14000, 10000),
         shape,
         form,
         plan,
@@ -29,11 +31,10 @@ fn k_pair(name: &[u8], shape: u32, form: u32, plan: u32) {
 fn k_sheet(name: &[u8], shape: u32, start: u32, step: u32, list: &mut [i32])
     requires { ⌜ length (now list) ≤ 1025 ⌝ }
 {
-    calls::sheet(
+    two::sheet(
         name,
-        &[500, 600],
-        &[10000, 14000],
-        &[0, 10000],
+        P(500, 10000, 0),
+        P(600, 14000, 10000),
         shape,
         start,
         step,
@@ -46,14 +47,14 @@ fn ten_readings() {
     k_read(b"K2", 1, 525);
     k_read(b"K3", 2, 550);
     k_read(b"K4", 2, 525);
-    calls::read(b"K5", &[500, 600], &[10000, 14000], &[2000, 6000], 1, 501);
-    calls::read(b"K6", &[0, 2], &[0, 1], &[50, 50], 2, 1);
-    calls::read(b"K7", &[0, 2], &[0, 0], &[-300, 300], 2, 1);
-    calls::read(b"K8", &[0, 2], &[0, 1], &[0, 100], 2, 1);
-    calls::read(b"K9", &[0, 100], &[0, 100], &[100, 200], 2, 50);
-    calls::read(b"K10", &[0, 10], &[5, 5], &[0, 1], 1, 5);
-    calls::check(b"K9", &[0, 100], &[0, 100], &[100, 200], 2);
-    calls::check(b"K10", &[0, 10], &[5, 5], &[0, 1], 1);
+    two::read(b"K5", P(500, 10000, 2000), P(600, 14000, 6000), 1, 501);
+    two::read(b"K6", P(0, 0, 50), P(2, 1, 50), 2, 1);
+    two::read(b"K7", P(0, 0, -300), P(2, 0, 300), 2, 1);
+    two::read(b"K8", P(0, 0, 0), P(2, 1, 100), 2, 1);
+    two::read(b"K9", P(0, 0, 100), P(100, 100, 200), 2, 50);
+    two::read(b"K10", P(0, 5, 0), P(10, 5, 1), 1, 5);
+    two::check(b"K9", P(0, 0, 100), P(100, 100, 200), 2);
+    two::check(b"K10", P(0, 5, 0), P(10, 5, 1), 1);
 }
 
 // Document 01's "Also run".
@@ -62,8 +63,8 @@ fn also_run() {
     k_read(b"K1", 1, 601);
     k_read(b"K1", 1, 500);
     k_read(b"K1", 1, 600);
-    calls::check(b"gap2000", &[0, 2000], &[0, 200000], &[0, 10000], 1);
-    calls::check(b"gap2001", &[0, 2001], &[0, 200000], &[0, 10000], 1);
+    two::check(b"gap2000", P(0, 0, 0), P(2000, 200000, 10000), 1);
+    two::check(b"gap2001", P(0, 0, 0), P(2001, 200000, 10000), 1);
 }
 
 fn most_points() {
@@ -97,8 +98,8 @@ fn most_entries() {
 
 fn other_calls() {
     k_check(b"K1", 1);
-    calls::read(b"gap2000", &[0, 2000], &[0, 200000], &[0, 10000], 1, 1999);
-    calls::read(b"dip", &[0, 2000], &[0, 0], &[-10000, 10000], 2, 1000);
+    two::read(b"gap2000", P(0, 0, 0), P(2000, 200000, 10000), 1, 1999);
+    two::read(b"dip", P(0, 0, -10000), P(2000, 0, 10000), 2, 1000);
     squares::read(b"points64", 314, &mut [0; 64], &mut [0; 64], &mut [0; 64]);
     squares::read(b"points64", 630, &mut [0; 64], &mut [0; 64], &mut [0; 64]);
     k_sheet(b"K3", 2, 500, 25, &mut [7; 5]);
@@ -119,7 +120,7 @@ fn pairs() {
     k_pair(b"K3", 2, 550, 525);
     k_pair(b"K1", 1, 499, 601);
     k_pair(b"K1", 1, 550, 601);
-    calls::pair(b"K9", &[0, 100], &[0, 100], &[100, 200], 2, 499, 601);
+    two::pair(b"K9", P(0, 0, 100), P(100, 100, 200), 2, 499, 601);
 }
 
 // Lists, codes and fields at their ends.
@@ -130,10 +131,10 @@ fn ends_of_a_curve() {
     k_check(b"code0", 0);
     k_read(b"code3", 3, 550);
     k_check(b"codetop", u32::MAX);
-    calls::check(b"areatop", &[0, u32::MAX], &[5, 5], &[0, 0], 1);
-    calls::check(b"valuetop", &[0, 10], &[u32::MAX, 5], &[0, 0], 1);
-    calls::check(b"slopeleast", &[0, 10], &[5, 5], &[0, i32::MIN], 2);
-    calls::check(b"slopemost", &[0, 10], &[5, 5], &[0, i32::MAX], 2);
+    two::check(b"areatop", P(0, 5, 0), P(u32::MAX, 5, 0), 1);
+    two::check(b"valuetop", P(0, u32::MAX, 0), P(10, 5, 0), 1);
+    two::check(b"slopeleast", P(0, 5, 0), P(10, 5, i32::MIN), 2);
+    two::check(b"slopemost", P(0, 5, 0), P(10, 5, i32::MAX), 2);
 }
 
 // Areas, starts and steps at the ends of 32 bits.
