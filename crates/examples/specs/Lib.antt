@@ -1,0 +1,2 @@
+-- What functions of `examples` ask.
+pub mod Lists
