@@ -57,12 +57,12 @@ pub fn fill(
 {
     let mut area = start as u64;
     let mut k: usize = 0;
-    let mut i: usize = 0;
-    while i < out.len() {
+    let mut index: usize = 0;
+    while index < out.len() {
         let x = area as u32;
         k = lookup::find(areas, k, x);
-        out[i] = lookup::factor_at(areas, values, slopes, shape, k, x);
+        out[index] = lookup::factor_at(areas, values, slopes, shape, k, x);
         area += step as u64;
-        i += 1;
+        index += 1;
     }
 }

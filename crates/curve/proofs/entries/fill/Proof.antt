@@ -40,8 +40,8 @@ inside : (c : tie.In-loop Inv-loop μ-loop) → outside (c .before .before .befo
 inside c =
     let s = c .before .before .before .before in
     let k = c .before .loop .inv in
-    let h : c .before .loop .i < length (s .args .out .now) = (let e = k .size in let t = c .loop-test .taken in omega arith) in
-    rw (k .is) (s .pre .inside (c .before .loop .i) h)
+    let h : c .before .loop .index < length (s .args .out .now) = (let e = k .size in let t = c .loop-test .taken in omega arith) in
+    rw (k .is) (s .pre .inside (c .before .loop .index) h)
 
 first : (start step : ℕ) → start ≡ start + 0 * step
 first start step = rw zero-mul (sym (add-zero start))
@@ -76,8 +76,8 @@ slice-set-from-out c = c .before .before .loop-test .taken
 add-area : tie.Need-add-area Inv-loop μ-loop
 add-area c = (let s = c .before .before .before .before .before .before in let f = s .fits .step .fits in omega (arith, area-limit (s .pre .accepted) (c .before .before .before .loop .area) (inside (c .before .before))))
 
-add-i : tie.Need-add-i Inv-loop μ-loop
-add-i c = (let s = c .before .before .before .before .before .before in let e = c .before .before .before .loop .inv .size in let t = c .before .before .loop-test .taken in omega (arith, s .good))
+add-index : tie.Need-add-index Inv-loop μ-loop
+add-index c = (let s = c .before .before .before .before .before .before in let e = c .before .before .before .loop .inv .size in let t = c .before .before .loop-test .taken in omega (arith, s .good))
 
 loop-less : tie.Need-loop-less Inv-loop μ-loop
 loop-less c = (let e = c .before .before .before .loop .inv .size in let t = c .before .before .loop-test .taken in omega arith)
@@ -89,7 +89,7 @@ loop-again : tie.Need-loop-again Inv-loop μ-loop
 loop-again c =
     let s = c .before .before .before .before .before .before in
     let k = c .before .before .before .loop .inv in
-    let i = c .before .before .before .loop .i in
+    let i = c .before .before .before .loop .index in
     let f : ℕ → ℤ = λ j. reading (s .args .areas .now) (s .args .values .now) (s .args .slopes .now) (s .args .shape) (entry-area (s .args .start) (s .args .step) j) in
     let h : i < length (s .args .out .now) = (let e = k .size in let t = c .before .before .loop-test .taken in omega arith) in
     let r = c .before .find .ensures .reached in
@@ -127,7 +127,7 @@ fill-spec =
     mul-t12
     slice-set-from-out
     add-area
-    add-i
+    add-index
     loop-less
     loop-again
     same-length
