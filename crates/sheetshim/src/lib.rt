@@ -1,0 +1,25 @@
+// A sheet for the benchmark's C program: the calls of the interface stand in the other crates.
+ghost use mathlib.Core.Path.{_≡_};
+ghost use Rattle.curve.specs.Sheet.{sheet-answer, sheet-list};
+ghost use Rattle.sheetshim.specs.Entries.{entries};
+use curve::Filled;
+
+// The number of entries written, or 0.
+#[no_mangle]
+pub extern "C" fn sheet_factors(
+    areas: &[u32],
+    values: &[u32],
+    slopes: &[i32],
+    shape: u32,
+    start: u32,
+    step: u32,
+    out: &mut [i32],
+) -> u32
+    ensures answer { λ r. ⌜ r ≡ entries (sheet-answer (now (areas .entry)) (now (values .entry)) (now (slopes .entry)) shape start step (now (out .entry))) ⌝ }
+    ensures list { λ _. ⌜ now (out .exit) ≡ sheet-list (now (areas .entry)) (now (values .entry)) (now (slopes .entry)) shape start step (sheet-answer (now (areas .entry)) (now (values .entry)) (now (slopes .entry)) shape start step (now (out .entry))) (now (out .entry)) ⌝ }
+{
+    match curve::sheet(areas, values, slopes, shape, start, step, out) {
+        Filled::Refused(_, _) => 0,
+        Filled::Entries(n) => n,
+    }
+}
