@@ -8,7 +8,7 @@ use native.Mathlib.Omega.{arith}
 use borrow.Author.Tests.{eqb-true, ltb-false, not-false, lt-ltb}
 use lib.Dec.{eqb, ltb}
 use lib.ListN.{length}
-use Rattle.curve.specs.Answer.{Answer, gives, refused, row, _then_}
+use Rattle.curve.specs.Answer.{gives, refused, row, _then_}
 use Rattle.curve.specs.Check.{bad-lengths, curve-rows}
 use Rattle.curve.proofs.Accepted.{or-left, or-right, then-rest}
 use Rattle.curve.proofs.SheetRows.{tabulate-length}
@@ -54,12 +54,3 @@ room {n} {bytes} {areas} {values} {slopes} h e =
       in-values = ltb-false values n (or-right (ltb areas n) (ltb values n) f);
       in-slopes = ltb-false slopes n (or-right (ltb areas n || ltb values n) (ltb slopes n) e);
     }
-
--- what is refused before a result
-pub refused-before : {A : Type 0} (first : Answer (Unit {0})) (x : A) (number place : ℕ) → (first then gives x) ≡ refused number place → first ≡ refused number place
-unfolding _then_
-refused-before (gives u) x number place e = absurd (let z : _≡_ {A = ℕ} 0 1 = cc in omega arith)
-refused-before (refused n i) x number place e =
-    let a : n ≡ number = cc in
-    let b : i ≡ place = cc in
-    rw (a, b)

@@ -3,13 +3,11 @@ ghost use mathlib.Core.Path.{_≡_};
 ghost use mathlib.Core.List.{_++_};
 ghost use Prim.Native.Nat.{_+_, _*_, _≤_};
 ghost use lib.ListN.{length, drop};
-ghost use Rattle.curve.specs.Check.{checked};
-ghost use Rattle.curve.specs.Calls.{fault-answer, checked-answer};
+ghost use Rattle.curve.specs.Calls.{fault-answer};
 ghost use Rattle.file.specs.Layout.{twos-complement, little-endian, areas-of, values-of, slopes-of};
 ghost use Rattle.file.specs.Open.{bad-head, head-rows, short-list, open-answer, open-list};
 ghost use Rattle.file.specs.Calls.{opened-answer};
 ghost use Rattle.file.specs.Steps.{Room};
-use curve::Checked;
 
 pub mod records;
 
@@ -106,21 +104,6 @@ fn short_list(n: usize, areas: usize, values: usize, slopes: usize) -> bool
     slopes < n
 }
 
-// Rows 1 to 6 of the file's first n points.
-fn check_points(bytes: &[u8], n: usize, shape: u32) -> Checked
-    requires { ⌜ 7 + 12 * n ≤ length (now bytes) ⌝ }
-    ensures { λ r. ⌜ checked-answer r ≡ checked (areas-of (now (bytes .entry)) n) (values-of (now (bytes .entry)) n) (slopes-of (now (bytes .entry)) n) shape ⌝ }
-{
-    if n > 64 {
-        return Checked::Refused(1, 0);
-    }
-    let mut areas = [0u32; 64];
-    let mut values = [0u32; 64];
-    let mut slopes = [0i32; 64];
-    decode(bytes, n, &mut areas, &mut values, &mut slopes);
-    curve::check(&areas[..n], &values[..n], &slopes[..n], shape)
-}
-
 // What Open answers: shape and count, or a refusal's number and place.
 pub enum Opened {
     Curve(u32, u32),
@@ -142,11 +125,10 @@ pub fn open(bytes: &[u8], areas: &mut [u32], values: &mut [u32], slopes: &mut [i
         return Opened::Refused(11, 0);
     }
     let shape = bytes[5] as u32;
-    match check_points(bytes, n, shape) {
-        Checked::Refused(number, place) => Opened::Refused(number, place),
-        Checked::Segments(_) => {
-            decode(bytes, n, areas, values, slopes);
-            Opened::Curve(shape, n as u32)
-        }
+    let found = records::curve_fault(bytes, n, shape);
+    if found.number != 0 {
+        return Opened::Refused(found.number, found.place);
     }
+    decode(bytes, n, areas, values, slopes);
+    Opened::Curve(shape, n as u32)
 }

@@ -1,7 +1,7 @@
 -- `file::open` meets its contract: rows 9 and 10, row 11, a fault of the points, or the points written; a refusal leaves the lists as
 -- they were.
 -- Assumes nothing.
-use mathlib.Core.Path.{_≡_, refl, sym, _∙_, ap}
+use mathlib.Core.Path.{_≡_, refl, sym, _∙_}
 use mathlib.Core.Bool.{false}
 use mathlib.Core.List.{List}
 use Prim.Native.Nat.{ℕ, _+_, _*_}
@@ -9,14 +9,11 @@ use native.Mathlib.Omega.{arith}
 use borrow.Author.Needs.{needs}
 use lib.ListN.{length}
 use Rattle.curve.specs.Answer.{Answer, gives, row, _then_}
-use Rattle.curve.specs.Check.{checked}
-use Rattle.curve.specs.Calls.{checked-answer}
-use Rattle.curve.proofs.Accepted.{then-first}
 use Rattle.curve.proofs.Faults.{a-fault, no-fault}
 use Rattle.file.specs.Layout.{shape-code, count}
 use Rattle.file.specs.Open.{head-rows, list-rows, short-list, open-answer, open-list}
 use Rattle.file.specs.Calls.{opened-answer}
-use Rattle.file.proofs.Heads.{head-passed, room, refused-before}
+use Rattle.file.proofs.Heads.{head-passed, room}
 use Rattle.file.proofs.open.Statement.{statement}
 use Rattle.file.proofs.open.Tie as tie
 
@@ -81,28 +78,20 @@ shared-slice-read-shape c = omega (arith, whole (c .before))
 cast-shape : tie.Need-cast-shape
 cast-shape c = omega (arith, c .shared-slice-known3 .given 5)
 
-check-points-requires : tie.Need-check-points-requires
-check-points-requires c κs = omega (arith, whole (c .before))
+curve-fault-requires : tie.Need-curve-fault-requires
+curve-fault-requires c κs = record { file = omega (arith, whole (c .before)) }
 
-enum-known-number : tie.Need-enum-known-number
-enum-known-number c = search needs
-
-enum-told : tie.Need-enum-told
-enum-told c = search needs
+returns-3 : tie.Need-returns-3
+unfolding list-rows open-list opened-answer _then_
+returns-3 c =
+    let e = c .before .before .before .before in
+    (sym (tried e (sym (c .before .before .curve-fault .ensures) ∙ a-fault _ (c .if3 .taken))), (refl, (refl, refl)))
 
 decode-requires : tie.Need-decode-requires
 decode-requires c κs = (let e = c .before .before .before .before .before .before .before in room (omega (arith, whole e)) (long e))
 
-cast-t27 : tie.Need-cast-t27
-cast-t27 c = omega (arith, c .before .before .before .before .before .before .before .before .before .before .before .before .before .before .before .shared-slice-known2 .given 6)
-
-returns-3 : tie.Need-returns-3
-unfolding list-rows checked checked-answer open-list opened-answer _then_
-returns-3 c =
-    let n = c .before in
-    let k = n .before .before in
-    let e = k .before .before in
-    (sym (tried e (refused-before (list-rows (input e)) _ _ _ (sym (k .check-points .ensures) ∙ ap checked-answer (n .number .given .1)))), (refl, (refl, refl)))
+cast-t24 : tie.Need-cast-t24
+cast-t24 c = omega (arith, c .before .before .before .before .before .before .before .before .before .before .before .before .before .before .before .shared-slice-known2 .given 6)
 
 same-length : tie.Need-same-length
 same-length c = search needs
@@ -114,13 +103,12 @@ same-length-3 : tie.Need-same-length-3
 same-length-3 c = search needs
 
 returns-4 : tie.Need-returns-4
-unfolding list-rows checked checked-answer open-list opened-answer _then_
+unfolding list-rows open-list opened-answer _then_
 returns-4 c =
     let d = c .before .before .before .before .before in
     let n = d .before .before .before .before in
-    let k = n .before .before in
-    let e = k .before .before in
-    (sym (tried e (then-first (list-rows (input e)) _ _ (sym (k .check-points .ensures) ∙ ap checked-answer (n .enum-told .given .1)))), d .decode .ensures)
+    let e = n .before .before .before .before in
+    (sym (tried e (sym (n .before .before .curve-fault .ensures) ∙ no-fault _ (n .if3 .left))), d .decode .ensures)
 
 pub open-spec : {M : Type 1} → statement M
 open-spec =
@@ -134,12 +122,10 @@ open-spec =
     returns-2
     shared-slice-read-shape
     cast-shape
-    check-points-requires
-    enum-known-number
-    enum-told
-    decode-requires
-    cast-t27
+    curve-fault-requires
     returns-3
+    decode-requires
+    cast-t24
     same-length
     same-length-2
     same-length-3

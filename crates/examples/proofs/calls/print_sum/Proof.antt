@@ -1,7 +1,6 @@
 -- `examples::calls::print_sum` is safe and ends. Each entry adds less than 2^32 to a sum.
 -- Assumes nothing.
 use Prim.Native.Nat.{_≤_, _-_, _*_, _^_}
-use native.Mathlib.Omega.{arith}
 use borrow.Author.Needs.{needs}
 use lib.ListN.{length}
 use Rattle.examples.proofs.calls.print_sum.Statement.{statement}
