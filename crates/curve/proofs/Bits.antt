@@ -1,6 +1,6 @@
 -- Signed numbers in machine words: tests by their bits, and the sizes of differences and products.
 -- Assumes nothing.
-use mathlib.Core.Path.{_≡_, refl, sym, _∙_, ap, subst}
+use mathlib.Core.Path.{_≡_, refl, sym, _∙_, ap, subst, subst⁻¹}
 use mathlib.Core.Bool.{Bool, true, false, cond, not}
 use mathlib.Core.List.{List}
 use Prim.Native.Nat.{ℕ, zero, suc, _-_, _*_, _^_, _≤_, _<_}
@@ -11,12 +11,16 @@ use lib.Dec.{T, eqb, leb, ltb, ltb→lt, eqb→eq, eqb-refl}
 use lib.IntN.{ℤ, pos, negsuc, negℤ, natAbs, _-ℤ_, _*ℤ_}
 use lib.ListN.{getD}
 use lib.Pow.{pow-pos}
-use lib.Signed.{mag, leZ, ltZ, ≤ℤ-refl, leZ-yes, natAbs-le}
+use lib.Signed.{mag, nonNeg, leZ, ltZ, ≤ℤ-refl, leZ-yes, natAbs-le}
 use mir.Syntax.{Width, w32, w64}
-use mir.Val.{Fits, SFits, hbits, toZ, ofZ}
-use mir.Facts.{sfits-widen, toZ-ofZ, toZ-pos, and-yes, yes-and}
+use mir.Val.{Fits, SFits, bits, hbits, toZ, ofZ}
+use mir.Facts.{sfits-widen, toZ-ofZ, toZ-pos, and-yes, yes-and, fits-natAbs}
 use Rattle.exact.proofs.Order as Z
 use Rattle.curve.specs.Steps.{eqZ}
+
+-- a number that is not negative, as a natural number of a width that has room for it
+pub natural : {w w′ : Width} {z : ℤ} → T (ltb (hbits w) (bits w′)) → SFits w z → z ≡ pos (natAbs z) → T (nonNeg z) × Fits w′ (natAbs z)
+natural t f e = (subst⁻¹ (λ (y : ℤ). T (nonNeg y)) e tt, fits-natAbs t f)
 
 -- ---- tests
 

@@ -1,20 +1,19 @@
 -- `curve::segment::convex_factor` meets its contract.
 -- Assumes nothing.
 use borrow.Author.Needs.{needs}
-use mathlib.Core.Path.{_≡_, _∙_, ap, sym, subst⁻¹}
+use mathlib.Core.Path.{_≡_, _∙_, ap, sym}
 use Prim.Native.Nat.{_-_, _≤_}
 use native.Mathlib.Omega.{arith}
 use lib.IntN.{ℤ, pos, natAbs, *ℤ-comm}
 use mir.Syntax.{w32, w64}
-use mir.Val.{Fits, SFits, toZ, ofZ}
-use mir.Facts.{toZ-ofZ, fits-natAbs}
-use lib.Dec.{T}
-use lib.Signed.{nonNeg}
+use mir.Val.{SFits, toZ, ofZ}
+use mir.Facts.{toZ-ofZ}
 use Rattle.exact.specs.Rounding.{round}
 use Rattle.curve.specs.Interpolant.{interpolant}
 use Rattle.exact.proofs.Magnitude.{fits-size, size--}
 use Rattle.curve.specs.Points.{Segment, convex}
 use Rattle.curve.specs.Steps.{point-of, between, above-tangent}
+use Rattle.curve.proofs.Bits.{natural}
 use Rattle.curve.proofs.Segments.{rise, e₀, e₁, g, a, b}
 use Rattle.curve.proofs.Plain.{Convex, convex-inside, e₀-size, e₁-size, g-size, reading-fits}
 use Rattle.curve.proofs.segment.convex_factor.Statement.{statement}
@@ -50,9 +49,6 @@ a-fits c = fits-size w64 (a (at c)) (omega (arith, size-- (e₁ (at c)) (g (at c
 b-fits : (c : tie.Start) → SFits w64 (b (at c))
 b-fits c = fits-size w64 (b (at c)) (omega (arith, size-- (g (at c)) (e₀ (at c)), e₀-size (c .pre), g-size (c .pre)))
 
-natural : {z : ℤ} → SFits w64 z → z ≡ pos (natAbs z) → T (nonNeg z) × Fits w64 (natAbs z)
-natural f e = (subst⁻¹ (λ (y : ℤ). T (nonNeg y)) e tt, fits-natAbs tt f)
-
 sub-t : tie.Need-sub-t
 sub-t c = search needs
 
@@ -76,7 +72,7 @@ sub-above-tangent c =
 cast-above-tangent : tie.Need-cast-above-tangent
 cast-above-tangent c =
     let sc = c .before .before in
-    rw (right-is sc, chord-is sc, toZ-ofZ (a-fits (sc .before))) (natural (a-fits (sc .before)) (facts (sc .before) .right-over))
+    rw (right-is sc, chord-is sc, toZ-ofZ (a-fits (sc .before))) (natural tt (a-fits (sc .before)) (facts (sc .before) .right-over))
 
 sub-above-tangent-2 : tie.Need-sub-above-tangent-2
 sub-above-tangent-2 c =
@@ -86,7 +82,7 @@ sub-above-tangent-2 c =
 cast-above-tangent-2 : tie.Need-cast-above-tangent-2
 cast-above-tangent-2 c =
     let sc = c .before .before .before .before in
-    rw (chord-is sc, left-is sc, toZ-ofZ (b-fits (sc .before))) (natural (b-fits (sc .before)) (facts (sc .before) .left-over))
+    rw (chord-is sc, left-is sc, toZ-ofZ (b-fits (sc .before))) (natural tt (b-fits (sc .before)) (facts (sc .before) .left-over))
 
 above-tangent-requires : tie.Need-above-tangent-requires
 above-tangent-requires c κs =

@@ -2,24 +2,19 @@
 -- Assumes nothing.
 use borrow.Author.Needs.{needs}
 use mathlib.Core.Path.{_≡_, _∙_, ap, sym, subst⁻¹}
-use lib.Dec.{T}
 use native.Mathlib.Omega.{arith}
-use lib.IntN.{ℤ, pos, natAbs}
-use mir.Syntax.{w32, w64}
-use lib.Signed.{nonNeg}
-use mir.Val.{Fits, SFits, toZ, ofZ}
-use mir.Facts.{toZ-ofZ, toZ-pos, fits-natAbs}
+use lib.IntN.{pos}
+use mir.Syntax.{w32}
+use mir.Val.{SFits}
+use mir.Facts.{toZ-ofZ, toZ-pos}
 use Rattle.exact.specs.Rounding.{round}
 use Rattle.curve.specs.Points.{rising}
 use Rattle.curve.specs.Interpolant.{interpolant}
 use Rattle.curve.specs.Steps.{point-of, between}
+use Rattle.curve.proofs.Bits.{natural}
 use Rattle.curve.proofs.Plain.{Rising, rising-inside, flat-inside, reading-fits}
 use Rattle.curve.proofs.segment.rising_factor.Statement.{statement}
 use Rattle.curve.proofs.segment.rising_factor.Tie as tie
-
--- a slope that is not negative
-natural : (d : ℤ) → SFits w32 d → d ≡ pos (natAbs d) → T (nonNeg (toZ w32 (ofZ w32 d))) × Fits w64 (natAbs (toZ w32 (ofZ w32 d)))
-natural d f e = rw (toZ-ofZ f) (subst⁻¹ (λ (z : ℤ). T (nonNeg z)) e tt, fits-natAbs tt f)
 
 facts : (c : tie.Else1) → Rising (between (point-of (c .before .args .x0) (c .before .args .y0) (c .before .args .d0)) (point-of (c .before .args .x1) (c .before .args .y1) (c .before .args .d1))) (c .before .args .area)
 facts c = rising-inside (c .before .pre) (c .if1 .left)
@@ -49,10 +44,10 @@ cast-rising : tie.Need-cast-rising
 cast-rising c = search needs
 
 cast-rising-2 : tie.Need-cast-rising-2
-cast-rising-2 c = natural (c .before .args .d0) (c .before .fits .d0) (facts c .left-slope)
+cast-rising-2 c = rw (toZ-ofZ (c .before .fits .d0)) (natural tt (c .before .fits .d0) (facts c .left-slope))
 
 cast-rising-3 : tie.Need-cast-rising-3
-cast-rising-3 c = natural (c .before .args .d1) (c .before .fits .d1) (facts c .right-slope)
+cast-rising-3 c = rw (toZ-ofZ (c .before .fits .d1)) (natural tt (c .before .fits .d1) (facts c .right-slope))
 
 rising-requires : tie.Need-rising-requires
 rising-requires c κs = rw (toZ-ofZ (c .before .fits .d0), toZ-ofZ (c .before .fits .d1)) (facts c .climbing)
