@@ -13,12 +13,13 @@ use mir.Val.{SFits}
 use Rattle.exact.proofs.Magnitude.{size-between, fits-size}
 use lib.ListN.{length, getD}
 use Rattle.exact.specs.Rounding.{round}
-use Rattle.curve.specs.Points.{Segment, shape-of}
-use Rattle.curve.specs.Interpolant.{interpolant}
-use Rattle.curve.specs.Read.{reading}
-use Rattle.curve.specs.Steps.{Inside, Readable}
-use Rattle.curve.proofs.Indexed.{segment}
-use Rattle.curve.proofs.Accepted.{view, lengths, value-is, not-beyond}
+use Rattle.model.specs.Points.{Segment, shape-of}
+use Rattle.model.specs.Interpolant.{interpolant}
+use Rattle.model.specs.Read.{reading}
+use Rattle.model.specs.Facts.{Inside}
+use Rattle.curve.specs.Steps.{Readable}
+use Rattle.model.proofs.Indexed.{segment}
+use Rattle.model.proofs.Accepted.{view, lengths, value-is, not-beyond}
 
 slope-fits : {d : ℤ} → negsuc 9999 ≤ℤ d → d ≤ℤ pos 10000 → SFits w32 d
 slope-fits {d} low high =

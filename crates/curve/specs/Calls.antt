@@ -1,9 +1,7 @@
 -- Answers of calls, in document 01's numbers and values.
 -- Assumes nothing.
 use Prim.Native.Nat.{ℕ}
-use mathlib.Core.Bool.{not}
-use lib.Dec.{eqb}
-use Rattle.curve.specs.Answer.{Answer, gives, refused, row}
+use Rattle.model.specs.Answer.{Answer, gives, refused}
 use lib.IntN.{ℤ}
 use Rattle.curve.specs.declared.Checked.{Checked}
 use Rattle.curve.specs.declared.Checked.the-variants as checked
@@ -11,10 +9,6 @@ use Rattle.curve.specs.declared.Reading.{Reading}
 use Rattle.curve.specs.declared.Reading.the-variants as reading
 use Rattle.curve.specs.declared.Filled.{Filled}
 use Rattle.curve.specs.declared.Filled.the-variants as filled
-
--- a fault's number and place; the number 0 is no fault
-unfoldable pub fault-answer : ℕ → ℕ → Answer (Unit {0})
-fault-answer number place = row (not (eqb number 0)) number place
 
 unfoldable pub checked-answer : Checked → Answer ℕ
 checked-answer (checked.Segments count) = gives count

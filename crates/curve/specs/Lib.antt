@@ -1,12 +1,3 @@
--- Document 01 in definitions, in the document's order.
-pub mod Answer
-pub mod Points
-pub mod Interpolant
-pub mod Shape
-pub mod Check
-pub mod Read
-pub mod Sheet
-pub mod Readings
-pub mod Laws
+-- The answers of the calls.
 pub mod Calls
 pub mod Steps

@@ -1,134 +1,15 @@
--- What private functions ask and give, in plain numbers. Nothing here need be believed: the calls' contracts cite the definitions
--- of document 01.
+-- What private functions ask and give. Nothing here need be believed: the calls' contracts cite the definitions of document 01.
 -- Assumes nothing.
 use mathlib.Core.Path.{_≡_}
-use mathlib.Core.Bool.{Bool, true, false, cond, _&&_}
+use mathlib.Core.Bool.{false}
 use mathlib.Core.List.{List}
 use mathlib.Core.Logic.{_⊎_}
-use mathlib.Core.Option.{Option, none, some}
-use Prim.Native.Nat.{ℕ, suc, _+_, _*_, _/_, _≤_, _<_}
-use lib.Dec.{T, ltb}
+use Prim.Native.Nat.{ℕ, suc, _≤_, _<_}
+use lib.IntN.{ℤ}
 use lib.ListN.{length, getD}
-use lib.IntN.{ℤ, pos, negsuc, natAbs, _+ℤ_, _*ℤ_, _-ℤ_}
-use lib.Signed.{_≤ℤ_, leZ, ltZ}
-use Rattle.exact.specs.Rounding.{floorDiv}
-use Rattle.curve.specs.Answer.{Answer, row}
-use Rattle.curve.specs.Points.{Point, Segment, Shape}
-use Rattle.curve.specs.Shape.{has-shape}
-use Rattle.curve.specs.Check.{Accepted}
-use Rattle.curve.specs.Read.{outside}
-use Rattle.curve.specs.Sheet.{entry-area}
-
--- ---- rows 1 to 6
-
--- row 1 is passed
-pub record Lengths (areas values slopes : ℕ) : Type 0 where
-  pub values-too : areas ≡ values
-  pub slopes-too : areas ≡ slopes
-  pub least : 2 ≤ areas
-  pub most : areas ≤ 64
-
--- the area before a point; before the first there is none
-unfoldable pub earlier : Bool → ℕ → Option ℕ
-earlier true before = none
-earlier false before = some before
-
-abbrev pub point-of : ℕ → ℕ → ℤ → Point
-point-of area value slope = record { area = area; value = value; slope = slope }
-
-abbrev pub between : Point → Point → Segment
-between left right = record { left = left; right = right }
-
--- equality, as a test
-abbrev pub eqZ : ℤ → ℤ → Bool
-eqZ a b = leZ a b && leZ b a
-
--- shape 1, of F and the slope figures
-unfoldable pub rises-by : ℤ → ℤ → ℤ → Bool
-rises-by F D₀ D₁ =
-    cond (ltZ (pos 0) F) (leZ (pos 0) D₀ && leZ (pos 0) D₁) (eqZ F (pos 0) && eqZ D₀ (pos 0) && eqZ D₁ (pos 0))
-
--- shape 2, of h × left slope figure, 100 × F and h × right slope figure
-unfoldable pub bends-by : ℤ → ℤ → ℤ → Bool
-bends-by left chord right = cond (ltZ left chord) (ltZ chord right) (eqZ left chord && eqZ chord right)
-
--- ---- the reading of a segment
-
--- the distances t and u of an area from the ends of a segment
-pub record Ends (t u : ℕ) : Type 0 where
-  pub most : t + u ≤ 2000
-  pub least : 0 < t + u
-
--- A of the rising curve, from the left end; C is A from the right end, and B = A + C
-abbrev pub part : (t u G E : ℕ) → ℕ
-part t u G E = t * (G * t + E * u)
-
-pub record Weights (t u G E : ℕ) : Type 0 where
-  pub ends : Ends t u
-  pub first : G ≤ 20000000
-  pub second : E ≤ 20000000
-
-abbrev pub whole-part : (t u F D₀ D₁ : ℕ) → ℕ
-whole-part t u F D₀ D₁ = part t u (100 * F) ((t + u) * D₀) + part u t (100 * F) ((t + u) * D₁)
-
-abbrev pub rising-reading : (t u left F D₀ D₁ : ℕ) → ℕ
-rising-reading t u left F D₀ D₁ =
-    (2 * left + 1 + part t u (100 * F) ((t + u) * D₀) * (2 * F) / whole-part t u F D₀ D₁) / 2
-
-pub record Climbing (t u left F D₀ D₁ : ℕ) : Type 0 where
-  pub ends : Ends t u
-  pub left-value : left ≤ 200000
-  pub rise : F ≤ 200000
-  pub left-slope : D₀ ≤ 10000
-  pub right-slope : D₁ ≤ 10000
-  pub above-0 : 0 < whole-part t u F D₀ D₁
-
--- what the convex curve is above its left tangent, times 2 S: 2 w² / W with w = b t and W = a u + b t, 0 where W is
-abbrev pub above-tangent : (t u a b : ℕ) → ℕ
-above-tangent t u a b = b * t * (2 * (b * t)) / (a * u + b * t)
-
-pub record Bending (t u a b : ℕ) : Type 0 where
-  pub ends : Ends t u
-  pub right-slope : a ≤ 40000000
-  pub left-slope : b ≤ 40000000
-
--- the slopes of a segment over the denominator 100 h
-pub record Normal (x₀ y₀ : ℕ) (d₀ : ℤ) (x₁ y₁ : ℕ) (d₁ e₀ g e₁ : ℤ) : Type 0 where
-  pub left : e₀ ≡ (pos x₁ -ℤ pos x₀) *ℤ d₀
-  pub chord : g ≡ (pos y₁ -ℤ pos y₀) *ℤ pos 100
-  pub right : e₁ ≡ (pos x₁ -ℤ pos x₀) *ℤ d₁
-
--- the reading from the left tangent
-pub record Tangent (t h left E : ℕ) (e₀ : ℤ) : Type 0 where
-  pub short : h ≤ 2000
-  pub least : 0 < h
-  pub distance : t ≤ h
-  pub left-value : left ≤ 200000
-  pub slope : natAbs e₀ ≤ 20000000
-  pub above : E ≤ 160000000000
-
-abbrev pub tangent-reading : (t h left E : ℕ) (e₀ : ℤ) → ℤ
-tangent-reading t h left E e₀ =
-    floorDiv (pos ((2 * left + 1) * (100 * h)) +ℤ pos 2 *ℤ (e₀ *ℤ pos t) +ℤ pos E) (2 * (100 * h))
-
--- what rows 3 to 6 leave of a segment
-pub record Good (shape : Shape) (s : Segment) : Type 0 where
-  pub ordered : s .left .area < s .right .area
-  pub near : s .right .area ≤ s .left .area + 2000
-  pub limit : s .right .area ≤ 20000
-  pub left-value : s .left .value ≤ 200000
-  pub right-value : s .right .value ≤ 200000
-  pub left-slope-low : negsuc 9999 ≤ℤ s .left .slope
-  pub left-slope-high : s .left .slope ≤ℤ pos 10000
-  pub right-slope-low : negsuc 9999 ≤ℤ s .right .slope
-  pub right-slope-high : s .right .slope ≤ℤ pos 10000
-  pub shaped : T (has-shape shape s)
-
--- an area is read in a segment
-pub record Inside (shape : Shape) (s : Segment) (x : ℕ) : Type 0 where
-  pub good : Good shape s
-  pub low : s .left .area ≤ x
-  pub high : x ≤ s .right .area
+use Rattle.model.specs.Check.{Accepted}
+use Rattle.model.specs.Read.{outside}
+use Rattle.model.specs.Sheet.{entry-area}
 
 -- the area at an index is not above the area read
 pub record Reached (areas : List ℕ) (i x : ℕ) : Type 0 where
@@ -145,10 +26,6 @@ pub record Readable (areas values : List ℕ) (slopes : List ℤ) (code i x : �
   pub accepted : Accepted areas values slopes code
   pub within : outside areas x ≡ false
   pub taken : Taken areas i x
-
--- row 7 of n entries, by the first entry outside or n
-abbrev pub first-answer : ℕ → ℕ → Answer (Unit {0})
-first-answer index n = row (ltb index n) 7 index
 
 -- an accepted curve and n entries whose areas are all its own
 pub record Fillable (areas values : List ℕ) (slopes : List ℤ) (code start step n : ℕ) : Type 0 where

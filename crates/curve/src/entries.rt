@@ -2,9 +2,10 @@
 ghost use mathlib.Core.Path.{_≡_};
 ghost use Prim.Native.Nat.{_<_, _≤_};
 ghost use lib.ListN.{length};
-ghost use Rattle.curve.specs.Read.{reading};
-ghost use Rattle.curve.specs.Sheet.{bad-sheet, entry-area, entry-rows, tabulate};
-ghost use Rattle.curve.specs.Steps.{first-answer, Fillable};
+ghost use Rattle.model.specs.Read.{reading};
+ghost use Rattle.model.specs.Sheet.{bad-sheet, entry-area, entry-rows, tabulate};
+ghost use Rattle.model.specs.Facts.{first-answer};
+ghost use Rattle.curve.specs.Steps.{Fillable};
 use super::lookup;
 
 // Row 8.

@@ -1,14 +1,12 @@
 // Factor curves through rated points.
 ghost use mathlib.Core.Path.{_≡_};
-ghost use Rattle.curve.specs.Check.{checked};
-ghost use Rattle.curve.specs.Read.{read-answer};
-ghost use Rattle.curve.specs.Sheet.{sheet-answer, sheet-list};
+ghost use Rattle.model.specs.Check.{checked};
+ghost use Rattle.model.specs.Read.{read-answer};
+ghost use Rattle.model.specs.Sheet.{sheet-answer, sheet-list};
 ghost use Rattle.curve.specs.Calls.{checked-answer, reading-answer, filled-answer};
 
 mod entries;
 mod lookup;
-pub mod rows;
-pub mod segment;
 
 // What Check answers: the number of segments, or a refusal's number and place.
 pub enum Checked {

@@ -2,9 +2,8 @@
 ghost use mathlib.Core.Path.{_≡_};
 ghost use Prim.Native.Nat.{_<_};
 ghost use lib.ListN.{length};
-ghost use Rattle.curve.specs.Read.{reading, outside as lies-outside};
+ghost use Rattle.model.specs.Read.{reading, outside as lies-outside};
 ghost use Rattle.curve.specs.Steps.{Reached, Taken, Readable};
-use super::segment;
 
 // Row 7.
 pub fn outside(areas: &[u32], area: u32) -> bool

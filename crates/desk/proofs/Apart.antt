@@ -8,13 +8,13 @@ use lib.IntN.{ℤ, pos, negsuc, negℤ, _-ℤ_}
 use lib.Signed.{_≤ℤ_}
 use Rattle.exact.proofs.Ring.{ring, terms}
 use Rattle.exact.proofs.Order as Z
-use Rattle.curve.specs.Answer.{Answer, gives, refused, row, _then_}
-use Rattle.curve.specs.Check.{curve-rows, Accepted}
-use Rattle.curve.specs.Read.{outside, reading, read-answer}
-use Rattle.curve.specs.Laws.{Curve}
-use Rattle.curve.proofs.Accepted.{then-first, then-rest, row-passed}
-use Rattle.curve.proofs.Laws.{factors-are-ranged}
-use Rattle.file.specs.Layout.{count}
+use Rattle.model.specs.Answer.{Answer, gives, refused, row, _then_}
+use Rattle.model.specs.Check.{curve-rows, Accepted}
+use Rattle.model.specs.Read.{outside, reading, read-answer}
+use Rattle.model.specs.Laws.{Curve}
+use Rattle.model.proofs.Accepted.{then-first, then-rest, row-passed}
+use Rattle.model.proofs.Laws.{factors-are-ranged}
+use Rattle.records.specs.Layout.{count}
 use Rattle.file.specs.Open.{head-rows}
 use Rattle.desk.specs.Desk.{desk-answer, desk-number}
 use Rattle.desk.specs.Laws.{Apart, FactorsAndRefusalsApart}

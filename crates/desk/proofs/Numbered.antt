@@ -6,12 +6,12 @@ use mathlib.Core.Option.{Option, some}
 use Prim.Native.Nat.{ℕ, suc, _*_, _≤_}
 use lib.Dec.{ltb, lit≤}
 use lib.IntN.{ℤ}
-use Rattle.curve.specs.Answer.{Answer, gives, refused, row, _then_}
-use Rattle.curve.specs.Points.{Point, Segment, Shape}
-use Rattle.curve.specs.Shape.{has-shape}
-use Rattle.curve.specs.Check.{bad-area, bad-value, bad-slope, point-rows, segment-rows, curve-rows}
-use Rattle.curve.specs.Read.{outside, read-answer}
-use Rattle.file.specs.Layout.{count}
+use Rattle.model.specs.Answer.{Answer, gives, refused, row, _then_}
+use Rattle.model.specs.Points.{Point, Segment, Shape}
+use Rattle.model.specs.Shape.{has-shape}
+use Rattle.model.specs.Check.{bad-area, bad-value, bad-slope, point-rows, segment-rows, curve-rows}
+use Rattle.model.specs.Read.{outside, read-answer}
+use Rattle.records.specs.Layout.{count}
 use Rattle.file.specs.Open.{bad-head, bad-size, head-rows}
 use Rattle.desk.specs.Desk.{desk-answer}
 

@@ -5,9 +5,9 @@ use mathlib.Core.List.{List, _++_}
 use lib.Dec.{ltb}
 use lib.IntN.{ℤ, pos, negsuc, _-ℤ_}
 use lib.ListN.{take, drop}
-use Rattle.curve.specs.Answer.{Answer, gives, refused, row, _then_}
-use Rattle.curve.specs.Read.{read-answer}
-use Rattle.file.specs.Layout.{shape-code, count, areas-of, values-of, slopes-of}
+use Rattle.model.specs.Answer.{Answer, gives, refused, row, _then_}
+use Rattle.model.specs.Read.{read-answer}
+use Rattle.records.specs.Layout.{shape-code, count, areas-of, values-of, slopes-of}
 use Rattle.file.specs.Open.{head-rows}
 
 -- of the bytes, the area and the scratch's length: rows 9 and 10; 11, scratch shorter than 12 × count; then 1 to 6, and 7, of the

@@ -4,7 +4,7 @@ use Prim.Native.Nat.{ℕ}
 use mathlib.Core.List.{List}
 use lib.IntN.{ℤ, negsuc}
 use lib.Signed.{_≤ℤ_}
-use Rattle.curve.specs.Answer.{Answer, gives, refused}
+use Rattle.model.specs.Answer.{Answer, gives, refused}
 use Rattle.desk.specs.Desk.{desk-answer, desk-number}
 
 -- a factor is at least −200,000, the number of a refusal at most −1,000,001

@@ -3,12 +3,11 @@ ghost use mathlib.Core.Path.{_≡_};
 ghost use Prim.Native.Nat.{_+_, _*_, _≤_};
 ghost use lib.IntN.{pos, negsuc, _-ℤ_};
 ghost use lib.ListN.{length};
-ghost use Rattle.curve.specs.Read.{read-answer};
+ghost use Rattle.model.specs.Read.{read-answer};
 ghost use Rattle.curve.specs.Calls.{reading-answer};
-ghost use Rattle.file.specs.Layout.{areas-of, values-of, slopes-of};
+ghost use Rattle.records.specs.Layout.{areas-of, values-of, slopes-of};
 ghost use Rattle.desk.specs.Desk.{desk-answer, desk-number, desk-scratch};
 use curve::Reading;
-use file::records;
 
 // The number of a refusal.
 fn refusal(number: u32) -> i32

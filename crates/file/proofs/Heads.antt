@@ -8,11 +8,11 @@ use native.Mathlib.Omega.{arith}
 use borrow.Author.Tests.{eqb-true, ltb-false, not-false, lt-ltb}
 use lib.Dec.{eqb, ltb}
 use lib.ListN.{length}
-use Rattle.curve.specs.Answer.{gives, refused, row, _then_}
-use Rattle.curve.specs.Check.{bad-lengths, curve-rows}
-use Rattle.curve.proofs.Accepted.{or-left, or-right, then-rest}
-use Rattle.curve.proofs.SheetRows.{tabulate-length}
-use Rattle.file.specs.Layout.{version, count, area-at, value-at, slope-at, areas-of, values-of, slopes-of}
+use Rattle.model.specs.Answer.{gives, refused, row, _then_}
+use Rattle.model.specs.Check.{bad-lengths, curve-rows}
+use Rattle.model.proofs.Accepted.{or-left, or-right, then-rest}
+use Rattle.model.proofs.Filling.{tabulate-length}
+use Rattle.records.specs.Layout.{version, count, area-at, value-at, slope-at, areas-of, values-of, slopes-of}
 use Rattle.file.specs.Open.{wrong-mark, bad-head, bad-size, head-rows, short-list}
 use Rattle.file.specs.Steps.{Room}
 

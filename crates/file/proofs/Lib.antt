@@ -1,5 +1,2 @@
--- Laws of the curve file that other crates cite.
-pub mod Numbers
+-- Laws of Open that other crates cite.
 pub mod Heads
-pub mod Filling
-pub mod Placed

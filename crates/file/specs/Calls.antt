@@ -1,6 +1,6 @@
 -- Open's answer, in document 01's numbers and values.
 -- Assumes nothing.
-use Rattle.curve.specs.Answer.{Answer, gives, refused}
+use Rattle.model.specs.Answer.{Answer, gives, refused}
 use Rattle.file.specs.Open.{Head}
 use Rattle.file.specs.declared.Opened.{Opened}
 use Rattle.file.specs.declared.Opened.the-variants as opened

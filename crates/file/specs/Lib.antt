@@ -1,5 +1,4 @@
--- The curve file and Open, in document 01's order.
-pub mod Layout
+-- Open, in document 01's order.
 pub mod Open
 pub mod Calls
 pub mod Steps

@@ -5,9 +5,9 @@ use mathlib.Core.Bool.{Bool, not, _||_}
 use mathlib.Core.List.{List, _++_}
 use lib.Dec.{eqb, ltb}
 use lib.ListN.{length, drop}
-use Rattle.curve.specs.Answer.{Answer, gives, refused, row, _then_}
-use Rattle.curve.specs.Check.{curve-rows}
-use Rattle.file.specs.Layout.{byte, version, shape-code, count, areas-of, values-of, slopes-of}
+use Rattle.model.specs.Answer.{Answer, gives, refused, row, _then_}
+use Rattle.model.specs.Check.{curve-rows}
+use Rattle.records.specs.Layout.{byte, version, shape-code, count, areas-of, values-of, slopes-of}
 
 module _ (bytes : List ℕ) where
   -- bytes 0 to 2 are the letters TRF (84, 82, 70 decimal)

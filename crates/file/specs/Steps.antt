@@ -1,14 +1,6 @@
--- What functions of this crate ask, in plain numbers. Nothing here need be believed: Open's contract cites the definitions of
--- document 01.
+-- What `decode` asks, in plain numbers. Nothing here need be believed: Open's contract cites the definitions of document 01.
 -- Assumes nothing.
-use mathlib.Core.Path.{_≡_}
-use mathlib.Core.List.{List}
-use mathlib.Core.Option.{none}
 use Prim.Native.Nat.{ℕ, _+_, _*_, _≤_}
-use Rattle.curve.specs.Answer.{gives}
-use Rattle.curve.specs.Points.{points, segments, shape-of}
-use Rattle.curve.specs.Check.{point-rows, segment-rows}
-use Rattle.file.specs.Layout.{areas-of, values-of, slopes-of}
 
 -- n points are in the file, and there is room for them; the other numbers are lengths
 pub record Room (n bytes areas values slopes : ℕ) : Type 0 where
@@ -16,18 +8,3 @@ pub record Room (n bytes areas values slopes : ℕ) : Type 0 where
   pub in-areas : n ≤ areas
   pub in-values : n ≤ values
   pub in-slopes : n ≤ slopes
-
--- n points are in a file of so many bytes
-pub record Holds (n bytes : ℕ) : Type 0 where
-  pub file : 7 + 12 * n ≤ bytes
-
--- and as many as a curve has
-pub record Several (n bytes : ℕ) : Type 0 where
-  pub file : 7 + 12 * n ≤ bytes
-  pub least : 2 ≤ n
-  pub most : n ≤ 64
-
--- rows 3 to 6 refuse none of the first n points
-pub record NoFault (bytes : List ℕ) (n code : ℕ) : Type 0 where
-  pub in-points : point-rows 0 none (points (areas-of bytes n) (values-of bytes n) (slopes-of bytes n)) ≡ gives tt
-  pub in-segments : segment-rows 0 (shape-of code) (segments (points (areas-of bytes n) (values-of bytes n) (slopes-of bytes n))) ≡ gives tt

@@ -3,42 +3,11 @@ ghost use mathlib.Core.Path.{_≡_};
 ghost use mathlib.Core.List.{_++_};
 ghost use Prim.Native.Nat.{_+_, _*_, _≤_};
 ghost use lib.ListN.{length, drop};
-ghost use Rattle.curve.specs.Calls.{fault-answer};
-ghost use Rattle.file.specs.Layout.{twos-complement, little-endian, areas-of, values-of, slopes-of};
+ghost use Rattle.rows.specs.Steps.{fault-answer};
+ghost use Rattle.records.specs.Layout.{areas-of, values-of, slopes-of};
 ghost use Rattle.file.specs.Open.{bad-head, head-rows, short-list, open-answer, open-list};
 ghost use Rattle.file.specs.Calls.{opened-answer};
 ghost use Rattle.file.specs.Steps.{Room};
-
-pub mod records;
-
-fn wide(x: u8) -> u32
-    ensures { λ r. ⌜ r ≡ x ⌝ }
-{
-    x as u32
-}
-
-// The number of 4 bytes, the lowest first.
-fn word(a: u8, b: u8, c: u8, d: u8) -> u32
-    ensures { λ r. ⌜ r ≡ a + 256 * b + 65536 * c + 16777216 * d ⌝ }
-{
-    wide(a) + 256 * wide(b) + 65536 * wide(c) + 16777216 * wide(d)
-}
-
-fn unsigned(bytes: &[u8], at: usize) -> u32
-    requires { ⌜ at + 4 ≤ length (now bytes) ⌝ }
-    ensures { λ r. ⌜ r ≡ little-endian (now (bytes .entry)) at 4 ⌝ }
-{
-    word(bytes[at], bytes[at + 1], bytes[at + 2], bytes[at + 3])
-}
-
-fn signed(x: u32) -> i32
-    ensures { λ r. ⌜ r ≡ twos-complement x ⌝ }
-{
-    if x < 2147483648 {
-        return x as i32;
-    }
-    -1 - ((4294967295 - x) as i32)
-}
 
 // Writes the file's first n points into the first entries of the lists. It asks that all of them are there, since its callers
 // have tested that.
@@ -48,13 +17,13 @@ pub fn decode(bytes: &[u8], n: usize, areas: &mut [u32], values: &mut [u32], slo
     ensures values { λ _. ⌜ now (values .exit) ≡ values-of (now (bytes .entry)) n ++ drop n (now (values .entry)) ⌝ }
     ensures slopes { λ _. ⌜ now (slopes .exit) ≡ slopes-of (now (bytes .entry)) n ++ drop n (now (slopes .entry)) ⌝ }
 {
-    let mut at: usize = 7;
     let mut i: usize = 0;
     while i < n {
-        areas[i] = unsigned(bytes, at);
-        values[i] = unsigned(bytes, at + 4);
-        slopes[i] = signed(unsigned(bytes, at + 8));
-        at += 12;
+        let p = records::record_at(bytes, i);
+        areas[i] = p.area;
+        values[i] = p.value;
+        let slope = p.slope;
+        slopes[i] = slope;
         i += 1;
     }
 }
@@ -75,7 +44,7 @@ fn bad_head(bytes: &[u8]) -> bool
     if bytes[2] != 70 {
         return true;
     }
-    word(bytes[3], bytes[4], 0, 0) != 1
+    records::word(bytes[3], bytes[4], 0, 0) != 1
 }
 
 // Rows 9 and 10: the number of the first that applies, or 0.

@@ -1,6 +1,6 @@
 -- The call's answer in document 01's numbers and values.
 -- Assumes nothing.
-use Rattle.curve.specs.Answer.{Answer, gives, refused}
+use Rattle.model.specs.Answer.{Answer, gives, refused}
 use Rattle.pair.specs.Pair as spec
 use Rattle.pair.specs.declared.Pair.{Pair}
 use Rattle.pair.specs.declared.Pair.the-variants.{Factors, Refused}

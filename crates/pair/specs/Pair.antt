@@ -3,9 +3,9 @@
 use Prim.Native.Nat.{ℕ}
 use mathlib.Core.List.{List}
 use lib.IntN.{ℤ, _-ℤ_}
-use Rattle.curve.specs.Answer.{Answer, gives, row, _then_}
-use Rattle.curve.specs.Check.{curve-rows}
-use Rattle.curve.specs.Read.{outside, reading}
+use Rattle.model.specs.Answer.{Answer, gives, row, _then_}
+use Rattle.model.specs.Check.{curve-rows}
+use Rattle.model.specs.Read.{outside, reading}
 
 -- the factors at the form area and the plan area, and the plan factor less the form factor
 pub record Factors : Type 0 where

@@ -12,16 +12,16 @@ use lib.ListN.{length, getD}
 use lib.Signed.{_≤ℤ_}
 use Rattle.exact.specs.Fraction.{_over_, whole, _+ℚ_, _-ℚ_, _≤ℚ_}
 use Rattle.exact.proofs.Fractions.{<-weak}
-use Rattle.curve.specs.Answer.{Answer, gives, refused, row, _then_}
-use Rattle.curve.specs.Check.{curve-rows}
-use Rattle.curve.specs.Laws.{Curve, Area, value-at, factor-at}
-use Rattle.curve.specs.Read.{outside, reading, read-answer}
-use Rattle.curve.specs.Sheet.{bad-sheet, entry-area, entry-rows, tabulate, sheet-answer, sheet-list}
-use Rattle.curve.proofs.Accepted.{then-first, then-rest, row-passed}
-use Rattle.curve.proofs.Answers.{gives-injective, given, gives-reading}
-use Rattle.curve.proofs.Laws.{factors-are-near, rising-factors, convex-chords, convex-steps}
-use Rattle.curve.proofs.SheetRows.{rows-inside}
-use Rattle.file.specs.Layout.{shape-code, count, areas-of, values-of, slopes-of}
+use Rattle.model.specs.Answer.{Answer, gives, refused, row, _then_}
+use Rattle.model.specs.Check.{curve-rows}
+use Rattle.model.specs.Laws.{Curve, Area, value-at, factor-at}
+use Rattle.model.specs.Read.{outside, reading, read-answer}
+use Rattle.model.specs.Sheet.{bad-sheet, entry-area, entry-rows, tabulate, sheet-answer, sheet-list}
+use Rattle.model.proofs.Accepted.{then-first, then-rest, row-passed}
+use Rattle.model.proofs.Answers.{gives-injective, given, gives-reading}
+use Rattle.model.proofs.Laws.{factors-are-near, rising-factors, convex-chords, convex-steps}
+use Rattle.model.proofs.SheetRows.{rows-inside}
+use Rattle.records.specs.Layout.{shape-code, count, areas-of, values-of, slopes-of}
 use Rattle.file.specs.Open.{head-rows}
 use Rattle.desk.specs.Desk.{desk-answer}
 use Rattle.pair.specs.Pair.{Factors, factors, pair-answer}

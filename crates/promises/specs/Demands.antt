@@ -7,9 +7,9 @@ use lib.IntN.{ℤ, pos, _-ℤ_}
 use lib.ListN.{length}
 use lib.Signed.{_≤ℤ_}
 use Rattle.exact.specs.Fraction.{Proper, _over_, whole, _+ℚ_, _-ℚ_, _≤ℚ_}
-use Rattle.curve.specs.Answer.{gives, refused}
-use Rattle.curve.specs.Laws.{Curve, Area, value-at, chord-slope}
-use Rattle.curve.specs.Sheet.{entry-area}
+use Rattle.model.specs.Answer.{gives, refused}
+use Rattle.model.specs.Laws.{Curve, Area, value-at, chord-slope}
+use Rattle.model.specs.Sheet.{entry-area}
 use Rattle.desk.specs.Desk.{desk-answer}
 use Rattle.pair.specs.Pair.{Factors}
 use Rattle.promises.specs.FactorRead.{FileOf, FactorRead, read-of, pair-of, sheet-of}

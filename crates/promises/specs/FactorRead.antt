@@ -5,11 +5,11 @@ use mathlib.Core.Path.{_≡_}
 use mathlib.Core.List.{List}
 use lib.IntN.{ℤ, pos}
 use lib.ListN.{getD}
-use Rattle.curve.specs.Answer.{Answer, gives}
-use Rattle.curve.specs.Laws.{Curve}
-use Rattle.curve.specs.Read.{read-answer}
-use Rattle.curve.specs.Sheet.{entry-area, sheet-answer, sheet-list}
-use Rattle.file.specs.Layout.{shape-code, count, areas-of, values-of, slopes-of}
+use Rattle.model.specs.Answer.{Answer, gives}
+use Rattle.model.specs.Laws.{Curve}
+use Rattle.model.specs.Read.{read-answer}
+use Rattle.model.specs.Sheet.{entry-area, sheet-answer, sheet-list}
+use Rattle.records.specs.Layout.{shape-code, count, areas-of, values-of, slopes-of}
 use Rattle.file.specs.Open.{head-rows}
 use Rattle.desk.specs.Desk.{desk-answer}
 use Rattle.pair.specs.Pair.{Factors, pair-answer}

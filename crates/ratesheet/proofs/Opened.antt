@@ -5,11 +5,11 @@ use mathlib.Core.List.{List}
 use Prim.Native.Nat.{ℕ}
 use native.Mathlib.Omega.{arith}
 use lib.ListN.{length}
-use Rattle.curve.specs.Answer.{gives, row, _then_}
-use Rattle.curve.specs.Check.{Accepted}
-use Rattle.curve.proofs.Accepted.{then-first, then-rest, row-passed}
-use Rattle.curve.proofs.Answers.{gives-injective}
-use Rattle.file.specs.Layout.{shape-code, count, areas-of, values-of, slopes-of}
+use Rattle.model.specs.Answer.{gives, row, _then_}
+use Rattle.model.specs.Check.{Accepted}
+use Rattle.model.proofs.Accepted.{then-first, then-rest, row-passed}
+use Rattle.model.proofs.Answers.{gives-injective}
+use Rattle.records.specs.Layout.{shape-code, count, areas-of, values-of, slopes-of}
 use Rattle.file.specs.Open.{Head, head-rows, list-rows, short-list, open-answer}
 use Rattle.file.specs.Steps.{Room}
 use Rattle.file.proofs.Heads.{head-passed, room}

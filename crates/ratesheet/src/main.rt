@@ -2,7 +2,7 @@
 ghost use mathlib.Core.Path.{_≡_};
 ghost use Prim.Native.Nat.{_+_, _-_, _/_, _≤_};
 ghost use lib.ListN.{length};
-ghost use Rattle.curve.specs.Check.{Accepted};
+ghost use Rattle.model.specs.Check.{Accepted};
 use curve::Filled;
 use file::Opened;
 

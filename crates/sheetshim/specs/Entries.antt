@@ -1,7 +1,7 @@
 -- The number of entries that an answer of Sheet gives; a refusal gives none.
 -- Assumes nothing.
 use Prim.Native.Nat.{ℕ}
-use Rattle.curve.specs.Answer.{Answer, gives, refused}
+use Rattle.model.specs.Answer.{Answer, gives, refused}
 
 unfoldable pub entries : Answer ℕ → ℕ
 entries (gives n) = n

@@ -1,6 +1,6 @@
 // A sheet for the benchmark's C program: the calls of the interface stand in the other crates.
 ghost use mathlib.Core.Path.{_≡_};
-ghost use Rattle.curve.specs.Sheet.{sheet-answer, sheet-list};
+ghost use Rattle.model.specs.Sheet.{sheet-answer, sheet-list};
 ghost use Rattle.sheetshim.specs.Entries.{entries};
 use curve::Filled;
 

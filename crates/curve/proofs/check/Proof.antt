@@ -3,11 +3,11 @@
 use mathlib.Core.Path.{sym, _∙_}
 use native.Mathlib.Omega.{arith}
 use borrow.Author.Needs.{needs}
-use Rattle.curve.specs.Answer.{_then_}
-use Rattle.curve.specs.Check.{checked, Accepted}
+use Rattle.model.specs.Answer.{_then_}
+use Rattle.model.specs.Check.{checked, Accepted}
 use Rattle.curve.specs.Calls.{checked-answer}
-use Rattle.curve.proofs.Accepted.{lengths}
-use Rattle.curve.proofs.Faults.{a-fault, no-fault}
+use Rattle.model.proofs.Accepted.{lengths}
+use Rattle.rows.proofs.Faults.{a-fault, no-fault}
 use Rattle.curve.proofs.check.Statement.{statement}
 use Rattle.curve.proofs.check.Tie as tie
 

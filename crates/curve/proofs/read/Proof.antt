@@ -7,12 +7,12 @@ use borrow.Author.Needs.{needs}
 use mir.Syntax.{w32}
 use mir.Val.{SFits}
 use mir.Facts.{toZ-ofZ}
-use Rattle.curve.specs.Answer.{row, _then_}
-use Rattle.curve.specs.Check.{Accepted}
-use Rattle.curve.specs.Read.{outside, read-answer}
+use Rattle.model.specs.Answer.{row, _then_}
+use Rattle.model.specs.Check.{Accepted}
+use Rattle.model.specs.Read.{outside, read-answer}
 use Rattle.curve.specs.Calls.{reading-answer}
-use Rattle.curve.proofs.Accepted.{lengths, not-before}
-use Rattle.curve.proofs.Faults.{a-fault, no-fault}
+use Rattle.model.proofs.Accepted.{lengths, not-before}
+use Rattle.rows.proofs.Faults.{a-fault, no-fault}
 use Rattle.curve.proofs.read.Statement.{statement}
 use Rattle.curve.proofs.read.Tie as tie
 

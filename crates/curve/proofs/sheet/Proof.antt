@@ -9,13 +9,13 @@ use borrow.Author.Needs.{needs}
 use borrow.Author.Tests.{lt-ltb, le-ltb, eqb-false, ltb-false}
 use lib.Dec.{eqb, ltb}
 use lib.ListN.{length}
-use Rattle.curve.specs.Answer.{gives, row, _then_}
-use Rattle.curve.specs.Check.{Accepted}
-use Rattle.curve.specs.Sheet.{bad-sheet, entry-rows, sheet-answer, sheet-list}
+use Rattle.model.specs.Answer.{gives, row, _then_}
+use Rattle.model.specs.Check.{Accepted}
+use Rattle.model.specs.Sheet.{bad-sheet, entry-rows, sheet-answer, sheet-list}
 use Rattle.curve.specs.Calls.{filled-answer}
-use Rattle.curve.proofs.Accepted.{lengths, or-left, or-right}
-use Rattle.curve.proofs.Faults.{a-fault, no-fault}
-use Rattle.curve.proofs.SheetRows.{rows-inside}
+use Rattle.model.proofs.Accepted.{lengths, or-left, or-right}
+use Rattle.rows.proofs.Faults.{a-fault, no-fault}
+use Rattle.model.proofs.SheetRows.{rows-inside}
 use Rattle.curve.proofs.sheet.Statement.{statement}
 use Rattle.curve.proofs.sheet.Tie as tie
 

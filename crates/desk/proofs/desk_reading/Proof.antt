@@ -11,11 +11,11 @@ use lib.IntN.{ℤ}
 use lib.ListN.{length}
 use mir.Syntax.{w32}
 use mir.Facts.{toZ-ofZ}
-use Rattle.curve.specs.Answer.{Answer, gives, refused, row, _then_}
-use Rattle.curve.specs.Read.{read-answer}
+use Rattle.model.specs.Answer.{Answer, gives, refused, row, _then_}
+use Rattle.model.specs.Read.{read-answer}
 use Rattle.curve.specs.Calls.{reading-answer}
-use Rattle.curve.proofs.Faults.{a-fault, no-fault}
-use Rattle.file.specs.Layout.{shape-code, count, areas-of, values-of, slopes-of}
+use Rattle.rows.proofs.Faults.{a-fault, no-fault}
+use Rattle.records.specs.Layout.{shape-code, count, areas-of, values-of, slopes-of}
 use Rattle.file.specs.Open.{head-rows}
 use Rattle.file.proofs.Heads.{head-passed}
 use Rattle.desk.specs.Desk.{desk-answer, desk-number, desk-scratch}

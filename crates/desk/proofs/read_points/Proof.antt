@@ -10,14 +10,14 @@ use borrow.Author.Needs.{needs}
 use mir.Syntax.{w32}
 use mir.Val.{SFits}
 use mir.Facts.{toZ-ofZ}
-use Rattle.curve.specs.Answer.{row, _then_}
-use Rattle.curve.specs.Check.{Accepted}
-use Rattle.curve.specs.Read.{outside, read-answer}
+use Rattle.model.specs.Answer.{row, _then_}
+use Rattle.model.specs.Check.{Accepted}
+use Rattle.model.specs.Read.{outside, read-answer}
 use Rattle.curve.specs.Calls.{reading-answer}
-use Rattle.curve.proofs.Faults.{a-fault, no-fault}
-use Rattle.file.specs.Layout.{areas-of, values-of, slopes-of}
-use Rattle.file.specs.Steps.{Several}
-use Rattle.file.proofs.Placed.{several, first-reached}
+use Rattle.rows.proofs.Faults.{a-fault, no-fault}
+use Rattle.records.specs.Layout.{areas-of, values-of, slopes-of}
+use Rattle.records.specs.Steps.{Several}
+use Rattle.records.proofs.Placed.{several, first-reached}
 use Rattle.desk.proofs.read_points.Statement.{statement}
 use Rattle.desk.proofs.read_points.Tie as tie
 

@@ -7,9 +7,9 @@ use native.Mathlib.Omega.{arith}
 use borrow.Author.Needs.{needs}
 use borrow.Author.Tests.{lt-ltb, le-ltb, eq-eqb, ne-eqb}
 use lib.Dec.{eqb}
-use Rattle.file.specs.Layout.{byte}
+use Rattle.records.specs.Layout.{byte}
 use Rattle.file.specs.Open.{bad-head, wrong-mark}
-use Rattle.file.proofs.Numbers.{two-bytes}
+use Rattle.records.proofs.Numbers.{two-bytes}
 use Rattle.file.proofs.bad_head.Statement.{statement}
 use Rattle.file.proofs.bad_head.Tie as tie
 

@@ -5,8 +5,8 @@ use mathlib.Core.Bool.{false}
 use native.Mathlib.Omega.{arith}
 use borrow.Author.Needs.{needs}
 use borrow.Author.Tests.{eq-eqb, ne-eqb}
-use Rattle.curve.specs.Answer.{row, _then_}
-use Rattle.curve.specs.Calls.{fault-answer}
+use Rattle.model.specs.Answer.{row, _then_}
+use Rattle.rows.specs.Steps.{fault-answer}
 use Rattle.file.specs.Open.{bad-head, bad-size, head-rows}
 use Rattle.file.proofs.Heads.{head-is-there}
 use Rattle.file.proofs.head_fault.Statement.{statement}

@@ -8,9 +8,9 @@ use Prim.Native.Nat.{ℕ, _+_, _*_}
 use native.Mathlib.Omega.{arith}
 use borrow.Author.Needs.{needs}
 use lib.ListN.{length}
-use Rattle.curve.specs.Answer.{Answer, gives, row, _then_}
-use Rattle.curve.proofs.Faults.{a-fault, no-fault}
-use Rattle.file.specs.Layout.{shape-code, count}
+use Rattle.model.specs.Answer.{Answer, gives, row, _then_}
+use Rattle.rows.proofs.Faults.{a-fault, no-fault}
+use Rattle.records.specs.Layout.{shape-code, count}
 use Rattle.file.specs.Open.{head-rows, list-rows, short-list, open-answer, open-list}
 use Rattle.file.specs.Calls.{opened-answer}
 use Rattle.file.proofs.Heads.{head-passed, room}

@@ -9,13 +9,13 @@ use mir.Syntax.{w32}
 use mir.Val.{SFits}
 use mir.Facts.{toZ-ofZ}
 use Rattle.exact.proofs.Magnitude.{size-between, size--, fits-size}
-use Rattle.curve.specs.Answer.{row, _then_}
-use Rattle.curve.specs.Check.{curve-rows}
-use Rattle.curve.specs.Read.{outside, reading, read-answer}
+use Rattle.model.specs.Answer.{row, _then_}
+use Rattle.model.specs.Check.{curve-rows}
+use Rattle.model.specs.Read.{outside, reading, read-answer}
 use Rattle.curve.specs.Calls.{reading-answer}
-use Rattle.curve.specs.Laws.{Curve, factor-at}
-use Rattle.curve.proofs.Laws.{factors-are-ranged}
-use Rattle.curve.proofs.Answers.{stopped, Given, given, beyond}
+use Rattle.model.specs.Laws.{Curve, factor-at}
+use Rattle.model.proofs.Laws.{factors-are-ranged}
+use Rattle.model.proofs.Answers.{stopped, Given, given, beyond}
 use Rattle.pair.specs.Pair.{pair-answer, factors}
 use Rattle.pair.specs.Calls.{pair-read}
 use borrow.Author.Needs.{needs}

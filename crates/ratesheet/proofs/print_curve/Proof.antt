@@ -9,8 +9,8 @@ use borrow.Author.Needs.{needs}
 use lib.IntN.{ℤ}
 use lib.ListN.{length, getD}
 use lib.Seq.{length-take-le}
-use Rattle.curve.specs.Check.{Accepted}
-use Rattle.curve.proofs.Accepted.{lengths, view}
+use Rattle.model.specs.Check.{Accepted}
+use Rattle.model.proofs.Accepted.{lengths, view}
 use Rattle.ratesheet.proofs.print_curve.Statement.{statement}
 use Rattle.ratesheet.proofs.print_curve.Tie as tie
 

@@ -7,11 +7,11 @@ use native.Mathlib.Omega.{arith}
 use borrow.Author.Needs.{needs}
 use lib.IntN.{pos}
 use lib.ListN.{drop, replicate}
-use Rattle.curve.specs.Answer.{gives}
-use Rattle.file.specs.Layout.{areas-of, values-of, slopes-of}
+use Rattle.model.specs.Answer.{gives}
+use Rattle.records.specs.Layout.{areas-of, values-of, slopes-of}
 use Rattle.file.specs.Open.{Head, open-list}
 use Rattle.file.specs.Calls.{opened-answer}
-use Rattle.file.proofs.Filling.{front, front-length}
+use Rattle.model.proofs.Filling.{front, front-length}
 use Rattle.ratesheet.proofs.Opened.{Given, given}
 use Rattle.ratesheet.proofs.print_file.Statement.{statement}
 use Rattle.ratesheet.proofs.print_file.Tie as tie

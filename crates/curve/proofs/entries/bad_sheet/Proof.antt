@@ -1,7 +1,7 @@
 -- `curve::entries::bad_sheet` meets its contract.
 -- Assumes nothing.
 use borrow.Author.Tests.{eq-eqb, ne-eqb}
-use Rattle.curve.specs.Sheet.{bad-sheet}
+use Rattle.model.specs.Sheet.{bad-sheet}
 use Rattle.curve.proofs.entries.bad_sheet.Statement.{statement}
 use Rattle.curve.proofs.entries.bad_sheet.Tie as tie
 

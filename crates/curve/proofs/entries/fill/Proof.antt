@@ -14,11 +14,11 @@ use mir.Syntax.{w32}
 use mir.Val.{SFits, toZ, ofZ}
 use mir.Facts.{toZ-ofZ}
 use Rattle.exact.proofs.Ring.{ring-ℕ, counts}
-use Rattle.curve.specs.Read.{outside, reading}
-use Rattle.curve.specs.Sheet.{entry-area, tabulate}
+use Rattle.model.specs.Read.{outside, reading}
+use Rattle.model.specs.Sheet.{entry-area, tabulate}
 use Rattle.curve.specs.Steps.{Reached}
-use Rattle.curve.proofs.Accepted.{area-limit, lengths, not-before}
-use Rattle.curve.proofs.SheetRows.{fill-more, fill-all}
+use Rattle.model.proofs.Accepted.{area-limit, lengths, not-before}
+use Rattle.model.proofs.Filling.{fill-more, fill-all}
 use Rattle.curve.proofs.entries.fill.Statement.{statement}
 use Rattle.curve.proofs.entries.fill.Tie as tie
 

@@ -8,8 +8,9 @@ use native.Mathlib.Nat.{mul-le-mul, zero-mul, add-zero}
 use native.Mathlib.Numerals.{add-one}
 use native.Mathlib.Omega.{arith}
 use lib.ListN.{length, getD}
-use Rattle.curve.specs.Sheet.{entry-rows}
-use Rattle.curve.proofs.SheetRows.{outside-before, outside-beyond, inside-both, rows-stop, rows-step, rows-end}
+use Rattle.model.specs.Sheet.{entry-rows}
+use Rattle.model.proofs.Accepted.{outside-before, outside-beyond, inside-both}
+use Rattle.model.proofs.SheetRows.{rows-stop, rows-step, rows-end}
 use Rattle.curve.proofs.entries.first_outside.Statement.{statement}
 use Rattle.curve.proofs.entries.first_outside.Tie as tie
 

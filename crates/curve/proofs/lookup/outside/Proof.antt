@@ -1,7 +1,7 @@
 -- `curve::lookup::outside` meets its contract.
 -- Assumes nothing.
 use borrow.Author.Tests.{lt-ltb, le-ltb}
-use Rattle.curve.specs.Read.{outside}
+use Rattle.model.specs.Read.{outside}
 use borrow.Author.Needs.{needs}
 use Rattle.curve.proofs.lookup.outside.Statement.{statement}
 use Rattle.curve.proofs.lookup.outside.Tie as tie

@@ -1,0 +1,1 @@
+// Document 01 in definitions (specs/) and their laws (proofs/); no code.

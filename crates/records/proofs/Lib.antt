@@ -1,0 +1,3 @@
+-- Laws of the points in a file that other crates cite.
+pub mod Numbers
+pub mod Placed

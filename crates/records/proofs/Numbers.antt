@@ -1,0 +1,36 @@
+-- Numbers of bytes.
+-- Assumes nothing.
+use mathlib.Core.Path.{_≡_, _∙_, ap}
+use mathlib.Core.List.{List, [], _∷_}
+use Prim.Native.Nat.{ℕ, suc, _+_, _*_, _-_, _≤_, _<_}
+use native.Mathlib.Omega.{arith}
+use borrow.Author.Tests.{lt-ltb, le-ltb}
+use lib.IntN.{pos, negℤ, _+ℤ_, _-ℤ_}
+use Rattle.exact.proofs.Ring.{ring, terms}
+use Rattle.exact.proofs.Signed.{mirror}
+use Rattle.records.specs.Layout.{twos-complement, byte, little-endian}
+
+module _ (bytes : List ℕ) (at : ℕ) where
+  pub two-bytes : little-endian bytes at 2 ≡ byte bytes at + 256 * byte bytes (suc at)
+  unfolding little-endian
+  two-bytes = omega arith
+
+  pub four-bytes : little-endian bytes at 4 ≡ byte bytes at + 256 * byte bytes (at + 1) + 65536 * byte bytes (at + 2) + 16777216 * byte bytes (at + 3)
+  unfolding little-endian
+  four-bytes =
+      let e₁ : at + 1 ≡ suc at = omega arith in
+      let e₂ : at + 2 ≡ suc (suc at) = omega arith in
+      let e₃ : at + 3 ≡ suc (suc (suc at)) = omega arith in
+      rw (e₁, e₂, e₃) (omega arith)
+
+pub low-half : {x : ℕ} → x < 2147483648 → twos-complement x ≡ pos x
+unfolding twos-complement
+low-half {x} h = rw (lt-ltb x 2147483648 h)
+
+pub high-half : {x : ℕ} → 2147483648 ≤ x → x < 4294967296 → twos-complement x ≡ mirror (pos (4294967295 - x))
+unfolding twos-complement
+high-half {x} h k =
+    let m = 4294967295 - x in
+    let e : 4294967296 ≡ x + m + 1 = omega arith in
+    rw (le-ltb x 2147483648 h)
+    (ap (λ n. pos x -ℤ pos n) e ∙ ring (pos x ∷ pos m ∷ []) {a = pos x -ℤ (pos x +ℤ pos m +ℤ pos 1)} {b = negℤ (pos 1) -ℤ pos m} (search terms depth 20 fits 9999) tt)

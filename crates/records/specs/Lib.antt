@@ -1,0 +1,3 @@
+-- The curve file.
+pub mod Layout
+pub mod Steps

@@ -1,0 +1,2 @@
+-- Laws of rows 1 to 6 that other crates cite.
+pub mod Faults

@@ -1,0 +1,2 @@
+-- Faults as answers.
+pub mod Steps

@@ -1,0 +1,184 @@
+-- What the code of a segment's reading needs, from an area inside an accepted segment: t = x − x₀ and u = x₁ − x.
+-- Assumes nothing.
+use mathlib.Core.Path.{_≡_, refl, sym, _∙_, ap, subst}
+use mathlib.Core.List.{[], _∷_}
+use Prim.Native.Nat.{ℕ, _+_, _-_, _≤_, _<_}
+use native.Mathlib.Nat.{mul-le-mul}
+use native.Mathlib.Omega.{arith}
+use lib.IntN.{ℤ, pos, negsuc, natAbs, _+ℤ_, _-ℤ_, _*ℤ_}
+use lib.Signed.{_≤ℤ_, _<ℤ_, yes-nonNeg, pos-natAbs}
+use mir.Syntax.{w32}
+use mir.Val.{SFits}
+use Rattle.exact.specs.Fraction.{_over_, _≤ℚ_}
+use Rattle.exact.specs.Rounding.{round}
+use Rattle.exact.proofs.Ring.{ring, terms}
+use Rattle.exact.proofs.Order as Z
+use Rattle.exact.proofs.Fractions as Q
+use Rattle.exact.proofs.Fractions.{NonNeg}
+use Rattle.exact.proofs.Magnitude.{size-between, size--, size-*, size-difference, fits-size}
+use Rattle.model.specs.Points.{Point, gradient, Segment, Shape, rising, convex}
+use Rattle.model.specs.Interpolant.{interpolant}
+use Rattle.model.specs.Shape.{fits, has-shape}
+use Rattle.model.specs.Facts.{Inside}
+use Rattle.segment.specs.Steps.{Ends, Climbing, rising-reading, Bending, above-tangent, Tangent, tangent-reading}
+use Rattle.model.proofs.Curves.{Rise, climbs, flat, Bend, bent, straight, rise-kind, bend-kind}
+use Rattle.model.proofs.Segments.{gap, rise, g, e₀, e₁, a, b, interpolant-proper}
+use Rattle.segment.proofs.Numbers.{gap-is, segment-rising, segment-flat, segment-convex}
+use Rattle.model.proofs.Range.{value-range, reading-low, reading-high}
+use Rattle.segment.proofs.Sizes.{above-size}
+
+-- the reading fits an i32
+pub reading-fits : {shape : Shape} {s : Segment} {x : ℕ} → Inside shape s x → SFits w32 (round (interpolant shape s x))
+reading-fits {shape} {s} {x} i =
+    let v = interpolant shape s x in
+    let p = interpolant-proper shape s (i .good) x (i .low) (i .high) in
+    let r = value-range shape s x (record { good = i .good; low = i .low; high = i .high }) in
+    let n = size-between {n = 200000} (round v) (reading-low v p r) (reading-high v p r) in
+    fits-size w32 (round v) (omega arith)
+
+-- t and u
+module _ {shape : Shape} {s : Segment} {x : ℕ} (i : Inside shape s x) where
+  abbrev t : ℕ
+  t = x - s .left .area
+
+  abbrev u : ℕ
+  u = s .right .area - x
+
+  reach : s .left .area + t ≡ x
+  reach = let h = i .low in omega arith
+
+  span : s .right .area ≡ s .left .area + t + u
+  span = let h = i .low in let k = i .high in omega arith
+
+  pub ends : Ends t u
+  ends =
+      let h = i .low in
+      let k = i .high in
+      let m = i .good .near in
+      let n = i .good .ordered in
+      record { most = omega arith; least = omega arith }
+
+slope-size : (D : ℤ) → negsuc 9999 ≤ℤ D → D ≤ℤ pos 10000 → natAbs D ≤ 10000
+slope-size D low high = size-between D low high
+
+-- ---- rising, where the value changes
+
+pub record Rising (s : Segment) (x : ℕ) : Type 0 where
+  pub up : s .left .value ≤ s .right .value
+  pub left-slope : s .left .slope ≡ pos (natAbs (s .left .slope))
+  pub right-slope : s .right .slope ≡ pos (natAbs (s .right .slope))
+  pub climbing : Climbing (x - s .left .area) (s .right .area - x) (s .left .value) (s .right .value - s .left .value) (natAbs (s .left .slope)) (natAbs (s .right .slope))
+  pub reading : round (interpolant rising s x) ≡ pos (rising-reading (x - s .left .area) (s .right .area - x) (s .left .value) (s .right .value - s .left .value) (natAbs (s .left .slope)) (natAbs (s .right .slope)))
+
+nonneg-slope : (p : Point) → NonNeg (gradient p) → p .slope ≡ pos (natAbs (p .slope))
+unfolding gradient _over_
+nonneg-slope p k = sym (pos-natAbs (p .slope) (yes-nonNeg (k .sign)))
+
+rising-facts : {s : Segment} {x : ℕ} → Inside rising s x → pos 0 <ℤ rise s → NonNeg (gradient (s .left)) → NonNeg (gradient (s .right)) → Rising s x
+rising-facts {s} {x} i climb k₀ k₁ =
+    let up : s .left .value < s .right .value = Z.<-pos (Z.<-by (rise s) refl climb) in
+    let eD₀ = nonneg-slope (s .left) k₀ in
+    let eD₁ = nonneg-slope (s .right) k₁ in
+    let F = s .right .value - s .left .value in
+    let eF : rise s ≡ pos F = ap (λ (n : ℕ). pos n -ℤ pos (s .left .value)) (split up) ∙ ring (pos (s .left .value) ∷ pos F ∷ []) {a = pos (s .left .value) +ℤ pos F -ℤ pos (s .left .value)} (search terms depth 20 fits 9999) tt in
+    let r = segment-rising s (x - s .left .area) (s .right .area - x) (span i) (natAbs (s .left .slope)) (natAbs (s .right .slope)) F (i .good) (omega arith) eD₀ eD₁ eF in
+    record {
+      up = omega arith;
+      left-slope = eD₀;
+      right-slope = eD₁;
+      climbing = record {
+        ends = ends i;
+        left-value = i .good .left-value;
+        rise = (let n = i .good .right-value in omega arith);
+        left-slope = slope-size (s .left .slope) (i .good .left-slope-low) (i .good .left-slope-high);
+        right-slope = slope-size (s .right .slope) (i .good .right-slope-low) (i .good .right-slope-high);
+        above-0 = r .0;
+      };
+      reading = ap (λ (y : ℕ). round (interpolant rising s y)) (sym (reach i)) ∙ r .1;
+    }
+  where
+    split : s .left .value < s .right .value → s .right .value ≡ s .left .value + (s .right .value - s .left .value)
+    split h = omega arith
+
+pub rising-inside : {s : Segment} {x : ℕ} → Inside rising s x → (s .right .value ≡ s .left .value → ⊥) → Rising s x
+unfolding has-shape fits
+rising-inside {s} {x} i differ = decide (rise-kind (gap s) (pos (s .left .value)) (pos (s .right .value)) (i .good .shaped))
+  where
+    decide : Rise (pos (s .left .value)) (pos (s .right .value)) (gradient (s .left)) (gradient (s .right)) → Rising s x
+    decide (climbs f k₀ k₁) = rising-facts i f k₀ k₁
+    decide (flat e) = absurd (differ (Z.pos-injective e))
+
+pub flat-inside : {s : Segment} {x : ℕ} → Inside rising s x → s .right .value ≡ s .left .value → round (interpolant rising s x) ≡ pos (s .left .value)
+flat-inside {s} {x} i e =
+    ap (λ (y : ℕ). round (interpolant rising s y)) (sym (reach i)) ∙ segment-flat s (x - s .left .area) (s .right .area - x) (span i) (i .good) e
+
+-- ---- convex
+
+pub record Convex (s : Segment) (x : ℕ) : Type 0 where
+  pub right-over : a s ≡ pos (natAbs (a s))
+  pub left-over : b s ≡ pos (natAbs (b s))
+  pub bending : Bending (x - s .left .area) (s .right .area - x) (natAbs (a s)) (natAbs (b s))
+  pub tangent : Tangent (x - s .left .area) ((x - s .left .area) + (s .right .area - x)) (s .left .value) (above-tangent (x - s .left .area) (s .right .area - x) (natAbs (a s)) (natAbs (b s))) (e₀ s)
+  pub reading : round (interpolant convex s x) ≡ tangent-reading (x - s .left .area) ((x - s .left .area) + (s .right .area - x)) (s .left .value) (above-tangent (x - s .left .area) (s .right .area - x) (natAbs (a s)) (natAbs (b s))) (e₀ s)
+
+-- the chord is not below the left slope, nor above the right
+left-not-above : (s : Segment) → gradient (s .left) ≤ℚ rise s over gap s → pos 0 ≤ℤ b s
+unfolding gradient _over_
+left-not-above s h =
+    subst (λ (z : ℤ). pos 0 ≤ℤ z) (ring (rise s ∷ gap s ∷ s .left .slope ∷ []) {a = rise s *ℤ pos 100 -ℤ s .left .slope *ℤ gap s} {b = b s} (search terms depth 20 fits 9999) tt) (Z.≤-difference (h .cross))
+
+right-not-below : (s : Segment) → rise s over gap s ≤ℚ gradient (s .right) → pos 0 ≤ℤ a s
+unfolding gradient _over_
+right-not-below s h =
+    subst (λ (z : ℤ). pos 0 ≤ℤ z) (ring (rise s ∷ gap s ∷ s .right .slope ∷ []) {a = s .right .slope *ℤ gap s -ℤ rise s *ℤ pos 100} {b = a s} (search terms depth 20 fits 9999) tt) (Z.≤-difference (h .cross))
+
+module _ {s : Segment} {x : ℕ} (i : Inside convex s x) where
+  over-gap : (D : ℤ) → natAbs D ≤ 10000 → natAbs (gap s *ℤ D) ≤ 20000000
+  over-gap D k =
+      let h = gap-is s (x - s .left .area) (s .right .area - x) (span i) in
+      let n = ap natAbs h in
+      let m = ends i .most in
+      let e = size-* (gap s) D in
+      omega (arith, mul-le-mul {n₁ = natAbs (gap s)} {m₁ = natAbs D} {n₂ = 2000} {m₂ = 10000} (omega arith) k)
+
+  pub e₀-size : natAbs (e₀ s) ≤ 20000000
+  e₀-size = over-gap (s .left .slope) (slope-size (s .left .slope) (i .good .left-slope-low) (i .good .left-slope-high))
+
+  pub e₁-size : natAbs (e₁ s) ≤ 20000000
+  e₁-size = over-gap (s .right .slope) (slope-size (s .right .slope) (i .good .right-slope-low) (i .good .right-slope-high))
+
+  pub g-size : natAbs (g s) ≤ 20000000
+  g-size =
+      let n = size-difference (i .good .right-value) (i .good .left-value) in
+      let e = size-* (pos 100) (rise s) in
+      omega arith
+
+  convex-facts : gradient (s .left) ≤ℚ rise s over gap s → rise s over gap s ≤ℚ gradient (s .right) → Convex s x
+  convex-facts low high =
+      let t = x - s .left .area in
+      let u = s .right .area - x in
+      let right-is = sym (pos-natAbs (a s) (yes-nonNeg (right-not-below s high))) in
+      let left-is = sym (pos-natAbs (b s) (yes-nonNeg (left-not-above s low))) in
+      let bending : Bending t u (natAbs (a s)) (natAbs (b s)) = record { ends = ends i; right-slope = omega (arith, size-- (e₁ s) (g s), e₁-size, g-size); left-slope = omega (arith, size-- (g s) (e₀ s), e₀-size, g-size) } in
+      record {
+        right-over = right-is;
+        left-over = left-is;
+        bending = bending;
+        tangent = record {
+          short = ends i .most;
+          least = ends i .least;
+          distance = omega arith;
+          left-value = i .good .left-value;
+          slope = e₀-size;
+          above = above-size bending;
+        };
+        reading = ap (λ (y : ℕ). round (interpolant convex s y)) (sym (reach i)) ∙ segment-convex s t u (span i) (natAbs (a s)) (natAbs (b s)) (i .good) right-is left-is;
+      }
+
+pub convex-inside : {s : Segment} {x : ℕ} → Inside convex s x → Convex s x
+unfolding has-shape fits
+convex-inside {s} {x} i = decide (bend-kind (gap s) (rise s) (i .good .shaped))
+  where
+    decide : Bend (rise s over gap s) (gradient (s .left)) (gradient (s .right)) → Convex s x
+    decide (bent low high) = convex-facts i (Q.<-weak low) (Q.<-weak high)
+    decide (straight low high) = convex-facts i (Q.≤-of-≈ low) (Q.≤-of-≈ high)

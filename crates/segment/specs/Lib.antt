@@ -1,0 +1,2 @@
+-- One segment in plain numbers.
+pub mod Steps

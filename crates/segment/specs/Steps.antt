@@ -1,0 +1,79 @@
+-- The reading of a segment and its shape, in plain numbers. Nothing here need be believed: contracts above cite the definitions of
+-- document 01.
+-- Assumes nothing.
+use mathlib.Core.Path.{_≡_}
+use mathlib.Core.Bool.{Bool, cond, _&&_}
+use Prim.Native.Nat.{ℕ, _+_, _*_, _/_, _≤_, _<_}
+use lib.IntN.{ℤ, pos, natAbs, _+ℤ_, _*ℤ_, _-ℤ_}
+use lib.Signed.{leZ, ltZ}
+use Rattle.exact.specs.Rounding.{floorDiv}
+
+-- equality, as a test
+abbrev pub eqZ : ℤ → ℤ → Bool
+eqZ a b = leZ a b && leZ b a
+
+-- shape 1, of F and the slope figures
+unfoldable pub rises-by : ℤ → ℤ → ℤ → Bool
+rises-by F D₀ D₁ =
+    cond (ltZ (pos 0) F) (leZ (pos 0) D₀ && leZ (pos 0) D₁) (eqZ F (pos 0) && eqZ D₀ (pos 0) && eqZ D₁ (pos 0))
+
+-- shape 2, of h × left slope figure, 100 × F and h × right slope figure
+unfoldable pub bends-by : ℤ → ℤ → ℤ → Bool
+bends-by left chord right = cond (ltZ left chord) (ltZ chord right) (eqZ left chord && eqZ chord right)
+
+-- the distances t and u of an area from the ends of a segment
+pub record Ends (t u : ℕ) : Type 0 where
+  pub most : t + u ≤ 2000
+  pub least : 0 < t + u
+
+-- A of the rising curve, from the left end; C is A from the right end, and B = A + C
+abbrev pub part : (t u G E : ℕ) → ℕ
+part t u G E = t * (G * t + E * u)
+
+pub record Weights (t u G E : ℕ) : Type 0 where
+  pub ends : Ends t u
+  pub first : G ≤ 20000000
+  pub second : E ≤ 20000000
+
+abbrev pub whole-part : (t u F D₀ D₁ : ℕ) → ℕ
+whole-part t u F D₀ D₁ = part t u (100 * F) ((t + u) * D₀) + part u t (100 * F) ((t + u) * D₁)
+
+abbrev pub rising-reading : (t u left F D₀ D₁ : ℕ) → ℕ
+rising-reading t u left F D₀ D₁ =
+    (2 * left + 1 + part t u (100 * F) ((t + u) * D₀) * (2 * F) / whole-part t u F D₀ D₁) / 2
+
+pub record Climbing (t u left F D₀ D₁ : ℕ) : Type 0 where
+  pub ends : Ends t u
+  pub left-value : left ≤ 200000
+  pub rise : F ≤ 200000
+  pub left-slope : D₀ ≤ 10000
+  pub right-slope : D₁ ≤ 10000
+  pub above-0 : 0 < whole-part t u F D₀ D₁
+
+-- what the convex curve is above its left tangent, times 2 S: 2 w² / W with w = b t and W = a u + b t, 0 where W is
+abbrev pub above-tangent : (t u a b : ℕ) → ℕ
+above-tangent t u a b = b * t * (2 * (b * t)) / (a * u + b * t)
+
+pub record Bending (t u a b : ℕ) : Type 0 where
+  pub ends : Ends t u
+  pub right-slope : a ≤ 40000000
+  pub left-slope : b ≤ 40000000
+
+-- the slopes of a segment over the denominator 100 h
+pub record Normal (x₀ y₀ : ℕ) (d₀ : ℤ) (x₁ y₁ : ℕ) (d₁ e₀ g e₁ : ℤ) : Type 0 where
+  pub left : e₀ ≡ (pos x₁ -ℤ pos x₀) *ℤ d₀
+  pub chord : g ≡ (pos y₁ -ℤ pos y₀) *ℤ pos 100
+  pub right : e₁ ≡ (pos x₁ -ℤ pos x₀) *ℤ d₁
+
+-- the reading from the left tangent
+pub record Tangent (t h left E : ℕ) (e₀ : ℤ) : Type 0 where
+  pub short : h ≤ 2000
+  pub least : 0 < h
+  pub distance : t ≤ h
+  pub left-value : left ≤ 200000
+  pub slope : natAbs e₀ ≤ 20000000
+  pub above : E ≤ 160000000000
+
+abbrev pub tangent-reading : (t h left E : ℕ) (e₀ : ℤ) → ℤ
+tangent-reading t h left E e₀ =
+    floorDiv (pos ((2 * left + 1) * (100 * h)) +ℤ pos 2 *ℤ (e₀ *ℤ pos t) +ℤ pos E) (2 * (100 * h))

@@ -1,0 +1,167 @@
+// One segment: its reading, by two divisions, and its shape.
+ghost use mathlib.Core.Path.{_≡_};
+ghost use Prim.Native.Nat.{_^_, _<_};
+ghost use lib.IntN.{pos, natAbs, _-ℤ_, _*ℤ_};
+ghost use Rattle.segment.specs.Steps as steps;
+ghost use Rattle.model.specs.Facts.{point-of, between, Inside};
+ghost use Rattle.segment.specs.Steps.{Weights, Climbing, rising-reading, Bending, above-tangent, Normal, Tangent, tangent-reading, rises-by, bends-by};
+ghost use Rattle.exact.specs.Rounding.{round};
+ghost use Rattle.model.specs.Points.{Shape, shape-of};
+ghost use Rattle.model.specs.Interpolant.{interpolant};
+ghost use Rattle.model.specs.Shape.{has-shape};
+
+// t (g t + e u)
+fn part(t: u64, u: u64, g: u64, e: u64) -> u64
+    requires { ⌜ Weights t u g e ⌝ }
+    ensures { λ r. ⌜ r ≡ steps.part t u g e ⌝ }
+{
+    t * (g * t + e * u)
+}
+
+// The factor on a rising curve. t and u are the distances from the two ends, d0 and d1 the slopes in hundredths.
+pub fn rising(t: u64, u: u64, left: u64, rise: u64, d0: u64, d1: u64) -> u64
+    requires { ⌜ Climbing t u left rise d0 d1 ⌝ }
+    ensures { λ r. ⌜ r ≡ rising-reading t u left rise d0 d1 ⌝ }
+{
+    let h = t + u;
+    let g = 100 * rise;
+    let a = part(t, u, g, h * d0);
+    let c = part(u, t, g, h * d1);
+    (2 * left + 1 + exact::mul_div(a, 2 * rise, a + c)) / 2
+}
+
+// What a convex curve is above its left tangent, times 2 S; a and b are the end slopes' distances from the chord.
+pub fn above_tangent(t: u64, u: u64, a: u64, b: u64) -> u64
+    requires { ⌜ Bending t u a b ⌝ }
+    ensures { λ r. ⌜ r ≡ above-tangent t u a b ⌝ }
+{
+    let w = b * t;
+    let divisor = a * u + w;
+    if divisor == 0 {
+        return 0;
+    }
+    exact::mul_div(w, 2 * w, divisor)
+}
+
+// a - b
+fn difference(a: u32, b: u32) -> i64
+    ensures { λ r. ⌜ r ≡ pos a -ℤ pos b ⌝ }
+{
+    (a as i64) - (b as i64)
+}
+
+// h d, for a difference h
+fn scaled(h: i64, d: i32) -> i64
+    requires { ⌜ natAbs h < 2 ^ 32 ⌝ }
+    ensures { λ r. ⌜ r ≡ h *ℤ d ⌝ }
+{
+    h * (d as i64)
+}
+
+// The slopes of a segment over the denominator 100 h: left end, chord, right end.
+pub struct Slopes {
+    pub left: i64,
+    pub chord: i64,
+    pub right: i64,
+}
+
+pub fn slopes_of(x0: u32, y0: u32, d0: i32, x1: u32, y1: u32, d1: i32) -> Slopes
+    ensures { λ r. ⌜ Normal x0 y0 d0 x1 y1 d1 (r .left) (r .chord) (r .right) ⌝ }
+{
+    let h = difference(x1, x0);
+    Slopes {
+        left: scaled(h, d0),
+        chord: scaled(difference(y1, y0), 100),
+        right: scaled(h, d1),
+    }
+}
+
+// The left tangent and what the curve is above it, over 2 S with S = 100 h, rounded down.
+fn over_tangent(t: u64, h: u64, left: u64, e0: i64, above: u64) -> i64
+    requires { ⌜ Tangent t h left above e0 ⌝ }
+    ensures { λ r. ⌜ r ≡ tangent-reading t h left above e0 ⌝ }
+{
+    let s = 100 * h;
+    let base = (2 * left + 1) * s + above;
+    exact::floor_div((base as i64) + 2 * (e0 * (t as i64)), (2 * s) as i64)
+}
+
+// The factor at an area of a rising segment.
+fn rising_factor(x0: u32, y0: u32, d0: i32, x1: u32, y1: u32, d1: i32, area: u32) -> i32
+    requires { ⌜ Inside Shape.rising (between (point-of x0 y0 d0) (point-of x1 y1 d1)) area ⌝ }
+    ensures { λ r. ⌜ r ≡ round (interpolant Shape.rising (between (point-of x0 y0 d0) (point-of x1 y1 d1)) area) ⌝ }
+{
+    if y1 == y0 {
+        return y0 as i32;
+    }
+    let t = (area - x0) as u64;
+    let u = (x1 - area) as u64;
+    rising(t, u, y0 as u64, (y1 - y0) as u64, d0 as u64, d1 as u64) as i32
+}
+
+// The factor at an area of a convex segment.
+fn convex_factor(x0: u32, y0: u32, d0: i32, x1: u32, y1: u32, d1: i32, area: u32) -> i32
+    requires { ⌜ Inside Shape.convex (between (point-of x0 y0 d0) (point-of x1 y1 d1)) area ⌝ }
+    ensures { λ r. ⌜ r ≡ round (interpolant Shape.convex (between (point-of x0 y0 d0) (point-of x1 y1 d1)) area) ⌝ }
+{
+    let t = (area - x0) as u64;
+    let u = (x1 - area) as u64;
+    let e = slopes_of(x0, y0, d0, x1, y1, d1);
+    let above = above_tangent(t, u, (e.right - e.chord) as u64, (e.chord - e.left) as u64);
+    over_tangent(t, t + u, y0 as u64, e.left, above) as i32
+}
+
+// The factor at an area of a segment that has its shape.
+pub fn factor(shape: u32, x0: u32, y0: u32, d0: i32, x1: u32, y1: u32, d1: i32, area: u32) -> i32
+    requires { ⌜ Inside (shape-of shape) (between (point-of x0 y0 d0) (point-of x1 y1 d1)) area ⌝ }
+    ensures { λ r. ⌜ r ≡ round (interpolant (shape-of shape) (between (point-of x0 y0 d0) (point-of x1 y1 d1)) area) ⌝ }
+{
+    if shape == 1 {
+        return rising_factor(x0, y0, d0, x1, y1, d1, area);
+    }
+    convex_factor(x0, y0, d0, x1, y1, d1, area)
+}
+
+// Shape 1, of the rise f between the values.
+fn rises(f: i64, d0: i32, d1: i32) -> bool
+    ensures { λ r. ⌜ r ≡ rises-by f d0 d1 ⌝ }
+{
+    if f > 0 {
+        if d0 < 0 {
+            return false;
+        }
+        return d1 >= 0;
+    }
+    if f != 0 {
+        return false;
+    }
+    if d0 != 0 {
+        return false;
+    }
+    d1 == 0
+}
+
+// Shape 2, of the slopes and the chord over one denominator.
+fn bends(left: i64, chord: i64, right: i64) -> bool
+    ensures { λ r. ⌜ r ≡ bends-by left chord right ⌝ }
+{
+    if left < chord {
+        return chord < right;
+    }
+    if left != chord {
+        return false;
+    }
+    chord == right
+}
+
+// Row 6 is passed: the segment between two points has its shape.
+pub fn has_shape(shape: u32, x0: u32, y0: u32, d0: i32, x1: u32, y1: u32, d1: i32) -> bool
+    ensures { λ r. ⌜ r ≡ has-shape (shape-of shape) (between (point-of x0 y0 d0) (point-of x1 y1 d1)) ⌝ }
+{
+    let f = (y1 as i64) - (y0 as i64);
+    if shape == 1 {
+        return rises(f, d0, d1);
+    }
+    let h = (x1 as i64) - (x0 as i64);
+    bends(h * (d0 as i64), 100 * f, h * (d1 as i64))
+}
