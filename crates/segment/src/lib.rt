@@ -158,10 +158,9 @@ fn bends(left: i64, chord: i64, right: i64) -> bool
 pub fn has_shape(shape: u32, x0: u32, y0: u32, d0: i32, x1: u32, y1: u32, d1: i32) -> bool
     ensures { λ r. ⌜ r ≡ has-shape (shape-of shape) (between (point-of x0 y0 d0) (point-of x1 y1 d1)) ⌝ }
 {
-    let f = (y1 as i64) - (y0 as i64);
     if shape == 1 {
-        return rises(f, d0, d1);
+        return rises(difference(y1, y0), d0, d1);
     }
-    let h = (x1 as i64) - (x0 as i64);
-    bends(h * (d0 as i64), 100 * f, h * (d1 as i64))
+    let e = slopes_of(x0, y0, d0, x1, y1, d1);
+    bends(e.left, e.chord, e.right)
 }
