@@ -82,6 +82,13 @@ passed i before p ps e =
       later = then-rest (row (bad-slope (p .slope)) 5 i) last tt e₅;
     }
 
+-- row 3 passed: its first test
+pub limit-passed : (before : Option ℕ) (area : ℕ) → bad-area before area ≡ false → area ≤ 20000
+unfolding bad-area
+limit-passed none area e = ltb-false 20000 area e
+limit-passed (some before) area e =
+    ltb-false 20000 area (or-left (ltb 20000 area) (leb area before) (or-left (ltb 20000 area || leb area before) (ltb (before + 2000) area) e))
+
 pub chain : (shape : Shape) (i j : ℕ) (p : Point) (ps : List Point) → Limits p → point-rows i (some (p .area)) ps ≡ gives tt → segment-rows j shape (segments (p ∷ ps)) ≡ gives tt → Chain (Good shape) p ps
 unfolding segments segment-rows bad-area
 chain shape i j p [] k e f = end
@@ -90,11 +97,10 @@ chain shape i j p (q ∷ ps) k e f =
     let rest = segment-rows (suc j) shape (segments (q ∷ ps)) in
     let near = or-right (ltb 20000 (q .area) || leb (q .area) (p .area)) (ltb (p .area + 2000) (q .area)) (m .area) in
     let after = or-right (ltb 20000 (q .area)) (leb (q .area) (p .area)) (or-left (ltb 20000 (q .area) || leb (q .area) (p .area)) (ltb (p .area + 2000) (q .area)) (m .area)) in
-    let limit = or-left (ltb 20000 (q .area)) (leb (q .area) (p .area)) (or-left (ltb 20000 (q .area) || leb (q .area) (p .area)) (ltb (p .area + 2000) (q .area)) (m .area)) in
     link (record {
       ordered = leb-false (q .area) (p .area) after;
       near = ltb-false (p .area + 2000) (q .area) near;
-      limit = ltb-false 20000 (q .area) limit;
+      limit = limit-passed (some (p .area)) (q .area) (m .area);
       left-value = k .value;
       right-value = m .limits .value;
       left-slope-low = k .low;

@@ -1,14 +1,14 @@
 -- Laws of rows 1 to 6, for the functions that try them.
 -- Assumes nothing.
-use mathlib.Core.Path.{_≡_, refl}
-use mathlib.Core.Bool.{true, not}
+use mathlib.Core.Path.{_≡_, refl, sym, _∙_}
+use mathlib.Core.Bool.{Bool, true, false, not, _||_}
 use mathlib.Core.List.{List, [], _∷_}
 use mathlib.Core.Option.{Option, none, some}
-use Prim.Native.Nat.{ℕ, _+_, _-_, _<_}
+use Prim.Native.Nat.{ℕ, _+_, _%_, _^_, _≤_, _<_}
 use native.Mathlib.Numerals.{add-one}
 use native.Mathlib.Omega.{arith}
-use borrow.Author.Tests.{eq-eqb, ne-eqb, lt-ltb}
-use lib.Dec.{eqb, ltb, ltb→lt, lt→ltb}
+use borrow.Author.Tests.{eq-eqb, ne-eqb, lt-ltb, leb-true, leb-false}
+use lib.Dec.{eqb, leb, ltb, ltb→lt, lt→ltb}
 use lib.IntN.{ℤ, pos}
 use lib.ListN.{length, getD, drop}
 use lib.Seq.{drop-cons, drop-length}
@@ -20,6 +20,7 @@ use Rattle.rows.specs.Steps.{fault-answer}
 use Rattle.model.specs.Facts.{Lengths, between}
 use Rattle.rows.specs.Steps.{earlier}
 use Rattle.segment.proofs.Bits.{same-test}
+use Rattle.model.proofs.Accepted.{passed, limit-passed}
 use Rattle.model.proofs.Indexed.{point}
 
 -- ---- faults
@@ -49,12 +50,17 @@ unfolding bad-area
 too-large none area h = lt-ltb 20000 area h
 too-large (some before) area h = rw (lt-ltb 20000 area h)
 
--- the difference is tested, since before + gap need not fit
-pub beyond : (gap : ℕ) {before area : ℕ} → before < area → ltb gap (area - before) ≡ ltb (before + gap) area
-beyond gap {before} {area} h =
-    same-test (ltb gap (area - before)) (ltb (before + gap) area)
-    (λ t. lt→ltb (before + gap) area (omega (arith, ltb→lt gap (area - before) t)))
-    (λ t. lt→ltb gap (area - before) (omega (arith, ltb→lt (before + gap) area t)))
+-- a difference of 32 bits that wraps is too large
+pub wrapped : {before area r : ℕ} → before ≤ 20000 → area ≤ 20000 → r < 2 ^ 32 → (r + (before + 1)) % 2 ^ 32 ≡ area → ltb 1999 r ≡ (leb area before || ltb (before + 2000) area)
+wrapped {before} {area} {r} h k f e = decide (leb area before) refl
+  where
+    decide : (b : Bool) → leb area before ≡ b → ltb 1999 r ≡ (b || ltb (before + 2000) area)
+    decide true t = lt-ltb 1999 r (let m = leb-true area before t in omega arith)
+    decide false t =
+        let m : before < area = leb-false area before t in
+        same-test (ltb 1999 r) (ltb (before + 2000) area)
+        (λ s. lt→ltb (before + 2000) area (omega (arith, ltb→lt 1999 r s)))
+        (λ s. lt→ltb 1999 r (omega (arith, ltb→lt (before + 2000) area s)))
 
 -- ---- points and segments, one turn each
 
@@ -68,6 +74,10 @@ regroup (gives u) (gives v) (gives w) rest = refl
 pub after-first : (area : ℕ) (i : ℕ) → earlier (eqb (i + 1) 0) area ≡ some area
 unfolding earlier
 after-first area i = rw (ne-eqb (i + 1) 0 (omega arith))
+
+-- a point that passes: its area is the next one's area before
+pub area-passed : {number : ℕ} (i : ℕ) (before : Option ℕ) (p : Point) → fault-answer number i ≡ point-rows i before (p ∷ []) → number ≡ 0 → p .area ≤ 20000
+area-passed i before p e z = limit-passed before (p .area) (passed i before p [] (sym e ∙ no-fault i z) .area)
 
 module _ (areas values : List ℕ) (slopes : List ℤ) where
   -- the points from the one at i on

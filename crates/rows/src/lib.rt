@@ -2,7 +2,7 @@
 ghost use mathlib.Core.Path.{_≡_};
 ghost use mathlib.Core.List.{[], _∷_};
 ghost use mathlib.Core.Option.{none};
-ghost use Prim.Native.Nat.{ℕ};
+ghost use Prim.Native.Nat.{ℕ, _≤_};
 ghost use lib.ListN.{length};
 ghost use Rattle.model.specs.Points.{points, segments, shape-of};
 ghost use Rattle.model.specs.Shape.{has-shape};
@@ -43,8 +43,9 @@ pub fn bad_code(shape: u32) -> bool
     shape != 2
 }
 
-// Row 3. Before the first point there is no area.
+// Row 3. Before the first point there is no area. An area before is at most 20,000, so a difference that wraps is too large.
 fn bad_area(first: bool, before: u32, area: u32) -> bool
+    requires { ⌜ before ≤ 20000 ⌝ }
     ensures { λ r. ⌜ r ≡ bad-area (earlier first before) area ⌝ }
 {
     if area > 20000 {
@@ -53,14 +54,12 @@ fn bad_area(first: bool, before: u32, area: u32) -> bool
     if first {
         return false;
     }
-    if area <= before {
-        return true;
-    }
-    area - before > 2000
+    std::num::wrapping_sub_u32(area, before + 1) > 1999
 }
 
 // Rows 3, 4 and 5 at one point.
 pub fn point_fault(first: bool, before: u32, area: u32, value: u32, slope: i32) -> u32
+    requires { ⌜ before ≤ 20000 ⌝ }
     ensures { λ r. ⌜ ((i : ℕ) → fault-answer r i ≡ point-rows i (earlier first before) (point-of area value slope ∷ [])) ⌝ }
 {
     if bad_area(first, before, area) {

@@ -1,6 +1,6 @@
--- `file::records::all_pass` meets its contract. The loop's invariant: no row refuses the points to `left` or the segments between them.
+-- `records::all_pass` meets its contract. The loop's invariant: no row refuses the points to `left` or the segments between them.
 -- Assumes nothing.
-use mathlib.Core.Path.{_≡_, refl, sym, _∙_, ap}
+use mathlib.Core.Path.{_≡_, refl, sym, _∙_, ap, subst, subst⁻¹}
 use mathlib.Core.List.{List}
 use mathlib.Core.Option.{none, some}
 use Prim.Native.Nat.{ℕ, _+_, _-_, _≤_, _<_}
@@ -12,7 +12,7 @@ use mir.Facts.{toZ-ofZ}
 use Rattle.model.specs.Answer.{Answer, row, _then_}
 use Rattle.model.specs.Points.{shape-of}
 use Rattle.rows.specs.Steps.{earlier}
-use Rattle.rows.proofs.Faults.{passes, points-from, point-end, segments-from, segment-end}
+use Rattle.rows.proofs.Faults.{passes, area-passed, points-from, point-end, segments-from, segment-end}
 use Rattle.records.specs.Layout.{area-at, areas-of, values-of, slopes-of}
 use Rattle.records.proofs.Placed.{size, all-lengths, point-is, point-done, segment-done}
 use Rattle.records.proofs.all_pass.Statement.{statement}
@@ -20,7 +20,7 @@ use Rattle.records.proofs.all_pass.Tie as tie
 
 abbrev Inv-loop : tie.InvT-loop
 Inv-loop bytes n shape last left₀ left =
-    (left ≤ last) × (last + 1 ≡ n)
+    (left ≤ last) × (last + 1 ≡ n) × (area-at bytes left ≤ 20000)
     × (points-from (areas-of bytes n) (values-of bytes n) (slopes-of bytes n) (some (area-at bytes left)) (left + 1) ≡ points-from (areas-of bytes n) (values-of bytes n) (slopes-of bytes n) none 0)
     × (segments-from (areas-of bytes n) (values-of bytes n) (slopes-of bytes n) (shape-of shape) left ≡ segments-from (areas-of bytes n) (values-of bytes n) (slopes-of bytes n) (shape-of shape) 0)
 
@@ -59,6 +59,7 @@ loop-holds c =
     let h : 0 < n c = omega arith in (
       omega arith,
       omega arith,
+      subst (λ (a : ℕ). a ≤ 20000) (p .ensures .0) (area-passed 0 _ _ (c .before .point-fault .ensures 0) (c .if1 .left)),
       ap (λ (a : ℕ). points-are c a 1) (sym (p .ensures .0)) ∙ sym (passes 0 _ (c .if1 .left))
           ∙ point-done (bytes c) (n c) (start c .pre) 0 none (c .before .point-fault .result) h
           (point-is (bytes c) (n c) h (p .ensures .0) (p .ensures .1) (toZ-ofZ {w = w32} {z = p .result .slope} (search needs) ∙ p .ensures .2)) (c .before .point-fault .ensures 0),
@@ -75,7 +76,9 @@ record-at-requires-3 : tie.Need-record-at-requires-3 Inv-loop μ-loop
 record-at-requires-3 c κs = record { file = omega arith }
 
 point-fault-requires-2 : tie.Need-point-fault-requires-2 Inv-loop μ-loop
-point-fault-requires-2 c κs = search needs
+point-fault-requires-2 c κs =
+    let p = c .before .before .record-at2 in
+    subst⁻¹ (λ (a : ℕ). a ≤ 20000) (p .ensures .0) (c .before .before .before .before .loop .inv .2)
 
 returns-2 : tie.Need-returns-2 Inv-loop μ-loop
 returns-2 c = λ e. absurd (let z : _≡_ {A = ℕ} 0 1 = cc in omega arith)
@@ -110,10 +113,11 @@ loop-again c =
     let left = point-is (bytes s) (n s) (omega (arith, h)) (p .ensures .0) (p .ensures .1) (toZ-ofZ (left-slope (f .before .before .before)) ∙ p .ensures .2) in (
       omega (arith, h, l .loop .inv .1),
       l .loop .inv .1,
+      subst (λ (a : ℕ). a ≤ 20000) (q .ensures .0) (area-passed (i + 1) _ _ (f .point-fault2 .ensures (i + 1)) (b .if2 .left)),
       ap (λ (a : ℕ). points-are s a (i + 1 + 1)) (sym (q .ensures .0)) ∙ sym (passes (i + 1) _ (b .if2 .left))
           ∙ point-done (bytes s) (n s) (start s .pre) (i + 1) (some (p .result .area)) (f .point-fault2 .result) h right (f .point-fault2 .ensures (i + 1))
-          ∙ ap (λ (a : ℕ). points-are s a (i + 1)) (p .ensures .0) ∙ l .loop .inv .2,
-      (rw (c .if3 .left) at (segment-done (bytes s) (n s) (start s .pre) i (shape-of (start s .args .shape)) h left right (c .before .has-shape .ensures))) ∙ l .loop .inv .3,
+          ∙ ap (λ (a : ℕ). points-are s a (i + 1)) (p .ensures .0) ∙ l .loop .inv .3,
+      (rw (c .if3 .left) at (segment-done (bytes s) (n s) (start s .pre) i (shape-of (start s .args .shape)) h left right (c .before .has-shape .ensures))) ∙ l .loop .inv .4,
     )
 
 returns-4 : tie.Need-returns-4 Inv-loop μ-loop
@@ -122,8 +126,8 @@ returns-4 c =
     let s = l .before in
     let k = all-lengths (bytes s) (n s) (start s .pre) in
     λ e. record {
-      in-points = sym (l .loop .inv .2) ∙ point-end _ _ _ k (some (area-at (bytes s) (l .loop .left))) (l .loop .left + 1) (omega (arith, size (bytes s) (n s)));
-      in-segments = sym (l .loop .inv .3) ∙ segment-end _ _ _ k (shape-of (start s .args .shape)) (l .loop .left) (omega (arith, size (bytes s) (n s)));
+      in-points = sym (l .loop .inv .3) ∙ point-end _ _ _ k (some (area-at (bytes s) (l .loop .left))) (l .loop .left + 1) (omega (arith, size (bytes s) (n s)));
+      in-segments = sym (l .loop .inv .4) ∙ segment-end _ _ _ k (shape-of (start s .args .shape)) (l .loop .left) (omega (arith, size (bytes s) (n s)));
     }
 
 pub all-pass-spec : {M : Type 1} → statement M

@@ -1,4 +1,4 @@
--- `file::records::area_of` meets its contract.
+-- `records::area_of` meets its contract.
 -- Assumes nothing.
 use borrow.Author.Needs.{needs}
 use Rattle.records.specs.Layout.{area-at}

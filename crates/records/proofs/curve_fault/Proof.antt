@@ -1,4 +1,4 @@
--- `file::records::curve_fault` meets its contract: the rows in their order, each by the function that tries it.
+-- `records::curve_fault` meets its contract: the rows in their order, each by the function that tries it.
 -- Assumes nothing.
 use mathlib.Core.Path.{_≡_, sym, _∙_}
 use mathlib.Core.Bool.{false}

@@ -1,4 +1,4 @@
--- `file::records::factor_at` meets its contract.
+-- `records::factor_at` meets its contract.
 -- Assumes nothing.
 use mathlib.Core.Path.{_≡_, sym, _∙_}
 use mathlib.Core.List.{List}

@@ -1,4 +1,4 @@
--- `file::records::outside` meets its contract.
+-- `records::outside` meets its contract.
 -- Assumes nothing.
 use mathlib.Core.Path.{sym, _∙_, ap}
 use native.Mathlib.Omega.{arith}

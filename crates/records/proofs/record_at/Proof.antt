@@ -1,4 +1,4 @@
--- `file::records::record_at` meets its contract.
+-- `records::record_at` meets its contract.
 -- Assumes nothing.
 use mathlib.Core.Path.{_∙_, ap}
 use borrow.Author.Needs.{needs}

@@ -1,4 +1,4 @@
--- `file::records::segments_fault` meets its contract. The loop's invariant: the rows from segment `left` on decide as those from the first.
+-- `records::segments_fault` meets its contract. The loop's invariant: the rows from segment `left` on decide as those from the first.
 -- Assumes nothing.
 use mathlib.Core.Path.{_≡_, refl, sym, _∙_}
 use mathlib.Core.Bool.{not}

@@ -1,4 +1,4 @@
--- `file::signed` meets its contract.
+-- `records::signed` meets its contract.
 -- Assumes nothing.
 use mathlib.Core.Path.{_≡_, sym, _∙_}
 use Prim.Native.Nat.{_-_}

@@ -1,4 +1,4 @@
--- `file::records::skip` meets its contract. The loop's invariant: the area at i is not above the area read, and i has a right neighbour.
+-- `records::skip` meets its contract. The loop's invariant: the area at i is not above the area read, and i has a right neighbour.
 -- Assumes nothing.
 use Prim.Native.Nat.{_+_, _-_, _≤_, _<_}
 use native.Mathlib.Omega.{arith}

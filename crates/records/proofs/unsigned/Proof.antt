@@ -1,4 +1,4 @@
--- `file::unsigned` meets its contract.
+-- `records::unsigned` meets its contract.
 -- Assumes nothing.
 use mathlib.Core.Path.{sym, _∙_}
 use borrow.Author.Needs.{needs}

@@ -1,4 +1,4 @@
--- `curve::rows::bad_code` meets its contract.
+-- `rows::bad_code` meets its contract.
 -- Assumes nothing.
 use borrow.Author.Tests.{eq-eqb, ne-eqb}
 use Rattle.model.specs.Check.{bad-code}

@@ -1,4 +1,4 @@
--- `curve::rows::bad_lengths` meets its contract: each test is one of row 1's.
+-- `rows::bad_lengths` meets its contract: each test is one of row 1's.
 -- Assumes nothing.
 use borrow.Author.Tests.{eq-eqb, ne-eqb, lt-ltb, le-ltb}
 use Rattle.model.specs.Check.{bad-lengths}

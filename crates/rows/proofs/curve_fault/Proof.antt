@@ -1,4 +1,4 @@
--- `curve::rows::curve_fault` meets its contract: the rows in their order, each by the function that tries it.
+-- `rows::curve_fault` meets its contract: the rows in their order, each by the function that tries it.
 -- Assumes nothing.
 use mathlib.Core.Path.{_≡_, sym, _∙_}
 use borrow.Author.Needs.{needs}

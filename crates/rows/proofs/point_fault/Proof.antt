@@ -1,4 +1,4 @@
--- `curve::rows::point_fault` meets its contract: the first row that applies decides.
+-- `rows::point_fault` meets its contract: the first row that applies decides.
 -- Assumes nothing.
 use mathlib.Core.Path.{_≡_, sym, _∙_}
 use mathlib.Core.Bool.{false}

@@ -1,4 +1,4 @@
--- `curve::rows::segments_fault` meets its contract. The loop's invariant: the rows from segment `left` on decide as those from the first.
+-- `rows::segments_fault` meets its contract. The loop's invariant: the rows from segment `left` on decide as those from the first.
 -- Assumes nothing.
 use mathlib.Core.Path.{_≡_, refl, sym, _∙_, ap}
 use mathlib.Core.Bool.{Bool, not}

@@ -1,4 +1,4 @@
--- `curve::segment::above_tangent` meets its contract.
+-- `segment::above_tangent` meets its contract.
 -- Assumes nothing.
 use borrow.Author.Needs.{needs}
 use mathlib.Core.Path.{sym}

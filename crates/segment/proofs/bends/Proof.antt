@@ -1,4 +1,4 @@
--- `curve::rows::bends` meets its contract. A signed local holds bits, which are read back where it is tested.
+-- `segment::bends` meets its contract. A signed local holds bits, which are read back where it is tested.
 -- Assumes nothing.
 use mathlib.Core.Path.{sym, _∙_}
 use borrow.Author.Tests.{eq-eqb, ne-eqb}

@@ -1,4 +1,4 @@
--- `curve::segment::convex_factor` meets its contract.
+-- `segment::convex_factor` meets its contract.
 -- Assumes nothing.
 use borrow.Author.Needs.{needs}
 use mathlib.Core.Path.{_≡_, _∙_, ap, sym}

@@ -1,4 +1,4 @@
--- `curve::segment::difference` meets its contract.
+-- `segment::difference` meets its contract.
 -- Assumes nothing.
 use borrow.Author.Needs.{needs}
 use mathlib.Core.Path.{_≡_}

@@ -1,4 +1,4 @@
--- `curve::segment::factor` meets its contract.
+-- `segment::factor` meets its contract.
 -- Assumes nothing.
 use mathlib.Core.Path.{_∙_, subst}
 use mir.Facts.{toZ-ofZ}

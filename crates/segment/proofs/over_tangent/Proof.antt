@@ -1,4 +1,4 @@
--- `curve::segment::over_tangent` meets its contract. Signed locals hold bits, which are read back (`toZ-ofZ`, `toZ-pos`).
+-- `segment::over_tangent` meets its contract. Signed locals hold bits, which are read back (`toZ-ofZ`, `toZ-pos`).
 -- Assumes nothing.
 use borrow.Author.Needs.{needs}
 use mathlib.Core.Path.{_≡_, ap}

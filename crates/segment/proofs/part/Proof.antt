@@ -1,4 +1,4 @@
--- `curve::segment::part` meets its contract.
+-- `segment::part` meets its contract.
 -- Assumes nothing.
 use borrow.Author.Needs.{needs}
 use native.Mathlib.Omega.{arith}

@@ -1,4 +1,4 @@
--- `curve::rows::rises` meets its contract. A signed local holds bits, which are read back where it is tested.
+-- `segment::rises` meets its contract. A signed local holds bits, which are read back where it is tested.
 -- Assumes nothing.
 use mathlib.Core.Path.{_≡_, sym, _∙_, ap}
 use mathlib.Core.Bool.{true, false}

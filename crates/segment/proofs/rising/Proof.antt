@@ -1,4 +1,4 @@
--- `curve::segment::rising` meets its contract.
+-- `segment::rising` meets its contract.
 -- Assumes nothing.
 use borrow.Author.Needs.{needs}
 use Prim.Native.Nat.{_+_, _*_, _/_, _≤_}

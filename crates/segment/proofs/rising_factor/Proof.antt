@@ -1,4 +1,4 @@
--- `curve::segment::rising_factor` meets its contract.
+-- `segment::rising_factor` meets its contract.
 -- Assumes nothing.
 use borrow.Author.Needs.{needs}
 use mathlib.Core.Path.{_≡_, _∙_, ap, sym, subst⁻¹}

@@ -1,4 +1,4 @@
--- `curve::segment::scaled` meets its contract.
+-- `segment::scaled` meets its contract.
 -- Assumes nothing.
 use Prim.Native.Nat.{_^_, _<_}
 use native.Mathlib.Nat.{mul-le-mul}

@@ -1,4 +1,4 @@
--- `curve::segment::slopes_of` meets its contract. A signed result holds bits, which are read back (`toZ-ofZ`).
+-- `segment::slopes_of` meets its contract. A signed result holds bits, which are read back (`toZ-ofZ`).
 -- Assumes nothing.
 use borrow.Author.Needs.{needs}
 use mathlib.Core.Path.{_≡_, _∙_, ap, ap₂}
