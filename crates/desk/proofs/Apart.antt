@@ -14,8 +14,8 @@ use Rattle.model.specs.Read.{outside, reading, read-answer}
 use Rattle.model.specs.Laws.{Curve}
 use Rattle.model.proofs.Accepted.{then-first, then-rest, row-passed}
 use Rattle.model.proofs.Laws.{factors-are-ranged}
-use Rattle.records.specs.Layout.{count}
-use Rattle.file.specs.Open.{head-rows}
+use Rattle.layout.specs.Layout.{count}
+use Rattle.layout.specs.Head.{head-rows}
 use Rattle.desk.specs.Desk.{desk-answer, desk-number}
 use Rattle.desk.specs.Laws.{Apart, FactorsAndRefusalsApart}
 use Rattle.desk.proofs.Numbered.{Numbered, in-desk}

@@ -11,8 +11,8 @@ use Rattle.model.specs.Points.{Point, Segment, Shape}
 use Rattle.model.specs.Shape.{has-shape}
 use Rattle.model.specs.Check.{bad-area, bad-value, bad-slope, point-rows, segment-rows, curve-rows}
 use Rattle.model.specs.Read.{outside, read-answer}
-use Rattle.records.specs.Layout.{count}
-use Rattle.file.specs.Open.{bad-head, bad-size, head-rows}
+use Rattle.layout.specs.Layout.{count}
+use Rattle.layout.specs.Head.{bad-head, bad-size, head-rows}
 use Rattle.desk.specs.Desk.{desk-answer}
 
 abbrev pub Numbered : {A : Type 0} → Answer A → Type 0

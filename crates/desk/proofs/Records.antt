@@ -6,7 +6,7 @@ use Prim.Native.Nat.{ℕ, _+_, _*_, _-_, _≤_}
 use native.Mathlib.Omega.{arith}
 use lib.ListN.{length, take, drop, length-drop}
 use lib.Seq.{length-take-le, take-length}
-use Rattle.records.specs.Layout.{count}
+use Rattle.layout.specs.Layout.{count}
 use Rattle.desk.specs.Desk.{point-records}
 
 -- all that follows the head

@@ -7,8 +7,8 @@ use lib.IntN.{ℤ, pos, negsuc, _-ℤ_}
 use lib.ListN.{take, drop}
 use Rattle.model.specs.Answer.{Answer, gives, refused, row, _then_}
 use Rattle.model.specs.Read.{read-answer}
-use Rattle.records.specs.Layout.{shape-code, count, areas-of, values-of, slopes-of}
-use Rattle.file.specs.Open.{head-rows}
+use Rattle.layout.specs.Layout.{shape-code, count, areas-of, values-of, slopes-of}
+use Rattle.layout.specs.Head.{head-rows}
 
 -- of the bytes, the area and the scratch's length: rows 9 and 10; 11, scratch shorter than 12 × count; then 1 to 6, and 7, of the
 -- file's own lists

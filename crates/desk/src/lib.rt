@@ -5,7 +5,7 @@ ghost use lib.IntN.{pos, negsuc, _-ℤ_};
 ghost use lib.ListN.{length};
 ghost use Rattle.model.specs.Read.{read-answer};
 ghost use Rattle.curve.specs.Calls.{reading-answer};
-ghost use Rattle.records.specs.Layout.{areas-of, values-of, slopes-of};
+ghost use Rattle.layout.specs.Layout.{areas-of, values-of, slopes-of};
 ghost use Rattle.desk.specs.Desk.{desk-answer, desk-number, desk-scratch};
 use curve::Reading;
 
@@ -38,7 +38,7 @@ pub extern "C" fn desk_reading(bytes: &[u8], area: u32, scratch: &mut [u8]) -> i
     ensures number { λ r. ⌜ r ≡ desk-number (desk-answer (now (bytes .entry)) area (length (now (scratch .entry)))) ⌝ }
     ensures scratch { λ _. ⌜ now (scratch .exit) ≡ desk-scratch (desk-answer (now (bytes .entry)) area (length (now (scratch .entry)))) (now (bytes .entry)) (now (scratch .entry)) ⌝ }
 {
-    let fault = file::head_fault(bytes);
+    let fault = layout::head_fault(bytes);
     if fault != 0 {
         return refusal(fault);
     }

@@ -1,11 +1,9 @@
 // Curve files.
 ghost use mathlib.Core.Path.{_≡_};
 ghost use mathlib.Core.List.{_++_};
-ghost use Prim.Native.Nat.{_+_, _*_, _≤_};
 ghost use lib.ListN.{length, drop};
-ghost use Rattle.rows.specs.Steps.{fault-answer};
-ghost use Rattle.records.specs.Layout.{areas-of, values-of, slopes-of};
-ghost use Rattle.file.specs.Open.{bad-head, head-rows, short-list, open-answer, open-list};
+ghost use Rattle.layout.specs.Layout.{areas-of, values-of, slopes-of};
+ghost use Rattle.file.specs.Open.{short-list, open-answer, open-list};
 ghost use Rattle.file.specs.Calls.{opened-answer};
 ghost use Rattle.file.specs.Steps.{Room};
 
@@ -19,45 +17,13 @@ pub fn decode(bytes: &[u8], n: usize, areas: &mut [u32], values: &mut [u32], slo
 {
     let mut i: usize = 0;
     while i < n {
-        let p = records::record_at(bytes, i);
+        let p = layout::record_at(bytes, i);
         areas[i] = p.area;
         values[i] = p.value;
         let slope = p.slope;
         slopes[i] = slope;
         i += 1;
     }
-}
-
-// Row 9.
-fn bad_head(bytes: &[u8]) -> bool
-    ensures { λ r. ⌜ r ≡ bad-head (now (bytes .entry)) ⌝ }
-{
-    if bytes.len() < 7 {
-        return true;
-    }
-    if bytes[0] != 84 {
-        return true;
-    }
-    if bytes[1] != 82 {
-        return true;
-    }
-    if bytes[2] != 70 {
-        return true;
-    }
-    records::word(bytes[3], bytes[4], 0, 0) != 1
-}
-
-// Rows 9 and 10: the number of the first that applies, or 0.
-pub fn head_fault(bytes: &[u8]) -> u32
-    ensures { λ r. ⌜ fault-answer r 0 ≡ head-rows (now (bytes .entry)) ⌝ }
-{
-    if bad_head(bytes) {
-        return 9;
-    }
-    if bytes.len() != 7 + 12 * (bytes[6] as usize) {
-        return 10;
-    }
-    0
 }
 
 // Row 11.
@@ -85,7 +51,7 @@ pub fn open(bytes: &[u8], areas: &mut [u32], values: &mut [u32], slopes: &mut [i
     ensures values { λ r. ⌜ now (values .exit) ≡ open-list (opened-answer r) (values-of (now (bytes .entry))) (now (values .entry)) ⌝ }
     ensures slopes { λ r. ⌜ now (slopes .exit) ≡ open-list (opened-answer r) (slopes-of (now (bytes .entry))) (now (slopes .entry)) ⌝ }
 {
-    let fault = head_fault(bytes);
+    let fault = layout::head_fault(bytes);
     if fault != 0 {
         return Opened::Refused(fault, 0);
     }

@@ -2,13 +2,18 @@
 -- definitions of document 01.
 -- Assumes nothing.
 use mathlib.Core.Path.{_≡_}
+use mathlib.Core.Bool.{not}
 use Prim.Native.Nat.{ℕ, _+_, _≤_, _<_}
-use lib.Dec.{T, ltb}
+use lib.Dec.{T, eqb, ltb}
 use lib.IntN.{ℤ, pos, negsuc}
 use lib.Signed.{_≤ℤ_}
 use Rattle.model.specs.Answer.{Answer, row}
 use Rattle.model.specs.Points.{Point, Segment, Shape}
 use Rattle.model.specs.Shape.{has-shape}
+
+-- a fault's number and place; the number 0 is no fault
+unfoldable pub fault-answer : ℕ → ℕ → Answer (Unit {0})
+fault-answer number place = row (not (eqb number 0)) number place
 
 -- row 1 is passed
 pub record Lengths (areas values slopes : ℕ) : Type 0 where

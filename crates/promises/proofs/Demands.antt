@@ -21,8 +21,8 @@ use Rattle.model.proofs.Accepted.{then-first, then-rest, row-passed}
 use Rattle.model.proofs.Answers.{gives-injective, given, gives-reading}
 use Rattle.model.proofs.Laws.{factors-are-near, rising-factors, convex-chords, convex-steps}
 use Rattle.model.proofs.SheetRows.{rows-inside}
-use Rattle.records.specs.Layout.{shape-code, count, areas-of, values-of, slopes-of}
-use Rattle.file.specs.Open.{head-rows}
+use Rattle.layout.specs.Layout.{shape-code, count, areas-of, values-of, slopes-of}
+use Rattle.layout.specs.Head.{head-rows}
 use Rattle.desk.specs.Desk.{desk-answer}
 use Rattle.pair.specs.Pair.{Factors, factors, pair-answer}
 use Rattle.promises.specs.FactorRead.{FileOf, FactorRead, by-read, by-pair-form, by-pair-plan, by-sheet, by-desk, read-of, pair-of, sheet-of, list-of}

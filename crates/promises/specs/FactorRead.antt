@@ -9,8 +9,8 @@ use Rattle.model.specs.Answer.{Answer, gives}
 use Rattle.model.specs.Laws.{Curve}
 use Rattle.model.specs.Read.{read-answer}
 use Rattle.model.specs.Sheet.{entry-area, sheet-answer, sheet-list}
-use Rattle.records.specs.Layout.{shape-code, count, areas-of, values-of, slopes-of}
-use Rattle.file.specs.Open.{head-rows}
+use Rattle.layout.specs.Layout.{shape-code, count, areas-of, values-of, slopes-of}
+use Rattle.layout.specs.Head.{head-rows}
 use Rattle.desk.specs.Desk.{desk-answer}
 use Rattle.pair.specs.Pair.{Factors, pair-answer}
 

@@ -9,10 +9,12 @@ use Rattle.model.specs.Answer.{gives, row, _then_}
 use Rattle.model.specs.Check.{Accepted}
 use Rattle.model.proofs.Accepted.{then-first, then-rest, row-passed}
 use Rattle.model.proofs.Answers.{gives-injective}
-use Rattle.records.specs.Layout.{shape-code, count, areas-of, values-of, slopes-of}
-use Rattle.file.specs.Open.{Head, head-rows, list-rows, short-list, open-answer}
+use Rattle.layout.specs.Layout.{shape-code, count, areas-of, values-of, slopes-of}
+use Rattle.file.specs.Open.{Head, list-rows, short-list, open-answer}
+use Rattle.layout.specs.Head.{head-rows}
 use Rattle.file.specs.Steps.{Room}
-use Rattle.file.proofs.Heads.{head-passed, room}
+use Rattle.layout.proofs.Heads.{head-passed}
+use Rattle.file.proofs.Rooms.{room}
 
 pub record Given (bytes : List ℕ) (areas values slopes : ℕ) (head : Head) : Type 0 where
   pub fits : Room (head .count) (length bytes) areas values slopes

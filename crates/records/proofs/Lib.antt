@@ -1,3 +1,2 @@
 -- Laws of the points in a file that other crates cite.
-pub mod Numbers
 pub mod Placed

@@ -20,7 +20,7 @@ use Rattle.model.specs.Interpolant.{interpolant}
 use Rattle.model.specs.Check.{bad-lengths, point-rows, Accepted}
 use Rattle.model.specs.Read.{outside, reading}
 use Rattle.model.specs.Sheet.{tabulate}
-use Rattle.rows.specs.Steps.{fault-answer}
+use Rattle.model.specs.Facts.{fault-answer}
 use Rattle.model.specs.Facts.{Lengths, point-of, between, Inside}
 use Rattle.curve.specs.Steps.{Taken, Readable}
 use Rattle.model.proofs.Accepted.{lengths, not-before, outside-before}
@@ -28,7 +28,7 @@ use Rattle.rows.proofs.Faults.{points-from, point-turn, segments-from, segment-
 use Rattle.model.proofs.Indexed.{point}
 use Rattle.curve.proofs.Readable.{inside, reading-is}
 use Rattle.model.proofs.Filling.{tabulate-length}
-use Rattle.records.specs.Layout.{area-at, value-at, slope-at, areas-of, values-of, slopes-of}
+use Rattle.layout.specs.Layout.{area-at, value-at, slope-at, areas-of, values-of, slopes-of}
 use Rattle.records.specs.Steps.{Several}
 
 module _ {A : Type 0} (f : ℕ → A) (d : A) where

@@ -1,3 +1,2 @@
--- The curve file.
-pub mod Layout
+-- What its functions ask and give.
 pub mod Steps

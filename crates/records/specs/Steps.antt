@@ -7,13 +7,9 @@ use Prim.Native.Nat.{ℕ, _+_, _*_, _≤_}
 use Rattle.model.specs.Answer.{gives}
 use Rattle.model.specs.Points.{points, segments, shape-of}
 use Rattle.model.specs.Check.{point-rows, segment-rows}
-use Rattle.records.specs.Layout.{areas-of, values-of, slopes-of}
+use Rattle.layout.specs.Layout.{areas-of, values-of, slopes-of}
 
--- n points are in a file of so many bytes
-pub record Holds (n bytes : ℕ) : Type 0 where
-  pub file : 7 + 12 * n ≤ bytes
-
--- and as many as a curve has
+-- as many points as a curve has are in a file of so many bytes
 pub record Several (n bytes : ℕ) : Type 0 where
   pub file : 7 + 12 * n ≤ bytes
   pub least : 2 ≤ n

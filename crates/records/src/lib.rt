@@ -1,74 +1,19 @@
-// The points of a curve file, read where they stand.
+// Rows 1 to 7 and the reading, of the points of a curve file where they stand.
 ghost use mathlib.Core.Path.{_≡_};
 ghost use mathlib.Core.Bool.{true};
 ghost use mathlib.Core.Option.{none};
-ghost use Prim.Native.Nat.{suc, _+_, _*_, _≤_, _<_};
+ghost use Prim.Native.Nat.{_+_, _≤_, _<_};
 ghost use lib.ListN.{length};
 ghost use Rattle.model.specs.Points.{points, segments, shape-of};
 ghost use Rattle.model.specs.Check.{point-rows, segment-rows, curve-rows};
 ghost use Rattle.model.specs.Read.{reading, outside as lies-outside};
-ghost use Rattle.rows.specs.Steps.{fault-answer};
+ghost use Rattle.model.specs.Facts.{fault-answer};
 ghost use Rattle.curve.specs.Steps.{Taken, Readable};
-ghost use Rattle.records.specs.Layout.{twos-complement, little-endian, area-at, value-at, slope-at, areas-of, values-of, slopes-of};
-ghost use Rattle.records.specs.Steps.{Holds, Several, NoFault};
+ghost use Rattle.layout.specs.Layout.{area-at, areas-of, values-of, slopes-of};
+ghost use Rattle.layout.specs.Steps.{Holds};
+ghost use Rattle.records.specs.Steps.{Several, NoFault};
+use layout::{area_of, record_at};
 use rows::Fault;
-
-fn wide(x: u8) -> u32
-    ensures { λ r. ⌜ r ≡ x ⌝ }
-{
-    x as u32
-}
-
-// The number of 4 bytes, the lowest first.
-pub fn word(a: u8, b: u8, c: u8, d: u8) -> u32
-    ensures { λ r. ⌜ r ≡ a + 256 * b + 65536 * c + 16777216 * d ⌝ }
-{
-    wide(a) + 256 * wide(b) + 65536 * wide(c) + 16777216 * wide(d)
-}
-
-fn unsigned(bytes: &[u8], at: usize) -> u32
-    requires { ⌜ at + 4 ≤ length (now bytes) ⌝ }
-    ensures { λ r. ⌜ r ≡ little-endian (now (bytes .entry)) at 4 ⌝ }
-{
-    word(bytes[at], bytes[at + 1], bytes[at + 2], bytes[at + 3])
-}
-
-fn signed(x: u32) -> i32
-    ensures { λ r. ⌜ r ≡ twos-complement x ⌝ }
-{
-    if x < 2147483648 {
-        return x as i32;
-    }
-    -1 - ((4294967295 - x) as i32)
-}
-
-// A point of a file.
-pub struct Record {
-    pub area: u32,
-    pub value: u32,
-    pub slope: i32,
-}
-
-// The area of the point at i.
-fn area_of(bytes: &[u8], i: usize) -> u32
-    requires { ⌜ Holds (suc i) (length (now bytes)) ⌝ }
-    ensures { λ r. ⌜ r ≡ area-at (now (bytes .entry)) i ⌝ }
-{
-    unsigned(bytes, 7 + 12 * i)
-}
-
-// The point at i.
-pub fn record_at(bytes: &[u8], i: usize) -> Record
-    requires { ⌜ Holds (suc i) (length (now bytes)) ⌝ }
-    ensures { λ r. ⌜ (r .area ≡ area-at (now (bytes .entry)) i) × (r .value ≡ value-at (now (bytes .entry)) i) × (r .slope ≡ slope-at (now (bytes .entry)) i) ⌝ }
-{
-    let at = 7 + 12 * i;
-    Record {
-        area: unsigned(bytes, at),
-        value: unsigned(bytes, at + 4),
-        slope: signed(unsigned(bytes, at + 8)),
-    }
-}
 
 // Rows 3, 4 and 5: the first bad point of n.
 fn points_fault(bytes: &[u8], n: usize) -> Fault

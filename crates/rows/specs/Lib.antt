@@ -1,2 +1,2 @@
--- Faults as answers.
+-- What its functions ask and give.
 pub mod Steps

@@ -7,7 +7,7 @@ ghost use lib.ListN.{length};
 ghost use Rattle.model.specs.Points.{points, segments, shape-of};
 ghost use Rattle.model.specs.Shape.{has-shape};
 ghost use Rattle.model.specs.Check.{bad-lengths, bad-code, bad-area, point-rows, segment-rows, curve-rows};
-ghost use Rattle.rows.specs.Steps.{fault-answer};
+ghost use Rattle.model.specs.Facts.{fault-answer};
 ghost use Rattle.model.specs.Facts.{Lengths, point-of, between};
 ghost use Rattle.rows.specs.Steps.{earlier};
 

@@ -15,9 +15,9 @@ use Rattle.model.specs.Answer.{Answer, gives, refused, row, _then_}
 use Rattle.model.specs.Read.{read-answer}
 use Rattle.curve.specs.Calls.{reading-answer}
 use Rattle.rows.proofs.Faults.{a-fault, no-fault}
-use Rattle.records.specs.Layout.{shape-code, count, areas-of, values-of, slopes-of}
-use Rattle.file.specs.Open.{head-rows}
-use Rattle.file.proofs.Heads.{head-passed}
+use Rattle.layout.specs.Layout.{shape-code, count, areas-of, values-of, slopes-of}
+use Rattle.layout.specs.Head.{head-rows}
+use Rattle.layout.proofs.Heads.{head-passed}
 use Rattle.desk.specs.Desk.{desk-answer, desk-number, desk-scratch}
 use Rattle.desk.proofs.Numbered.{Numbered, in-head, in-reading}
 use Rattle.desk.proofs.Records.{body-fits, body-copied}

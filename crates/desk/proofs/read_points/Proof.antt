@@ -15,7 +15,7 @@ use Rattle.model.specs.Check.{Accepted}
 use Rattle.model.specs.Read.{outside, read-answer}
 use Rattle.curve.specs.Calls.{reading-answer}
 use Rattle.rows.proofs.Faults.{a-fault, no-fault}
-use Rattle.records.specs.Layout.{areas-of, values-of, slopes-of}
+use Rattle.layout.specs.Layout.{areas-of, values-of, slopes-of}
 use Rattle.records.specs.Steps.{Several}
 use Rattle.records.proofs.Placed.{several, first-reached}
 use Rattle.desk.proofs.read_points.Statement.{statement}

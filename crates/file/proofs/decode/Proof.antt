@@ -9,7 +9,7 @@ use lib.IntN.{ℤ, pos}
 use mir.Syntax.{w32}
 use mir.Facts.{toZ-ofZ}
 use Rattle.model.proofs.Filling.{Filling, filling-starts, filling-goes-on, filled-up}
-use Rattle.records.specs.Layout.{area-at, value-at, slope-at}
+use Rattle.layout.specs.Layout.{area-at, value-at, slope-at}
 use Rattle.file.proofs.decode.Statement.{statement}
 use Rattle.file.proofs.decode.Tie as tie
 

@@ -10,10 +10,12 @@ use borrow.Author.Needs.{needs}
 use lib.ListN.{length}
 use Rattle.model.specs.Answer.{Answer, gives, row, _then_}
 use Rattle.rows.proofs.Faults.{a-fault, no-fault}
-use Rattle.records.specs.Layout.{shape-code, count}
-use Rattle.file.specs.Open.{head-rows, list-rows, short-list, open-answer, open-list}
+use Rattle.layout.specs.Layout.{shape-code, count}
+use Rattle.layout.specs.Head.{head-rows}
+use Rattle.file.specs.Open.{list-rows, short-list, open-answer, open-list}
 use Rattle.file.specs.Calls.{opened-answer}
-use Rattle.file.proofs.Heads.{head-passed, room}
+use Rattle.layout.proofs.Heads.{head-passed}
+use Rattle.file.proofs.Rooms.{room}
 use Rattle.file.proofs.open.Statement.{statement}
 use Rattle.file.proofs.open.Tie as tie
 

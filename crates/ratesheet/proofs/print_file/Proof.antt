@@ -8,7 +8,7 @@ use borrow.Author.Needs.{needs}
 use lib.IntN.{pos}
 use lib.ListN.{drop, replicate}
 use Rattle.model.specs.Answer.{gives}
-use Rattle.records.specs.Layout.{areas-of, values-of, slopes-of}
+use Rattle.layout.specs.Layout.{areas-of, values-of, slopes-of}
 use Rattle.file.specs.Open.{Head, open-list}
 use Rattle.file.specs.Calls.{opened-answer}
 use Rattle.model.proofs.Filling.{front, front-length}

@@ -13,7 +13,7 @@ use Rattle.model.specs.Answer.{Answer, row, _then_}
 use Rattle.model.specs.Points.{shape-of}
 use Rattle.rows.specs.Steps.{earlier}
 use Rattle.rows.proofs.Faults.{passes, area-passed, points-from, point-end, segments-from, segment-end}
-use Rattle.records.specs.Layout.{area-at, areas-of, values-of, slopes-of}
+use Rattle.layout.specs.Layout.{area-at, areas-of, values-of, slopes-of}
 use Rattle.records.proofs.Placed.{size, all-lengths, point-is, point-done, segment-done}
 use Rattle.records.proofs.all_pass.Statement.{statement}
 use Rattle.records.proofs.all_pass.Tie as tie

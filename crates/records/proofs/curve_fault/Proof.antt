@@ -8,10 +8,10 @@ use borrow.Author.Needs.{needs}
 use Rattle.model.specs.Answer.{Answer, row, _then_}
 use Rattle.model.specs.Points.{points, segments, shape-of}
 use Rattle.model.specs.Check.{bad-lengths, segment-rows, curve-rows}
-use Rattle.rows.specs.Steps.{fault-answer}
+use Rattle.model.specs.Facts.{fault-answer}
 use Rattle.model.proofs.Accepted.{lengths-passed}
 use Rattle.rows.proofs.Faults.{passes, stops}
-use Rattle.records.specs.Layout.{areas-of, values-of, slopes-of}
+use Rattle.layout.specs.Layout.{areas-of, values-of, slopes-of}
 use Rattle.records.proofs.Placed.{lengths-are}
 use Rattle.records.proofs.curve_fault.Statement.{statement}
 use Rattle.records.proofs.curve_fault.Tie as tie

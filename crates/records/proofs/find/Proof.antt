@@ -2,7 +2,7 @@
 -- Assumes nothing.
 use Prim.Native.Nat.{_+_, _-_, _≤_, _<_}
 use native.Mathlib.Omega.{arith}
-use Rattle.records.specs.Layout.{area-at}
+use Rattle.layout.specs.Layout.{area-at}
 use Rattle.records.proofs.Placed.{taken-here, taken-last}
 use Rattle.records.proofs.find.Statement.{statement}
 use Rattle.records.proofs.find.Tie as tie

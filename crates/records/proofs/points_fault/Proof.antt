@@ -10,10 +10,10 @@ use lib.Dec.{eqb}
 use mir.Syntax.{w32}
 use mir.Facts.{toZ-ofZ}
 use Rattle.model.specs.Answer.{Answer, _then_}
-use Rattle.rows.specs.Steps.{fault-answer}
+use Rattle.model.specs.Facts.{fault-answer}
 use Rattle.rows.specs.Steps.{earlier}
 use Rattle.rows.proofs.Faults.{no-fault, passes, stops, after-first, area-passed, points-from, point-end}
-use Rattle.records.specs.Layout.{areas-of, values-of, slopes-of}
+use Rattle.layout.specs.Layout.{areas-of, values-of, slopes-of}
 use Rattle.records.proofs.Placed.{size, all-lengths, point-is, point-done}
 use Rattle.records.proofs.points_fault.Statement.{statement}
 use Rattle.records.proofs.points_fault.Tie as tie

@@ -9,9 +9,9 @@ use mir.Syntax.{w32}
 use mir.Facts.{toZ-ofZ}
 use Rattle.model.specs.Answer.{Answer, row, _then_}
 use Rattle.model.specs.Points.{shape-of}
-use Rattle.rows.specs.Steps.{fault-answer}
+use Rattle.model.specs.Facts.{fault-answer}
 use Rattle.rows.proofs.Faults.{segments-from, segment-end}
-use Rattle.records.specs.Layout.{areas-of, values-of, slopes-of}
+use Rattle.layout.specs.Layout.{areas-of, values-of, slopes-of}
 use Rattle.records.proofs.Placed.{size, all-lengths, point-is, segment-done}
 use Rattle.records.proofs.segments_fault.Statement.{statement}
 use Rattle.records.proofs.segments_fault.Tie as tie

@@ -5,7 +5,7 @@ use borrow.Author.Needs.{needs}
 use Rattle.model.specs.Answer.{Answer, row, _then_}
 use Rattle.model.specs.Points.{points, segments, shape-of}
 use Rattle.model.specs.Check.{segment-rows, curve-rows}
-use Rattle.rows.specs.Steps.{fault-answer}
+use Rattle.model.specs.Facts.{fault-answer}
 use Rattle.model.proofs.Accepted.{lengths-passed}
 use Rattle.rows.proofs.Faults.{passes, stops}
 use Rattle.rows.proofs.curve_fault.Statement.{statement}

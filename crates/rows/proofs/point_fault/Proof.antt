@@ -7,7 +7,7 @@ use borrow.Author.Needs.{needs}
 use borrow.Author.Tests.{lt-ltb, le-ltb}
 use Rattle.model.specs.Answer.{row, _then_}
 use Rattle.model.specs.Check.{bad-area, bad-value, bad-slope, point-rows}
-use Rattle.rows.specs.Steps.{fault-answer}
+use Rattle.model.specs.Facts.{fault-answer}
 use Rattle.rows.specs.Steps.{earlier}
 use Rattle.rows.proofs.point_fault.Statement.{statement}
 use Rattle.rows.proofs.point_fault.Tie as tie

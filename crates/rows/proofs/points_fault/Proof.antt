@@ -9,7 +9,7 @@ use borrow.Author.Needs.{needs}
 use lib.Dec.{eqb}
 use lib.ListN.{length, getD}
 use Rattle.model.specs.Answer.{Answer, _then_}
-use Rattle.rows.specs.Steps.{fault-answer}
+use Rattle.model.specs.Facts.{fault-answer}
 use Rattle.rows.specs.Steps.{earlier}
 use Rattle.segment.proofs.Bits.{element-is}
 use Rattle.rows.proofs.Faults.{no-fault, passes, stops, after-first, area-passed, points-from, point-turn, point-end}

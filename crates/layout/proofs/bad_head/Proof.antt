@@ -1,4 +1,4 @@
--- `file::bad_head` meets its contract.
+-- `layout::bad_head` meets its contract.
 -- Assumes nothing.
 use mathlib.Core.Path.{_≡_, ap}
 use Prim.Native.Nat.{_+_, _*_}
@@ -7,11 +7,11 @@ use native.Mathlib.Omega.{arith}
 use borrow.Author.Needs.{needs}
 use borrow.Author.Tests.{lt-ltb, le-ltb, eq-eqb, ne-eqb}
 use lib.Dec.{eqb}
-use Rattle.records.specs.Layout.{byte}
-use Rattle.file.specs.Open.{bad-head, wrong-mark}
-use Rattle.records.proofs.Numbers.{two-bytes}
-use Rattle.file.proofs.bad_head.Statement.{statement}
-use Rattle.file.proofs.bad_head.Tie as tie
+use Rattle.layout.specs.Layout.{byte}
+use Rattle.layout.specs.Head.{bad-head, wrong-mark}
+use Rattle.layout.proofs.Numbers.{two-bytes}
+use Rattle.layout.proofs.bad_head.Statement.{statement}
+use Rattle.layout.proofs.bad_head.Tie as tie
 
 returns : tie.Need-returns
 unfolding bad-head wrong-mark

@@ -1,11 +1,11 @@
--- `records::record_at` meets its contract.
+-- `layout::record_at` meets its contract.
 -- Assumes nothing.
 use mathlib.Core.Path.{_∙_, ap}
 use borrow.Author.Needs.{needs}
 use mir.Facts.{toZ-ofZ}
-use Rattle.records.specs.Layout.{twos-complement, area-at, value-at, slope-at}
-use Rattle.records.proofs.record_at.Statement.{statement}
-use Rattle.records.proofs.record_at.Tie as tie
+use Rattle.layout.specs.Layout.{twos-complement, area-at, value-at, slope-at}
+use Rattle.layout.proofs.record_at.Statement.{statement}
+use Rattle.layout.proofs.record_at.Tie as tie
 
 mul-at : tie.Need-mul-at
 mul-at c = search needs

@@ -1,4 +1,4 @@
--- `records::signed` meets its contract.
+-- `layout::signed` meets its contract.
 -- Assumes nothing.
 use mathlib.Core.Path.{_≡_, sym, _∙_}
 use Prim.Native.Nat.{_-_}
@@ -9,9 +9,9 @@ use mir.Syntax.{w32}
 use mir.Val.{SFits, toZ}
 use mir.Facts.{toZ-ofZ, toZ-pos}
 use Rattle.exact.proofs.Signed.{mirror, sfits-mirror}
-use Rattle.records.proofs.Numbers.{low-half, high-half}
-use Rattle.records.proofs.signed.Statement.{statement}
-use Rattle.records.proofs.signed.Tie as tie
+use Rattle.layout.proofs.Numbers.{low-half, high-half}
+use Rattle.layout.proofs.signed.Statement.{statement}
+use Rattle.layout.proofs.signed.Tie as tie
 
 cast-result : tie.Need-cast-result
 cast-result c = search needs

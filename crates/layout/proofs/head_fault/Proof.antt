@@ -1,4 +1,4 @@
--- `file::head_fault` meets its contract.
+-- `layout::head_fault` meets its contract.
 -- Assumes nothing.
 use mathlib.Core.Path.{_≡_, sym, _∙_}
 use mathlib.Core.Bool.{false}
@@ -6,11 +6,11 @@ use native.Mathlib.Omega.{arith}
 use borrow.Author.Needs.{needs}
 use borrow.Author.Tests.{eq-eqb, ne-eqb}
 use Rattle.model.specs.Answer.{row, _then_}
-use Rattle.rows.specs.Steps.{fault-answer}
-use Rattle.file.specs.Open.{bad-head, bad-size, head-rows}
-use Rattle.file.proofs.Heads.{head-is-there}
-use Rattle.file.proofs.head_fault.Statement.{statement}
-use Rattle.file.proofs.head_fault.Tie as tie
+use Rattle.model.specs.Facts.{fault-answer}
+use Rattle.layout.specs.Head.{bad-head, bad-size, head-rows}
+use Rattle.layout.proofs.Heads.{head-is-there}
+use Rattle.layout.proofs.head_fault.Statement.{statement}
+use Rattle.layout.proofs.head_fault.Tie as tie
 
 bad-head-requires : tie.Need-bad-head-requires
 bad-head-requires c κs = search needs

@@ -1,10 +1,10 @@
--- `records::unsigned` meets its contract.
+-- `layout::unsigned` meets its contract.
 -- Assumes nothing.
 use mathlib.Core.Path.{sym, _∙_}
 use borrow.Author.Needs.{needs}
-use Rattle.records.proofs.Numbers.{four-bytes}
-use Rattle.records.proofs.unsigned.Statement.{statement}
-use Rattle.records.proofs.unsigned.Tie as tie
+use Rattle.layout.proofs.Numbers.{four-bytes}
+use Rattle.layout.proofs.unsigned.Statement.{statement}
+use Rattle.layout.proofs.unsigned.Tie as tie
 
 shared-slice-read-word : tie.Need-shared-slice-read-word
 shared-slice-read-word c = search needs

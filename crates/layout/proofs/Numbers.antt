@@ -8,7 +8,7 @@ use borrow.Author.Tests.{lt-ltb, le-ltb}
 use lib.IntN.{pos, negℤ, _+ℤ_, _-ℤ_}
 use Rattle.exact.proofs.Ring.{ring, terms}
 use Rattle.exact.proofs.Signed.{mirror}
-use Rattle.records.specs.Layout.{twos-complement, byte, little-endian}
+use Rattle.layout.specs.Layout.{twos-complement, byte, little-endian}
 
 module _ (bytes : List ℕ) (at : ℕ) where
   pub two-bytes : little-endian bytes at 2 ≡ byte bytes at + 256 * byte bytes (suc at)

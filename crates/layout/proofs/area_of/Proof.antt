@@ -1,9 +1,9 @@
--- `records::area_of` meets its contract.
+-- `layout::area_of` meets its contract.
 -- Assumes nothing.
 use borrow.Author.Needs.{needs}
-use Rattle.records.specs.Layout.{area-at}
-use Rattle.records.proofs.area_of.Statement.{statement}
-use Rattle.records.proofs.area_of.Tie as tie
+use Rattle.layout.specs.Layout.{area-at}
+use Rattle.layout.proofs.area_of.Statement.{statement}
+use Rattle.layout.proofs.area_of.Tie as tie
 
 mul-unsigned : tie.Need-mul-unsigned
 mul-unsigned c = search needs

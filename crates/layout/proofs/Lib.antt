@@ -1,0 +1,3 @@
+-- Laws of the curve file that other crates cite.
+pub mod Numbers
+pub mod Heads

@@ -1,0 +1,4 @@
+-- The curve file.
+pub mod Layout
+pub mod Head
+pub mod Steps

@@ -1,0 +1,97 @@
+// The curve file: its head and its points.
+ghost use mathlib.Core.Path.{_≡_};
+ghost use Prim.Native.Nat.{suc, _+_, _*_, _≤_};
+ghost use lib.ListN.{length};
+ghost use Rattle.model.specs.Facts.{fault-answer};
+ghost use Rattle.layout.specs.Layout.{twos-complement, little-endian, area-at, value-at, slope-at};
+ghost use Rattle.layout.specs.Head.{bad-head, head-rows};
+ghost use Rattle.layout.specs.Steps.{Holds};
+
+fn wide(x: u8) -> u32
+    ensures { λ r. ⌜ r ≡ x ⌝ }
+{
+    x as u32
+}
+
+// The number of 4 bytes, the lowest first.
+fn word(a: u8, b: u8, c: u8, d: u8) -> u32
+    ensures { λ r. ⌜ r ≡ a + 256 * b + 65536 * c + 16777216 * d ⌝ }
+{
+    wide(a) + 256 * wide(b) + 65536 * wide(c) + 16777216 * wide(d)
+}
+
+fn unsigned(bytes: &[u8], at: usize) -> u32
+    requires { ⌜ at + 4 ≤ length (now bytes) ⌝ }
+    ensures { λ r. ⌜ r ≡ little-endian (now (bytes .entry)) at 4 ⌝ }
+{
+    word(bytes[at], bytes[at + 1], bytes[at + 2], bytes[at + 3])
+}
+
+fn signed(x: u32) -> i32
+    ensures { λ r. ⌜ r ≡ twos-complement x ⌝ }
+{
+    if x < 2147483648 {
+        return x as i32;
+    }
+    -1 - ((4294967295 - x) as i32)
+}
+
+// A point of a file.
+pub struct Record {
+    pub area: u32,
+    pub value: u32,
+    pub slope: i32,
+}
+
+// The area of the point at i.
+pub fn area_of(bytes: &[u8], i: usize) -> u32
+    requires { ⌜ Holds (suc i) (length (now bytes)) ⌝ }
+    ensures { λ r. ⌜ r ≡ area-at (now (bytes .entry)) i ⌝ }
+{
+    unsigned(bytes, 7 + 12 * i)
+}
+
+// The point at i.
+pub fn record_at(bytes: &[u8], i: usize) -> Record
+    requires { ⌜ Holds (suc i) (length (now bytes)) ⌝ }
+    ensures { λ r. ⌜ (r .area ≡ area-at (now (bytes .entry)) i) × (r .value ≡ value-at (now (bytes .entry)) i) × (r .slope ≡ slope-at (now (bytes .entry)) i) ⌝ }
+{
+    let at = 7 + 12 * i;
+    Record {
+        area: unsigned(bytes, at),
+        value: unsigned(bytes, at + 4),
+        slope: signed(unsigned(bytes, at + 8)),
+    }
+}
+
+// Row 9.
+fn bad_head(bytes: &[u8]) -> bool
+    ensures { λ r. ⌜ r ≡ bad-head (now (bytes .entry)) ⌝ }
+{
+    if bytes.len() < 7 {
+        return true;
+    }
+    if bytes[0] != 84 {
+        return true;
+    }
+    if bytes[1] != 82 {
+        return true;
+    }
+    if bytes[2] != 70 {
+        return true;
+    }
+    word(bytes[3], bytes[4], 0, 0) != 1
+}
+
+// Rows 9 and 10: the number of the first that applies, or 0.
+pub fn head_fault(bytes: &[u8]) -> u32
+    ensures { λ r. ⌜ fault-answer r 0 ≡ head-rows (now (bytes .entry)) ⌝ }
+{
+    if bad_head(bytes) {
+        return 9;
+    }
+    if bytes.len() != 7 + 12 * (bytes[6] as usize) {
+        return 10;
+    }
+    0
+}
