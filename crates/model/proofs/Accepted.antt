@@ -6,6 +6,7 @@ use mathlib.Core.List.{List, [], _∷_}
 use mathlib.Core.Logic.{_⊎_, inl, inr, ⊎-elim}
 use mathlib.Core.Option.{Option, none, some}
 use Prim.Native.Nat.{ℕ, suc, _+_, _-_, _≤_, _<_}
+use native.Mathlib.Nat.{le-trans}
 use native.Mathlib.Omega.{arith}
 use borrow.Author.Tests.{eqb-true, leb-false, ltb-false, lt-ltb, le-ltb, not-false}
 use lib.Dec.{T, eqb, leb, ltb}
@@ -20,7 +21,7 @@ use Rattle.model.specs.Check.{bad-lengths, bad-code, bad-area, bad-value
 use Rattle.model.specs.Read.{value-in, outside, exact-value}
 use Rattle.model.specs.Facts.{between, Lengths, Good}
 use Rattle.model.proofs.Indexed.{segment, linked-at, stop-at, stop-somewhere}
-use Rattle.model.proofs.Walk.{Chain, end, link, last-area, stop, taken-is-stop}
+use Rattle.model.proofs.Walk.{Chain, end, link, last-area, stop, chain-ordered, taken-is-stop}
 
 -- ---- rows that are passed
 
@@ -238,14 +239,23 @@ module _ {areas values : List ℕ} {slopes : List ℤ} {code : ℕ} (v : View ar
   pub inside-high : (x : ℕ) → outside areas x ≡ false → x ≤ last-area (v .second) (v .others)
   inside-high x e = subst (λ (n : ℕ). x ≤ n) (v .finish) (not-beyond areas x e)
 
--- every area of an accepted curve is at most 20,000
-pub area-limit : {areas values : List ℕ} {slopes : List ℤ} {code : ℕ} → Accepted areas values slopes code → (x : ℕ) → outside areas x ≡ false → x ≤ 20000
-area-limit {areas} k x e =
-    let n = lengths k .least in
-    let h = not-beyond areas x e in
-    let g = view k .good-at (length areas - 2) (omega arith) .limit in
-    let last = ap (λ (i : ℕ). getD areas i 0) (next (length areas) n) in
-    omega arith
-  where
-    next : (n : ℕ) → 2 ≤ n → suc (n - 2) ≡ n - 1
-    next n h = omega arith
+module _ {areas values : List ℕ} {slopes : List ℤ} {code : ℕ} (k : Accepted areas values slopes code) where
+  -- the first area is not above the last, and the last is at most 20,000
+  pub first-to-last : getD areas 0 0 ≤ getD areas (length areas - 1) 0
+  first-to-last =
+      let v = view k in
+      rw (v .start, v .finish) (chain-ordered (Good (shape-of code)) (λ s g. g .ordered) (v .linked))
+
+  pub last-limit : getD areas (length areas - 1) 0 ≤ 20000
+  last-limit =
+      let n = lengths k .least in
+      let g = view k .good-at (length areas - 2) (omega arith) .limit in
+      let last = ap (λ (i : ℕ). getD areas i 0) (next (length areas) n) in
+      omega arith
+    where
+      next : (n : ℕ) → 2 ≤ n → suc (n - 2) ≡ n - 1
+      next n h = omega arith
+
+  -- so every area is
+  pub area-limit : (x : ℕ) → outside areas x ≡ false → x ≤ 20000
+  area-limit x e = le-trans (not-beyond areas x e) last-limit

@@ -42,7 +42,7 @@ module _ (G : Segment → Type 0) where
     pub high : x ≤ s .right .area
 
   module _ (ordered : (s : Segment) → G s → s .left .area < s .right .area) where
-    chain-ordered : {p : Point} {ps : List Point} → Chain p ps → p .area ≤ last-area p ps
+    pub chain-ordered : {p : Point} {ps : List Point} → Chain p ps → p .area ≤ last-area p ps
     chain-ordered (end {p = p}) = le-refl (p .area)
     chain-ordered (link {p = p} {q = q} g c) =
         let h = ordered (between p q) g in

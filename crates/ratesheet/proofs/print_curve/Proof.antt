@@ -1,36 +1,13 @@
 -- `ratesheet::print_curve` is safe: an accepted curve has its first area not beyond its last, and the last is at most 20,000.
 -- Assumes nothing.
-use mathlib.Core.Path.{_≡_, sym, ap}
-use mathlib.Core.List.{List}
-use Prim.Native.Nat.{ℕ, zero, suc, _-_, _≤_, _<_}
-use native.Mathlib.Nat.{le-refl}
+use mathlib.Core.Path.{sym}
+use Prim.Native.Nat.{_≤_}
 use native.Mathlib.Omega.{arith}
 use borrow.Author.Needs.{needs}
-use lib.IntN.{ℤ}
-use lib.ListN.{length, getD}
 use lib.Seq.{length-take-le}
-use Rattle.model.specs.Check.{Accepted}
-use Rattle.model.proofs.Accepted.{lengths, view}
+use Rattle.model.proofs.Accepted.{lengths, first-to-last, last-limit}
 use Rattle.ratesheet.proofs.print_curve.Statement.{statement}
 use Rattle.ratesheet.proofs.print_curve.Tie as tie
-
-module _ {areas values : List ℕ} {slopes : List ℤ} {code : ℕ} (k : Accepted areas values slopes code) where
-  first-least : (i : ℕ) → i < length areas → getD areas 0 0 ≤ getD areas i 0
-  first-least zero h = le-refl (getD areas 0 0)
-  first-least (suc i) h =
-      let g = view k .good-at i h .ordered in
-      let m = first-least i (omega arith) in
-      omega arith
-
-  last : getD areas (length areas - 1) 0 ≤ 20000
-  last =
-      let n = lengths k .least in
-      let g = view k .good-at (length areas - 2) (omega arith) .limit in
-      let same = ap (λ (i : ℕ). getD areas i 0) (next (length areas) n) in
-      omega arith
-    where
-      next : (n : ℕ) → 2 ≤ n → suc (n - 2) ≡ n - 1
-      next n h = omega arith
 
 shared-slice-read-first : tie.Need-shared-slice-read-first
 shared-slice-read-first c = omega (arith, lengths (c .before .before .before .pre) .least)
@@ -47,10 +24,10 @@ shared-slice-read-entries c = omega (arith, lengths (c .before .before .before .
 entries-requires : tie.Need-entries-requires
 entries-requires c κs =
     let k = c .before .before .before .before .pre in
-    (first-least k _ (let n = lengths k .least in omega arith), last k)
+    (first-to-last k, last-limit k)
 
 few : (c : tie.After-entries) → c .entries .result ≤ 801
-few c = omega (arith, c .entries .ensures, last (c .before .before .before .before .before .pre))
+few c = omega (arith, c .entries .ensures, last-limit (c .before .before .before .before .before .pre))
 
 array-borrow-prefix-factors : tie.Need-array-borrow-prefix-factors
 array-borrow-prefix-factors c = few c
