@@ -9,7 +9,7 @@ ghost use Rattle.file.specs.Steps.{Room};
 
 // Writes the file's first n points into the first entries of the lists. It asks that all of them are there, since its callers
 // have tested that.
-pub fn decode(bytes: &[u8], n: usize, areas: &mut [u32], values: &mut [u32], slopes: &mut [i32])
+fn decode(bytes: &[u8], n: usize, areas: &mut [u32], values: &mut [u32], slopes: &mut [i32])
     requires { ⌜ Room n (length (now bytes)) (length (now areas)) (length (now values)) (length (now slopes)) ⌝ }
     ensures areas { λ _. ⌜ now (areas .exit) ≡ areas-of (now (bytes .entry)) n ++ drop n (now (areas .entry)) ⌝ }
     ensures values { λ _. ⌜ now (values .exit) ≡ values-of (now (bytes .entry)) n ++ drop n (now (values .entry)) ⌝ }
