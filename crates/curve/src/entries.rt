@@ -1,11 +1,11 @@
 // The entries of a sheet.
 ghost use mathlib.Core.Path.{_≡_};
-ghost use Prim.Native.Nat.{_<_, _≤_};
+ghost use Prim.Native.Nat.{ℕ, _<_, _≤_};
 ghost use lib.ListN.{length};
 ghost use Rattle.model.specs.Read.{reading};
 ghost use Rattle.model.specs.Sheet.{bad-sheet, entry-area, entry-rows, tabulate};
 ghost use Rattle.model.specs.Facts.{first-answer};
-ghost use Rattle.curve.specs.Steps.{Fillable};
+ghost use Rattle.curve.specs.Steps.{Fillable, Begun, Advanced};
 use super::lookup;
 
 // Row 8.
@@ -21,29 +21,54 @@ pub fn bad_sheet(step: u32, n: usize) -> bool
     n > 1024
 }
 
-// The first of n entries whose area is outside the curve, or n.
-pub fn first_outside(areas: &[u32], start: u32, step: u32, n: usize) -> usize
-    requires { ⌜ (0 < length (now areas)) × (n ≤ 1024) ⌝ }
-    ensures { λ r. ⌜ first-answer r n ≡ entry-rows (now (areas .entry)) start step 0 n ⌝ }
+// The first entry whose area is outside the curve. The areas increase, so a division finds it.
+pub fn first_outside(areas: &[u32], start: u32, step: u32) -> usize
+    requires { ⌜ (0 < length (now areas)) × (0 < step) ⌝ }
+    ensures { λ r. ⌜ ((n : ℕ) → first-answer r n ≡ entry-rows (now (areas .entry)) start step 0 n) ⌝ }
 {
-    let low = areas[0] as u64;
-    let high = areas[areas.len() - 1] as u64;
-    let mut area = start as u64;
-    let mut i: usize = 0;
-    while i < n {
-        if area < low {
-            break;
+    if lookup::outside(areas, start) {
+        return 0;
+    }
+    ((areas[areas.len() - 1] - start) / step) as usize + 1
+}
+
+// The area of an entry inside the curve.
+fn area_of(start: u32, step: u32, index: usize) -> u32
+    requires { ⌜ entry-area start step index ≤ 20000 ⌝ }
+    ensures { λ r. ⌜ r ≡ entry-area start step index ⌝ }
+{
+    (start as u64 + index as u64 * step as u64) as u32
+}
+
+// Fills the entries from index on that take the segment at k, and gives the index after them.
+fn fill_segment(
+    areas: &[u32],
+    values: &[u32],
+    slopes: &[i32],
+    shape: u32,
+    k: usize,
+    start: u32,
+    step: u32,
+    index: usize,
+    out: &mut [i32],
+) -> usize
+    requires { ⌜ Begun (now areas) (now values) (now slopes) shape k start step index (length (now out)) ⌝ }
+    ensures { λ r. ⌜ Advanced (λ i. reading (now (areas .entry)) (now (values .entry)) (now (slopes .entry)) shape (entry-area start step i)) index r (now (out .entry)) (now (out .exit)) ⌝ }
+{
+    let ends = lookup::ends_at(areas, values, slopes, k);
+    let mut i = index;
+    while i < out.len() {
+        let area = area_of(start, step, i);
+        if !lookup::takes(areas, k, area) {
+            return i;
         }
-        if high < area {
-            break;
-        }
-        area += step as u64;
+        out[i] = lookup::factor(ends, shape, area);
         i += 1;
     }
     i
 }
 
-// The factor at each entry's area. The areas increase, so each search goes on from the segment before.
+// The factor at each entry's area, segment by segment.
 pub fn fill(
     areas: &[u32],
     values: &[u32],
@@ -56,14 +81,10 @@ pub fn fill(
     requires { ⌜ Fillable (now areas) (now values) (now slopes) shape start step (length (now out)) ⌝ }
     ensures { λ _. ⌜ now (out .exit) ≡ tabulate (λ i. reading (now (areas .entry)) (now (values .entry)) (now (slopes .entry)) shape (entry-area start step i)) 0 (length (now (out .entry))) ⌝ }
 {
-    let mut area = start as u64;
     let mut k: usize = 0;
     let mut index: usize = 0;
     while index < out.len() {
-        let x = area as u32;
-        k = lookup::find(areas, k, x);
-        out[index] = lookup::factor_at(areas, values, slopes, shape, k, x);
-        area += step as u64;
-        index += 1;
+        k = lookup::find(areas, k, area_of(start, step, index));
+        index = fill_segment(areas, values, slopes, shape, k, start, step, index, out);
     }
 }

@@ -41,7 +41,8 @@ pub fn read(areas: &[u32], values: &[u32], slopes: &[i32], shape: u32, area: u32
         return Reading::Refused(7, 0);
     }
     let i = lookup::find(areas, 0, area);
-    Reading::Factor(lookup::factor_at(areas, values, slopes, shape, i, area))
+    let ends = lookup::ends_at(areas, values, slopes, i);
+    Reading::Factor(lookup::factor(ends, shape, area))
 }
 
 // What Sheet answers: the number of entries, or a refusal's number and place.
@@ -70,7 +71,7 @@ pub fn sheet(
     if entries::bad_sheet(step, n) {
         return Filled::Refused(8, 0);
     }
-    let place = entries::first_outside(areas, start, step, n);
+    let place = entries::first_outside(areas, start, step);
     if place < n {
         return Filled::Refused(7, place as u32);
     }

@@ -9,6 +9,7 @@ use native.Mathlib.Omega.{arith}
 use lib.ListN.{length, getD, set, take, drop, length-set}
 use lib.Seq.{drop-cons, drop-length, take-at}
 use Rattle.model.specs.Sheet.{tabulate}
+pub use Rattle.model.specs.Facts.{Filling}
 
 module _ {A : Type 0} (f : ℕ → A) where
   pub tabulate-length : (j n : ℕ) → length (tabulate f j n) ≡ n
@@ -35,12 +36,6 @@ module _ {A : Type 0} (f : ℕ → A) where
   pub fill-all : (found : List A) → tabulate f 0 (length found) ++ drop (length found) found ≡ tabulate f 0 (length found)
   fill-all found = ap (λ (xs : List A). tabulate f 0 (length found) ++ xs) (drop-length found) ∙ append-nil (tabulate f 0 (length found))
 
--- f in the first i entries, the others as found
-pub record Filling {A : Type 0} (f : ℕ → A) (i : ℕ) (found filled : List A) : Type 0 where
-  pub size : length filled ≡ length found
-  pub is : filled ≡ tabulate f 0 i ++ drop i found
-
-module _ {A : Type 0} (f : ℕ → A) where
   pub filling-starts : (found : List A) → Filling f 0 found found
   unfolding tabulate
   filling-starts found = record { size = refl; is = refl }
@@ -49,7 +44,7 @@ module _ {A : Type 0} (f : ℕ → A) where
   filling-goes-on {i} {found} {filled} d v k h e =
       record {
         size = length-set filled i v ∙ k .size;
-        is = rw (k .is, e, add-one) (fill-more f i d found h);
+        is = rw (k .is, e, add-one) (fill-more i d found h);
       }
 
   pub filled-up : {i n : ℕ} {found filled : List A} → Filling f i found filled → i ≡ n → filled ≡ tabulate f 0 n ++ drop n found
@@ -57,7 +52,7 @@ module _ {A : Type 0} (f : ℕ → A) where
 
   -- the first n entries of a list that is filled so far
   pub front : (n : ℕ) (found filled : List A) → filled ≡ tabulate f 0 n ++ drop n found → take n filled ≡ tabulate f 0 n
-  front n found filled e = ap (take n) e ∙ take-at (tabulate f 0 n) (drop n found) n (tabulate-length f 0 n)
+  front n found filled e = ap (take n) e ∙ take-at (tabulate f 0 n) (drop n found) n (tabulate-length 0 n)
 
   pub front-length : (n : ℕ) (found filled : List A) → filled ≡ tabulate f 0 n ++ drop n found → n ≡ length (take n filled)
-  front-length n found filled e = sym (ap length (front n found filled e) ∙ tabulate-length f 0 n)
+  front-length n found filled e = sym (ap length (front n found filled e) ∙ tabulate-length 0 n)

@@ -4,7 +4,8 @@ use mathlib.Core.Path.{_≡_, subst}
 use mathlib.Core.Bool.{true, false}
 use mathlib.Core.List.{List}
 use mathlib.Core.Logic.{⊎-elim}
-use Prim.Native.Nat.{ℕ, zero, suc, _+_, _*_, _-_, _≤_, _<_}
+use Prim.Native.Nat.{ℕ, zero, suc, _+_, _*_, _≤_, _<_, zero-le}
+use native.Mathlib.Nat.{zero-add}
 use native.Mathlib.Omega.{arith}
 use borrow.Author.Tests.{lt-ltb, le-ltb}
 use lib.Dec.{leb}
@@ -16,24 +17,21 @@ use Rattle.model.proofs.Accepted.{row-passed, then-rest}
 use Rattle.model.proofs.Walk.{compare-areas}
 
 module _ (areas : List ℕ) (start step : ℕ) where
-  one-more : (i n : ℕ) → i < n → n - i ≡ suc (n - suc i)
-  one-more i n h = omega arith
+  -- row 7 refuses at r, the first entry outside, or not at all
+  module _ (r n : ℕ) (before : (j : ℕ) → j < r → outside areas (start + j * step) ≡ false) (first : r < n → outside areas (start + r * step) ≡ true) where
+    rows-from : (m i : ℕ) → i + m ≡ n → i ≤ r → first-answer r n ≡ entry-rows areas start step i m
+    unfolding entry-rows row _then_
+    rows-from zero i e h = rw (le-ltb r n (omega arith))
+    rows-from (suc m) i e h =
+        ⊎-elim (λ (w : (suc i ≤ r) × (leb (suc i) r ≡ true)). rw (before i (w .0)) (rows-from m (suc i) (omega arith) (w .0)))
+        (λ (w : (r < suc i) × (leb (suc i) r ≡ false)). rw (same (w .0), first (omega arith), lt-ltb r n (omega arith)))
+        (compare-areas (suc i) r)
+      where
+        same : r < suc i → i ≡ r
+        same k = omega arith
 
-  -- the rows from entry i on: i is outside, or they are those from the next on
-  pub rows-stop : (i n : ℕ) → i < n → outside areas (start + i * step) ≡ true → first-answer i n ≡ entry-rows areas start step i (n - i)
-  unfolding entry-rows row _then_
-  rows-stop i n h e = rw (one-more i n h, e, lt-ltb i n h)
-
-  pub rows-step : (i n : ℕ) → i < n → outside areas (start + i * step) ≡ false → entry-rows areas start step i (n - i) ≡ entry-rows areas start step (suc i) (n - suc i)
-  unfolding entry-rows row _then_
-  rows-step i n h e = rw (one-more i n h, e)
-
-  pub rows-end : (i n : ℕ) → n ≤ i → first-answer i n ≡ entry-rows areas start step i (n - i)
-  unfolding entry-rows row
-  rows-end i n h = rw (le-ltb i n h, none i n h)
-    where
-      none : (i n : ℕ) → n ≤ i → n - i ≡ 0
-      none i n h = omega arith
+    pub rows-first : first-answer r n ≡ entry-rows areas start step 0 n
+    rows-first = rows-from n 0 (zero-add n) zero-le
 
   -- rows that refuse nothing
   pub rows-inside : (j n i : ℕ) → entry-rows areas start step j n ≡ gives tt → j ≤ i → i < j + n → outside areas (start + i * step) ≡ false

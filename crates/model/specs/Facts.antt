@@ -3,13 +3,16 @@
 -- Assumes nothing.
 use mathlib.Core.Path.{_≡_}
 use mathlib.Core.Bool.{not}
+use mathlib.Core.List.{List, _++_}
 use Prim.Native.Nat.{ℕ, _+_, _≤_, _<_}
 use lib.Dec.{T, eqb, ltb}
 use lib.IntN.{ℤ, pos, negsuc}
+use lib.ListN.{length, drop}
 use lib.Signed.{_≤ℤ_}
 use Rattle.model.specs.Answer.{Answer, row}
 use Rattle.model.specs.Points.{Point, Segment, Shape}
 use Rattle.model.specs.Shape.{has-shape}
+use Rattle.model.specs.Sheet.{tabulate}
 
 -- a fault's number and place; the number 0 is no fault
 unfoldable pub fault-answer : ℕ → ℕ → Answer (Unit {0})
@@ -47,6 +50,11 @@ pub record Inside (shape : Shape) (s : Segment) (x : ℕ) : Type 0 where
   pub low : s .left .area ≤ x
   pub high : x ≤ s .right .area
 
--- row 7 of n entries, by the first entry outside or n
+-- row 7 of n entries, by the first entry outside
 abbrev pub first-answer : ℕ → ℕ → Answer (Unit {0})
 first-answer index n = row (ltb index n) 7 index
+
+-- f in the first i entries, the others as found
+pub record Filling {A : Type 0} (f : ℕ → A) (i : ℕ) (found filled : List A) : Type 0 where
+  pub size : length filled ≡ length found
+  pub is : filled ≡ tabulate f 0 i ++ drop i found

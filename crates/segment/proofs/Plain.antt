@@ -50,6 +50,10 @@ module _ {shape : Shape} {s : Segment} {x : ℕ} (i : Inside shape s x) where
   span : s .right .area ≡ s .left .area + t + u
   span = let h = i .low in let k = i .high in omega arith
 
+  -- u is h − t
+  pub rest : s .right .area - s .left .area - t ≡ u
+  rest = let h = i .low in let k = i .high in omega arith
+
   pub ends : Ends t u
   ends =
       let h = i .low in

@@ -86,7 +86,7 @@ fn over_tangent(t: u64, h: u64, left: u64, e0: i64, above: u64) -> i64
     exact::floor_div((base as i64) + 2 * (e0 * (t as i64)), (2 * s) as i64)
 }
 
-// The factor at an area of a rising segment.
+// The factor at an area of a rising segment. u is h - t, so that t + u is the same for every area.
 fn rising_factor(x0: u32, y0: u32, d0: i32, x1: u32, y1: u32, d1: i32, area: u32) -> i32
     requires { ⌜ Inside Shape.rising (between (point-of x0 y0 d0) (point-of x1 y1 d1)) area ⌝ }
     ensures { λ r. ⌜ r ≡ round (interpolant Shape.rising (between (point-of x0 y0 d0) (point-of x1 y1 d1)) area) ⌝ }
@@ -95,7 +95,7 @@ fn rising_factor(x0: u32, y0: u32, d0: i32, x1: u32, y1: u32, d1: i32, area: u32
         return y0 as i32;
     }
     let t = (area - x0) as u64;
-    let u = (x1 - area) as u64;
+    let u = (x1 - x0) as u64 - t;
     rising(t, u, y0 as u64, (y1 - y0) as u64, d0 as u64, d1 as u64) as i32
 }
 
@@ -105,7 +105,7 @@ fn convex_factor(x0: u32, y0: u32, d0: i32, x1: u32, y1: u32, d1: i32, area: u32
     ensures { λ r. ⌜ r ≡ round (interpolant Shape.convex (between (point-of x0 y0 d0) (point-of x1 y1 d1)) area) ⌝ }
 {
     let t = (area - x0) as u64;
-    let u = (x1 - area) as u64;
+    let u = (x1 - x0) as u64 - t;
     let e = slopes_of(x0, y0, d0, x1, y1, d1);
     let above = above_tangent(t, u, (e.right - e.chord) as u64, (e.chord - e.left) as u64);
     over_tangent(t, t + u, y0 as u64, e.left, above) as i32

@@ -11,8 +11,10 @@ use Rattle.model.specs.Answer.{row, _then_}
 use Rattle.model.specs.Check.{Accepted}
 use Rattle.model.specs.Read.{outside, read-answer}
 use Rattle.curve.specs.Calls.{reading-answer}
+use Rattle.curve.specs.Steps.{Readable}
 use Rattle.model.proofs.Accepted.{lengths, not-before}
 use Rattle.rows.proofs.Faults.{a-fault, no-fault}
+use Rattle.curve.proofs.Readable.{inner, inside-of, reading-of}
 use Rattle.curve.proofs.read.Statement.{statement}
 use Rattle.curve.proofs.read.Tie as tie
 
@@ -44,20 +46,28 @@ find-requires : tie.Need-find-requires
 find-requires c κs =
     record { inner = omega (arith, lengths (accepted (c .before .before))); low = not-before _ _ (within c) }
 
-factor-at-requires : tie.Need-factor-at-requires
-factor-at-requires c κs =
+ends-at-requires : tie.Need-ends-at-requires
+ends-at-requires c κs = inner (accepted (c .before .before .before)) (c .find .ensures .reached .inner)
+
+-- the area takes the segment found
+readable : (c : tie.After-find) → (let s = start (c .before .before .before) in Readable (s .args .areas .now) (s .args .values .now) (s .args .slopes .now) (s .args .shape) (c .find .result) (s .args .area))
+readable c =
     record { accepted = accepted (c .before .before .before); within = within (c .before); taken = c .find .ensures }
 
-factor-fits : (c : tie.After-factor-at) → SFits w32 (c .factor-at .result)
-factor-fits c = record { sfits = c .factor-at .ok }
+factor-requires : tie.Need-factor-requires
+factor-requires c κs = inside-of (readable (c .before)) (c .ends-at .ensures)
+
+factor-fits : (c : tie.After-factor) → SFits w32 (c .factor .result)
+factor-fits c = record { sfits = c .factor .ok }
 
 returns-3 : tie.Need-returns-3
 unfolding read-answer reading-answer row _then_
 returns-3 c =
-    let b = c .before .before in
-    rw (accepted (b .before .before) .none-applies, within b, toZ-ofZ (factor-fits c), c .factor-at .ensures)
+    let f = c .before .before in
+    let b = f .before in
+    rw (accepted (b .before .before) .none-applies, within b, toZ-ofZ (factor-fits c), c .factor .ensures, reading-of (readable f) (c .before .ends-at .ensures))
 
 pub read-spec : {M : Type 1} → statement M
 read-spec =
     tie.close
-    (tie.spec curve-fault-requires returns outside-requires returns-2 find-requires factor-at-requires returns-3)
+    (tie.spec curve-fault-requires returns outside-requires returns-2 find-requires ends-at-requires factor-requires returns-3)

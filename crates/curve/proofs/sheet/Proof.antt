@@ -2,8 +2,8 @@
 -- Assumes nothing.
 use mathlib.Core.Path.{_≡_, refl, sym, _∙_}
 use mathlib.Core.Bool.{false, _||_}
-use Prim.Native.Nat.{ℕ, zero, suc, _≤_, _<_, zero-le}
-use native.Mathlib.Nat.{zero-add}
+use Prim.Native.Nat.{ℕ, _≤_, _<_, zero-le}
+use native.Mathlib.Nat.{zero-add, pos-of-ne-zero}
 use native.Mathlib.Omega.{arith}
 use borrow.Author.Needs.{needs}
 use borrow.Author.Tests.{lt-ltb, le-ltb, eqb-false, ltb-false}
@@ -55,16 +55,19 @@ module _ (c : tie.Else2) where
   unfolding bad-sheet
   few = ltb-false 1024 entries (or-right (eqb (begin .args .step) 0 || eqb entries 0) (ltb 1024 entries) fine)
 
-  some : 0 < entries
+  -- step and the number of entries are not 0
+  neither : (eqb (begin .args .step) 0 || eqb entries 0) ≡ false
   unfolding bad-sheet
-  some = above (eqb-false entries 0 (or-right (eqb (begin .args .step) 0) (eqb entries 0) (or-left (eqb (begin .args .step) 0 || eqb entries 0) (ltb 1024 entries) fine)))
-    where
-      above : {n : ℕ} → (n ≡ 0 → ⊥) → 0 < n
-      above {n = zero} h = absurd (h refl)
-      above {n = suc n} h = omega arith
+  neither = or-left (eqb (begin .args .step) 0 || eqb entries 0) (ltb 1024 entries) fine
+
+  up : 0 < begin .args .step
+  up = pos-of-ne-zero (eqb-false (begin .args .step) 0 (or-left (eqb (begin .args .step) 0) (eqb entries 0) neither))
+
+  some : 0 < entries
+  some = pos-of-ne-zero (eqb-false entries 0 (or-right (eqb (begin .args .step) 0) (eqb entries 0) neither))
 
 first-outside-requires : tie.Need-first-outside-requires
-first-outside-requires c κs = (omega (arith, lengths (accepted (c .before .before))), few c)
+first-outside-requires c κs = (omega (arith, lengths (accepted (c .before .before))), up c)
 
 cast-t13 : tie.Need-cast-t13
 cast-t13 c = let n = few (c .before .before) in let h = c .if3 .taken in omega arith
@@ -73,12 +76,12 @@ returns-3 : tie.Need-returns-3
 unfolding sheet-answer sheet-list filled-answer row _then_
 returns-3 c =
     let b = c .before .before in
-    (rw (accepted (b .before .before) .none-applies, fine b, sym (c .before .first-outside .ensures), lt-ltb _ _ (c .if3 .taken)), refl)
+    (rw (accepted (b .before .before) .none-applies, fine b, sym (c .before .first-outside .ensures (entries b)), lt-ltb _ _ (c .if3 .taken)), refl)
 
 -- row 7 is passed
 all-inside : (c : tie.Else3) → entry-rows (begin (c .before .before) .args .areas .now) (begin (c .before .before) .args .start) (begin (c .before .before) .args .step) 0 (entries (c .before .before)) ≡ gives tt
 unfolding row
-all-inside c = sym (c .before .first-outside .ensures) ∙ (rw (le-ltb _ _ (c .if3 .left)))
+all-inside c = sym (c .before .first-outside .ensures _) ∙ (rw (le-ltb _ _ (c .if3 .left)))
 
 fill-requires : tie.Need-fill-requires
 fill-requires c κs =

@@ -16,7 +16,7 @@ use Rattle.model.specs.Facts.{point-of, between}
 use Rattle.segment.specs.Steps.{above-tangent}
 use Rattle.segment.proofs.Bits.{natural}
 use Rattle.model.proofs.Segments.{rise, e₀, e₁, g, a, b}
-use Rattle.segment.proofs.Plain.{Convex, convex-inside, e₀-size, e₁-size, g-size, reading-fits}
+use Rattle.segment.proofs.Plain.{Convex, rest, convex-inside, e₀-size, e₁-size, g-size, reading-fits}
 use Rattle.segment.proofs.convex_factor.Statement.{statement}
 use Rattle.segment.proofs.convex_factor.Tie as tie
 
@@ -62,6 +62,9 @@ sub-u c = search needs
 cast-u : tie.Need-cast-u
 cast-u c = search needs
 
+sub-u-2 : tie.Need-sub-u-2
+sub-u-2 c = search needs
+
 slopes-of-requires : tie.Need-slopes-of-requires
 slopes-of-requires c κs = search needs
 
@@ -88,13 +91,13 @@ cast-above-tangent-2 c =
 above-tangent-requires : tie.Need-above-tangent-requires
 above-tangent-requires c κs =
     let sc = c .before .before .before .before in
-    rw (right-is sc, chord-is sc, left-is sc, toZ-ofZ (a-fits (sc .before)), toZ-ofZ (b-fits (sc .before))) (facts (sc .before) .bending)
+    rw (rest (sc .before .pre), right-is sc, chord-is sc, left-is sc, toZ-ofZ (a-fits (sc .before)), toZ-ofZ (b-fits (sc .before))) (facts (sc .before) .bending)
 
 -- what is above the tangent
 above-is : (c : tie.After-above-tangent) → c .above-tangent .result ≡ above-tangent (c .before .before .before .before .before .before .args .area - c .before .before .before .before .before .before .args .x0) (c .before .before .before .before .before .before .args .x1 - c .before .before .before .before .before .before .args .area) (natAbs (a (at (c .before .before .before .before .before .before)))) (natAbs (b (at (c .before .before .before .before .before .before))))
 above-is c =
     let sc = c .before .before .before .before .before in
-    rw (right-is sc, chord-is sc, left-is sc, toZ-ofZ (a-fits (sc .before)), toZ-ofZ (b-fits (sc .before))) at (c .above-tangent .ensures)
+    rw (rest (sc .before .pre), right-is sc, chord-is sc, left-is sc, toZ-ofZ (a-fits (sc .before)), toZ-ofZ (b-fits (sc .before))) at (c .above-tangent .ensures)
 
 add-over-tangent : tie.Need-add-over-tangent
 add-over-tangent c = search needs
@@ -102,14 +105,14 @@ add-over-tangent c = search needs
 over-tangent-requires : tie.Need-over-tangent-requires
 over-tangent-requires c κs =
     let sc = c .before .before .before .before .before .before in
-    rw (left-is sc, above-is (c .before)) (facts (sc .before) .tangent)
+    rw (rest (sc .before .pre), left-is sc, above-is (c .before)) (facts (sc .before) .tangent)
 
 -- the result is the reading
 read : (c : tie.After-over-tangent) → toZ w64 (ofZ w64 (c .over-tangent .result)) ≡ round (interpolant convex (at (c .before .before .before .before .before .before .before .before)) (c .before .before .before .before .before .before .before .before .args .area))
 read c =
     let b = c .before .before in
     let sc = b .before .before .before .before .before in
-    toZ-ofZ (record { sfits = c .over-tangent .ok }) ∙ (rw (left-is sc, above-is b) at (c .over-tangent .ensures)) ∙ sym (facts (sc .before) .reading)
+    toZ-ofZ (record { sfits = c .over-tangent .ok }) ∙ (rw (rest (sc .before .pre), left-is sc, above-is b) at (c .over-tangent .ensures)) ∙ sym (facts (sc .before) .reading)
 
 read-fits : (c : tie.After-over-tangent) → SFits w32 (round (interpolant convex (at (c .before .before .before .before .before .before .before .before)) (c .before .before .before .before .before .before .before .before .args .area)))
 read-fits c = reading-fits (c .before .before .before .before .before .before .before .before .pre)
@@ -123,4 +126,4 @@ returns c = rw (read c, toZ-ofZ (read-fits c))
 pub convex-factor-spec : {M : Type 1} → statement M
 convex-factor-spec =
     tie.close
-    (tie.spec sub-t cast-t sub-u cast-u slopes-of-requires sub-above-tangent cast-above-tangent sub-above-tangent-2 cast-above-tangent-2 above-tangent-requires add-over-tangent over-tangent-requires cast-result returns)
+    (tie.spec sub-t cast-t sub-u cast-u sub-u-2 slopes-of-requires sub-above-tangent cast-above-tangent sub-above-tangent-2 cast-above-tangent-2 above-tangent-requires add-over-tangent over-tangent-requires cast-result returns)

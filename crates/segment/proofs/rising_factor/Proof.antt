@@ -12,7 +12,7 @@ use Rattle.model.specs.Points.{rising}
 use Rattle.model.specs.Interpolant.{interpolant}
 use Rattle.model.specs.Facts.{point-of, between}
 use Rattle.segment.proofs.Bits.{natural}
-use Rattle.segment.proofs.Plain.{Rising, rising-inside, flat-inside, reading-fits}
+use Rattle.segment.proofs.Plain.{Rising, rest, rising-inside, flat-inside, reading-fits}
 use Rattle.segment.proofs.rising_factor.Statement.{statement}
 use Rattle.segment.proofs.rising_factor.Tie as tie
 
@@ -37,6 +37,9 @@ sub-u c = search needs
 cast-u : tie.Need-cast-u
 cast-u c = search needs
 
+sub-u-2 : tie.Need-sub-u-2
+sub-u-2 c = search needs
+
 sub-rising : tie.Need-sub-rising
 sub-rising c = facts c .up
 
@@ -50,11 +53,11 @@ cast-rising-3 : tie.Need-cast-rising-3
 cast-rising-3 c = rw (toZ-ofZ (c .before .fits .d1)) (natural tt (c .before .fits .d1) (facts c .right-slope))
 
 rising-requires : tie.Need-rising-requires
-rising-requires c κs = rw (toZ-ofZ (c .before .fits .d0), toZ-ofZ (c .before .fits .d1)) (facts c .climbing)
+rising-requires c κs = rw (rest (c .before .pre), toZ-ofZ (c .before .fits .d0), toZ-ofZ (c .before .fits .d1)) (facts c .climbing)
 
 -- the result is the reading
 read : (c : tie.After-rising) → pos (c .rising .result) ≡ round (interpolant rising (between (point-of (c .before .before .args .x0) (c .before .before .args .y0) (c .before .before .args .d0)) (point-of (c .before .before .args .x1) (c .before .before .args .y1) (c .before .before .args .d1))) (c .before .before .args .area))
-read c = ap pos (rw (toZ-ofZ (c .before .before .fits .d0), toZ-ofZ (c .before .before .fits .d1)) at (c .rising .ensures)) ∙ sym (facts (c .before) .reading)
+read c = ap pos (rw (rest (c .before .before .pre), toZ-ofZ (c .before .before .fits .d0), toZ-ofZ (c .before .before .fits .d1)) at (c .rising .ensures)) ∙ sym (facts (c .before) .reading)
 
 read-fits : (c : tie.After-rising) → SFits w32 (pos (c .rising .result))
 read-fits c = subst⁻¹ (SFits w32) (read c) (reading-fits (c .before .before .pre))
@@ -68,4 +71,4 @@ returns-2 c = toZ-pos w32 (read-fits c .sfits) ∙ read c
 pub rising-factor-spec : {M : Type 1} → statement M
 rising-factor-spec =
     tie.close
-    (tie.spec cast-result returns sub-t cast-t sub-u cast-u sub-rising cast-rising cast-rising-2 cast-rising-3 rising-requires cast-result-2 returns-2)
+    (tie.spec cast-result returns sub-t cast-t sub-u cast-u sub-u-2 sub-rising cast-rising cast-rising-2 cast-rising-3 rising-requires cast-result-2 returns-2)

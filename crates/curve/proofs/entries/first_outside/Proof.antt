@@ -1,120 +1,93 @@
--- `curve::entries::first_outside` meets its contract. The loop's invariant: all entries before i are inside.
+-- `curve::entries::first_outside` meets its contract: areas of entries increase, so a division gives the first beyond the last point.
 -- Assumes nothing.
-use mathlib.Core.Path.{_≡_, sym, _∙_, ap, subst}
-use mathlib.Core.List.{List, [], _∷_}
-use Rattle.exact.proofs.Ring.{ring-ℕ, counts}
-use Prim.Native.Nat.{ℕ, _+_, _*_, _-_, _≤_, _<_}
-use native.Mathlib.Nat.{mul-le-mul, zero-mul, add-zero}
-use native.Mathlib.Numerals.{add-one}
+use mathlib.Core.Path.{_≡_, sym, _∙_}
+use mathlib.Core.Bool.{true, false}
+use mathlib.Core.List.{List}
+use Prim.Native.Nat.{ℕ, _+_, _*_, _/_, _-_, _≤_, _<_}
+use native.Mathlib.Nat.{zero-mul, add-zero, le-div-iff-mul-le, lt-div-mul-add, div-le-self}
 use native.Mathlib.Omega.{arith}
+use borrow.Author.Needs.{needs}
 use lib.ListN.{length, getD}
-use Rattle.model.specs.Sheet.{entry-rows}
-use Rattle.model.proofs.Accepted.{outside-before, outside-beyond, inside-both}
-use Rattle.model.proofs.SheetRows.{rows-stop, rows-step, rows-end}
+use Rattle.model.specs.Read.{outside}
+use Rattle.model.proofs.Accepted.{outside-beyond, inside-both, not-before, not-beyond}
+use Rattle.model.proofs.SheetRows.{rows-first}
 use Rattle.curve.proofs.entries.first_outside.Statement.{statement}
 use Rattle.curve.proofs.entries.first_outside.Tie as tie
 
-record Entry (areas : List ℕ) (start step n area i : ℕ) : Type 0 where
-  pub most : i ≤ n
-  pub is : area ≡ start + i * step
-  pub later : entry-rows areas start step i (n - i) ≡ entry-rows areas start step 0 n
+-- from the first entry to the last area
+abbrev room : List ℕ → ℕ → ℕ
+room areas start = getD areas (length areas - 1) 0 - start
 
-abbrev Inv-loop : tie.InvT-loop
-Inv-loop areas start step n low high area₀ i₀ area i = Entry areas start step n area i
+module _ (areas : List ℕ) (start step : ℕ) (up : 0 < step) (within : outside areas start ≡ false) where
+  entry-inside : (j : ℕ) → j < room areas start / step + 1 → outside areas (start + j * step) ≡ false
+  entry-inside j h =
+      let low = not-before areas start within in
+      let high = not-beyond areas start within in
+      let fits : j * step ≤ room areas start = le-div-iff-mul-le up .0 (omega arith) in
+      inside-both areas (start + j * step) (omega arith) (omega arith)
 
-abbrev μ-loop : tie.MeasureT-loop
-μ-loop areas start step n low high area₀ i₀ area i = n - i
+  next-outside : outside areas (start + (room areas start / step + 1) * step) ≡ true
+  next-outside =
+      let past = lt-div-mul-add {a = room areas start} up in
+      outside-beyond areas (start + (room areas start / step + 1) * step) (omega arith)
 
-first : (start step : ℕ) → start ≡ start + 0 * step
-first start step = rw zero-mul (sym (add-zero start))
+outside-requires : tie.Need-outside-requires
+outside-requires c κs = search needs
 
-whole : (n : ℕ) → n - 0 ≡ n
-whole n = omega arith
+returns : tie.Need-returns
+returns c n =
+    let s = c .before .before .before in
+    let first : outside (s .args .areas .now) (s .args .start + 0 * s .args .step) ≡ true = (rw (zero-mul, add-zero) (sym (c .before .outside .ensures) ∙ c .if1 .taken)) in
+    rows-first _ _ _ 0 n (λ j h. absurd (omega arith)) (λ h. first)
 
-shared-slice-read-low : tie.Need-shared-slice-read-low Inv-loop μ-loop
-shared-slice-read-low c = c .before .pre .0
+-- the first entry is inside
+begins : (c : tie.Else1) → outside (c .before .before .before .args .areas .now) (c .before .before .before .args .start) ≡ false
+begins c = sym (c .before .outside .ensures) ∙ c .if1 .left
 
-cast-low : tie.Need-cast-low Inv-loop μ-loop
-cast-low c = omega (arith, c .shared-slice-known .given 0)
+sub-result : tie.Need-sub-result
+sub-result c = search needs
 
-sub-high : tie.Need-sub-high Inv-loop μ-loop
-sub-high c = omega (arith, c .before .pre .0)
+mul-result : tie.Need-mul-result
+mul-result c = search needs
 
-mul-high : tie.Need-mul-high Inv-loop μ-loop
-mul-high c = omega (arith, c .before .good)
+shared-slice-read-result : tie.Need-shared-slice-read-result
+shared-slice-read-result c = search needs
 
-shared-slice-read-high : tie.Need-shared-slice-read-high Inv-loop μ-loop
-shared-slice-read-high c = omega (arith, c .before .before .pre .0)
+sub-result-2 : tie.Need-sub-result-2
+sub-result-2 c = not-beyond _ _ (begins (c .before))
 
-cast-high : tie.Need-cast-high Inv-loop μ-loop
-cast-high c = omega (arith, c .shared-slice-known2 .given (length (c .before .before .args .areas .now) - 1))
+div-result : tie.Need-div-result
+div-result c = search needs
 
-loop-holds : tie.Need-loop-holds Inv-loop μ-loop
-loop-holds c = record { most = omega arith; is = first (c .before .before .args .start) (c .before .before .args .step); later = ap (entry-rows _ _ _ 0) (whole (c .before .before .args .n)) }
-
-add-area : tie.Need-add-area Inv-loop μ-loop
-add-area c =
-    let s = c .before .before .before .before .before .before in
-    let k = c .before .before .before .loop .inv in
-    let e = k .is in
-    let f = s .fits .start .fits in
-    let g = s .fits .step .fits in
-    let m = k .most in
-    let p = s .pre .1 in
-    omega (arith, mul-le-mul {n₁ = c .before .before .before .loop .i} {m₁ = s .args .step} {n₂ = 1024} {m₂ = 4294967296} (omega arith) (omega arith))
-
-add-i : tie.Need-add-i Inv-loop μ-loop
-add-i c = omega (arith, c .before .before .before .before .before .before .pre .1)
-
-loop-less : tie.Need-loop-less Inv-loop μ-loop
-loop-less c = omega arith
-
-loop-again : tie.Need-loop-again Inv-loop μ-loop
-loop-again c =
-    let s = c .before .before .before .before .before .before in
-    let k = c .before .before .before .loop .inv in
-    let i = c .before .before .before .loop .i in
-    let h : i < s .args .n = c .before .before .loop-test .taken in
-    record {
-      most = omega arith;
-      is = ap (λ (x : ℕ). x + s .args .step) (k .is) ∙ ring-ℕ (s .args .start ∷ i ∷ s .args .step ∷ []) (search counts depth 20 fits 9999) tt;
-      later = rw add-one (sym (rows-step (s .args .areas .now) (s .args .start) (s .args .step) i (s .args .n) h (inside-both (s .args .areas .now) (s .args .start + i * s .args .step) (subst (λ (x : ℕ). getD (s .args .areas .now) 0 0 ≤ x) (k .is) (c .before .if1 .left)) (subst (λ (x : ℕ). x ≤ getD (s .args .areas .now) (length (s .args .areas .now) - 1) 0) (k .is) (c .if2 .left)))) ∙ k .later);
-    }
-
-returns : tie.Need-returns Inv-loop μ-loop
-returns c =
+steps-few : (c : tie.After-shared-slice-known2) → room (c .before .before .before .before .args .areas .now) (c .before .before .before .before .args .start) / c .before .before .before .before .args .step < 4294967296
+steps-few c =
     let s = c .before .before .before .before in
-    rows-end (s .args .areas .now) (s .args .start) (s .args .step) (c .before .loop .i) (s .args .n) (c .loop-test .left) ∙ c .before .loop .inv .later
+    let n = length (s .args .areas .now) in
+    omega (arith, div-le-self (room (s .args .areas .now) (s .args .start)) (s .args .step), c .shared-slice-known2 .given (n - 1))
 
-returns-2 : tie.Need-returns-2 Inv-loop μ-loop
-returns-2 c =
-    let s = c .before .before .before .before .before in
-    let k = c .before .before .loop .inv in
-    rows-stop (s .args .areas .now) (s .args .start) (s .args .step) (c .before .before .loop .i) (s .args .n) (c .before .loop-test .taken) (outside-before (s .args .areas .now) _ (subst (λ (x : ℕ). x < getD (s .args .areas .now) 0 0) (k .is) (c .if1 .taken))) ∙ k .later
+cast-result : tie.Need-cast-result
+cast-result c = let n = steps-few c in omega arith
 
-returns-3 : tie.Need-returns-3 Inv-loop μ-loop
-returns-3 c =
-    let s = c .before .before .before .before .before .before in
-    let k = c .before .before .before .loop .inv in
-    rows-stop (s .args .areas .now) (s .args .start) (s .args .step) (c .before .before .before .loop .i) (s .args .n) (c .before .before .loop-test .taken) (outside-beyond (s .args .areas .now) _ (subst (λ (x : ℕ). getD (s .args .areas .now) (length (s .args .areas .now) - 1) 0 < x) (k .is) (c .if2 .taken))) ∙ k .later
+add-result : tie.Need-add-result
+add-result c = let n = steps-few c in omega arith
+
+returns-2 : tie.Need-returns-2
+returns-2 c n =
+    let s = c .before .before .before .before in
+    let up = s .pre .1 in
+    rows-first _ _ _ _ n (entry-inside _ _ _ up (begins (c .before))) (λ h. next-outside _ _ _ up (begins (c .before)))
 
 pub first-outside-spec : {M : Type 1} → statement M
 first-outside-spec =
     tie.close
     (tie.spec
-    Inv-loop
-    μ-loop
-    shared-slice-read-low
-    cast-low
-    sub-high
-    mul-high
-    shared-slice-read-high
-    cast-high
-    loop-holds
-    add-area
-    add-i
-    loop-less
-    loop-again
+    outside-requires
     returns
-    returns-2
-    returns-3)
+    sub-result
+    mul-result
+    shared-slice-read-result
+    sub-result-2
+    div-result
+    cast-result
+    add-result
+    returns-2)

@@ -1,9 +1,9 @@
 -- `curve::lookup::find` meets its contract. The loop's invariant: the area at i is not above the area read, and i has a right neighbour.
 -- Assumes nothing.
-use mathlib.Core.Logic.{inl, inr}
-use Prim.Native.Nat.{_-_}
+use Prim.Native.Nat.{suc, _-_}
 use native.Mathlib.Numerals.{add-one}
 use native.Mathlib.Omega.{arith}
+use borrow.Author.Tests.{not-true, not-false}
 use lib.ListN.{length}
 use Rattle.curve.specs.Steps.{Reached}
 use Rattle.curve.proofs.lookup.find.Statement.{statement}
@@ -16,38 +16,28 @@ abbrev μ-loop : tie.MeasureT-loop
 μ-loop areas from area i₀ i = length areas - i
 
 loop-holds : tie.Need-loop-holds Inv-loop μ-loop
-loop-holds c = c .pre
+loop-holds c = c .before .pre
 
-add-loop : tie.Need-add-loop Inv-loop μ-loop
-add-loop c = omega (arith, c .loop .inv .inner, c .before .good)
+takes-requires : tie.Need-takes-requires Inv-loop μ-loop
+takes-requires c κs = c .loop .inv
 
-add-if1 : tie.Need-add-if1 Inv-loop μ-loop
-add-if1 c = omega arith
-
-mul-if1 : tie.Need-mul-if1 Inv-loop μ-loop
-mul-if1 c = omega (arith, c .before .before .good)
-
-shared-slice-read-if1 : tie.Need-shared-slice-read-if1 Inv-loop μ-loop
-shared-slice-read-if1 c = omega arith
-
-returns : tie.Need-returns Inv-loop μ-loop
-returns c = record { reached = c .before .before .before .loop .inv; high = inl (rw add-one at (c .if1 .taken)) }
+-- the next segment is reached
+next : (c : tie.Then1 Inv-loop μ-loop) → Reached (c .before .before .before .before .args .areas .now) (suc (c .before .before .loop .i)) (c .before .before .before .before .args .area)
+next c = c .before .takes .ensures .no (not-true _ (c .if1 .taken))
 
 add-i : tie.Need-add-i Inv-loop μ-loop
-add-i c = omega arith
+add-i c = let n = next c .inner in omega (arith, c .before .before .before .before .good)
 
 loop-less : tie.Need-loop-less Inv-loop μ-loop
-loop-less c = omega arith
+loop-less c = let n = next c .inner in omega arith
 
 loop-again : tie.Need-loop-again Inv-loop μ-loop
-loop-again c = record { inner = omega arith; low = c .if1 .left }
+loop-again c = rw add-one (next c)
 
-returns-2 : tie.Need-returns-2 Inv-loop μ-loop
-returns-2 c =
-    let k = c .before .loop .inv in
-    record { reached = k; high = inr (let n = k .inner in omega arith) }
+returns : tie.Need-returns Inv-loop μ-loop
+returns c = c .before .takes .ensures .yes (not-false _ (c .if1 .left))
 
 pub find-spec : {M : Type 1} → statement M
 find-spec =
     tie.close
-    (tie.spec Inv-loop μ-loop loop-holds add-loop add-if1 mul-if1 shared-slice-read-if1 returns add-i loop-less loop-again returns-2)
+    (tie.spec Inv-loop μ-loop loop-holds takes-requires add-i loop-less loop-again returns)
