@@ -12,7 +12,8 @@ ghost use Rattle.curve.specs.Steps.{Taken, Readable};
 ghost use Rattle.layout.specs.Layout.{area-at, areas-of, values-of, slopes-of};
 ghost use Rattle.layout.specs.Steps.{Holds};
 ghost use Rattle.records.specs.Steps.{Several, NoFault};
-use layout::{area_of, record_at};
+use layout::area_of;
+use layout::record_at;
 use rows::Fault;
 
 // Rows 3, 4 and 5: the first bad point of n.
