@@ -1,6 +1,6 @@
 -- `curve::check` meets its contract: a fault of the curve, or the number of its segments.
 -- Assumes nothing.
-use mathlib.Core.Path.{sym, _∙_}
+use mathlib.Core.Path.{refl, sym, _∙_}
 use native.Mathlib.Omega.{arith}
 use borrow.Author.Needs.{needs}
 use Rattle.model.specs.Answer.{_then_}
@@ -33,7 +33,7 @@ cast-t9 c = omega (arith, lengths (accepted c))
 
 returns-2 : tie.Need-returns-2
 unfolding checked checked-answer _then_
-returns-2 c = rw (accepted c .none-applies)
+returns-2 c = rw (accepted c .none-applies) refl
 
 pub check-spec : {M : Type 1} → statement M
 check-spec = tie.close (tie.spec curve-fault-requires returns sub-t8 cast-t9 returns-2)

@@ -11,7 +11,7 @@ returns c = rw (lt-ltb _ _ (c .if1 .taken))
 
 returns-2 : tie.Need-returns-2
 unfolding short-list
-returns-2 c = rw (le-ltb _ _ (c .before .if1 .left), lt-ltb _ _ (c .if2 .taken))
+returns-2 c = rw (le-ltb _ _ (c .before .if1 .left), lt-ltb (c .before .before .args .values) _ (c .if2 .taken))
 
 returns-3 : tie.Need-returns-3
 unfolding short-list

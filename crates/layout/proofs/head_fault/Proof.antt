@@ -2,6 +2,7 @@
 -- Assumes nothing.
 use mathlib.Core.Path.{_≡_, sym, _∙_}
 use mathlib.Core.Bool.{false}
+use Prim.Native.Nat.{_+_, _*_}
 use native.Mathlib.Omega.{arith}
 use borrow.Author.Needs.{needs}
 use borrow.Author.Tests.{eq-eqb, ne-eqb}
@@ -36,11 +37,11 @@ add-if2 c = omega (arith, c .shared-slice-known2 .given 6)
 
 returns-2 : tie.Need-returns-2
 unfolding head-rows bad-size fault-answer row _then_
-returns-2 c = rw (passed (c .before .before), ne-eqb _ _ (c .if2 .taken))
+returns-2 c = rw (passed (c .before .before), ne-eqb _ (7 + 12 * _) (c .if2 .taken))
 
 returns-3 : tie.Need-returns-3
 unfolding head-rows bad-size fault-answer row _then_
-returns-3 c = rw (passed (c .before .before), eq-eqb _ _ (c .if2 .left))
+returns-3 c = rw (passed (c .before .before), eq-eqb _ (7 + 12 * _) (c .if2 .left))
 
 pub head-fault-spec : {M : Type 1} → statement M
 head-fault-spec =

@@ -1,7 +1,9 @@
 -- `rows::point_fault` meets its contract: the first row that applies decides.
 -- Assumes nothing.
 use mathlib.Core.Path.{_≡_, sym, _∙_}
-use mathlib.Core.Bool.{false}
+use mathlib.Core.Bool.{true, false}
+use lib.IntN.{pos}
+use lib.Signed.{ltZ}
 use mir.Facts.{toZ-ofZ}
 use borrow.Author.Needs.{needs}
 use borrow.Author.Tests.{lt-ltb, le-ltb}
@@ -25,7 +27,7 @@ returns c i = rw (sym (c .before .bad-area .ensures) ∙ c .if1 .taken)
 
 returns-2 : tie.Need-returns-2
 unfolding fault-answer point-rows row _then_ bad-value
-returns-2 c i = rw (area-passed (c .before), lt-ltb _ _ (c .if2 .taken))
+returns-2 c i = rw (area-passed (c .before), lt-ltb 200000 _ (c .if2 .taken))
 
 returns-3 : tie.Need-returns-3
 unfolding fault-answer point-rows row _then_ bad-value bad-slope
@@ -38,7 +40,8 @@ unfolding fault-answer point-rows row _then_ bad-value bad-slope
 returns-4 c i =
     let b = c .before .before in
     let f = toZ-ofZ (b .before .before .before .fits .slope) in
-    rw (area-passed (b .before), le-ltb _ _ (b .if2 .left), rw f at (c .before .if3 .left), rw f at (c .if4 .taken))
+    let steep : ltZ (pos 10000) (b .before .before .before .args .slope) ≡ true = rw f at (c .if4 .taken) in
+    rw (area-passed (b .before), le-ltb _ _ (b .if2 .left), rw f at (c .before .if3 .left), steep)
 
 returns-5 : tie.Need-returns-5
 unfolding fault-answer point-rows row _then_ bad-value bad-slope

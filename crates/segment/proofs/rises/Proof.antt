@@ -31,7 +31,8 @@ returns : tie.Need-returns
 unfolding rises-by
 returns c =
     let s = c .before .before in
-    rw (climbs (c .before), le-is (pos 0) (s .args .d0), rw (toZ-ofZ (s .fits .d0)) at (c .if2 .taken))
+    let falls : ltZ (s .args .d0) (pos 0) ≡ true = rw (toZ-ofZ (s .fits .d0)) at (c .if2 .taken) in
+    rw (climbs (c .before), le-is (pos 0) (s .args .d0), falls)
 
 returns-2 : tie.Need-returns-2
 unfolding rises-by

@@ -1,5 +1,6 @@
 -- `curve::entries::bad_sheet` meets its contract.
 -- Assumes nothing.
+use mathlib.Core.Path.{refl}
 use borrow.Author.Tests.{eq-eqb, ne-eqb}
 use Rattle.model.specs.Sheet.{bad-sheet}
 use Rattle.curve.proofs.entries.bad_sheet.Statement.{statement}
@@ -15,7 +16,7 @@ returns-2 c = rw (ne-eqb _ 0 (c .before .if1 .left), eq-eqb _ 0 (c .if2 .taken))
 
 returns-3 : tie.Need-returns-3
 unfolding bad-sheet
-returns-3 c = rw (ne-eqb _ 0 (c .before .if1 .left), ne-eqb _ 0 (c .if2 .left))
+returns-3 c = rw (ne-eqb _ 0 (c .before .if1 .left), ne-eqb _ 0 (c .if2 .left)) refl
 
 pub bad-sheet-spec : {M : Type 1} → statement M
 bad-sheet-spec = tie.close (tie.spec returns returns-2 returns-3)

@@ -1,5 +1,6 @@
 -- `curve::lookup::outside` meets its contract.
 -- Assumes nothing.
+use mathlib.Core.Path.{refl}
 use borrow.Author.Tests.{lt-ltb, le-ltb}
 use Rattle.model.specs.Read.{outside}
 use borrow.Author.Needs.{needs}
@@ -11,7 +12,7 @@ shared-slice-read-if1 c = search needs
 
 returns : tie.Need-returns
 unfolding outside
-returns c = rw (lt-ltb _ _ (c .if1 .taken))
+returns c = rw (lt-ltb (c .before .before .args .area) _ (c .if1 .taken))
 
 sub-result : tie.Need-sub-result
 sub-result c = search needs
@@ -24,7 +25,7 @@ shared-slice-read-result c = search needs
 
 returns-2 : tie.Need-returns-2
 unfolding outside
-returns-2 c = rw (le-ltb _ _ (c .before .if1 .left))
+returns-2 c = rw (le-ltb _ _ (c .before .if1 .left)) refl
 
 pub outside-spec : {M : Type 1} → statement M
 outside-spec =
