@@ -1,9 +1,9 @@
 -- `segment::rises` meets its contract. A signed local holds bits, which are read back where it is tested.
 -- Assumes nothing.
-use mathlib.Core.Path.{_≡_, sym, _∙_, ap}
+use mathlib.Core.Path.{_≡_, sym, _∙_, ap, subst}
 use mathlib.Core.Bool.{true, false}
 use borrow.Author.Tests.{eq-eqb, ne-eqb}
-use lib.IntN.{pos}
+use lib.IntN.{ℤ, pos}
 use lib.Signed.{leZ, ltZ}
 use lib.Dec.{eqb}
 use mir.Syntax.{w32, w64}
@@ -31,7 +31,7 @@ returns : tie.Need-returns
 unfolding rises-by
 returns c =
     let s = c .before .before in
-    let falls : ltZ (s .args .d0) (pos 0) ≡ true = rw (toZ-ofZ (s .fits .d0)) at (c .if2 .taken) in
+    let falls = subst (λ (z : ℤ). ltZ z (pos 0) ≡ true) (toZ-ofZ (s .fits .d0)) (c .if2 .taken) in
     rw (climbs (c .before), le-is (pos 0) (s .args .d0), falls)
 
 returns-2 : tie.Need-returns-2
