@@ -1,7 +1,7 @@
 -- `desk::desk_reading` meets its contract: rows 9 and 10, row 11, rows 1 to 7 of the points, or the factor and the records copied; a
 -- refusal leaves the scratch as it was.
 -- Assumes nothing.
-use mathlib.Core.Path.{_≡_, sym, _∙_, ap, subst}
+use mathlib.Core.Path.{_≡_, refl, sym, _∙_, ap, subst}
 use mathlib.Core.List.{List}
 use Prim.Native.Nat.{ℕ, _+_, _*_}
 use native.Mathlib.Omega.{arith}
@@ -67,8 +67,8 @@ returns-2 : tie.Need-returns-2
 unfolding desk-answer desk-number desk-scratch row _then_
 returns-2 c =
     let e = c .before .before .before in
-    let short = lt-ltb _ _ (c .before .if2 .taken) in
-    (rw (toZ-ofZ (record { sfits = c .refusal2 .ok }), c .refusal2 .ensures, passed e, short), rw (passed e, short))
+    let short = lt-ltb _ (12 * _) (c .before .if2 .taken) in
+    (rw (toZ-ofZ (record { sfits = c .refusal2 .ok }), c .refusal2 .ensures, passed e, short) refl, rw (passed e, short) refl)
 
 -- row 11 is passed
 module _ (c : tie.Else2) where

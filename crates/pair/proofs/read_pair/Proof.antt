@@ -1,6 +1,6 @@
 -- `pair::read_pair` meets its contract, by what Read promises at the two areas.
 -- Assumes nothing.
-use mathlib.Core.Path.{sym, _∙_, ap, subst}
+use mathlib.Core.Path.{refl, sym, _∙_, ap, subst}
 use mathlib.Core.List.{List}
 use Prim.Native.Nat.{ℕ, _≤_}
 use native.Mathlib.Omega.{arith}
@@ -90,7 +90,7 @@ returns-2 c =
     let s = c .before .before .before .before .before .before .before .before .before .before in
     let k = at-form (c .before .before .before .before) in
     let b = beyond (s .args .areas .now) (s .args .values .now) (s .args .slopes .now) (s .args .shape) (s .args .plan) (k .accepted) (sym (c .before .before .before .read2 .ensures) ∙ ap reading-answer (c .before .at-plan .given .1)) in
-    rw (k .accepted .none-applies, k .within, b .1, b .0)
+    rw (k .accepted .none-applies, k .within, b .1, b .0) refl
 
 returns-3 : tie.Need-returns-3
 unfolding pair-answer pair-read factors row _then_
@@ -101,7 +101,7 @@ returns-3 c =
     let p = size m in
     let x = c .before .before .before .before .before .at-form2 .given .0 .0 in
     let y = c .before .at-plan2 .given .0 .0 in
-    rw (k .accepted .none-applies, k .within, m .within, k .factor, m .factor, toZ-ofZ {w = w32} {z = x} (fits f), toZ-ofZ {w = w32} {z = y} (fits p), toZ-ofZ {w = w32} {z = y -ℤ x} (apart x y f p))
+    rw (k .accepted .none-applies, k .within, m .within, k .factor, m .factor, toZ-ofZ {w = w32} {z = x} (fits f), toZ-ofZ {w = w32} {z = y} (fits p), toZ-ofZ {w = w32} {z = y -ℤ x} (apart x y f p)) refl
 
 pub read-pair-spec : {M : Type 1} → statement M
 read-pair-spec =
