@@ -4,6 +4,7 @@
     examples.py --calls     the calls behind them, one JSON object a line:
                             call, curve, areas, values, slopes, shape, the
                             further arguments, and the line
+    examples.py --stdin     the cases that crates/examples reads, as bytes
 
 A line is `CURVE CALL ARGUMENTS: ANSWER`:
 
@@ -15,9 +16,28 @@ A line is `CURVE CALL ARGUMENTS: ANSWER`:
 and every answer may be `refused NUMBER at PLACE`. A sheet's list has N
 entries, each 7 before the call; first, last and sum are of the entries after
 it, also after a refusal. Without entries all three are 0.
+
+The cases are numbers of 4 bytes, the lowest first, a slope in two's
+complement: how many cases there are, then each case. The program takes at
+most 16,384 bytes in all, 65 points in a case and 1,025 entries in a list.
+
+     0  how many bytes the case has
+     4  the call: 1 check, 2 read, 3 pair, 4 sheet
+     8  the shape
+    12  the first argument after the shape, 0 without one
+    16  the second, 0 without one
+    20  how many entries a sheet's list has, 0 in the other calls
+    24  how many areas there are
+    28  how many values
+    32  how many slopes
+    36  where the points start in the case
+    40  what the line has before the answer, as text
+        the points: area, value and slope of each, 0 where a list is shorter
 """
 
+import itertools
 import json
+import struct
 import sys
 
 import exact_fractions as ref
@@ -136,6 +156,7 @@ CALLS = [
     ('K1', 'sheet', 550, 1, 0),
 ]
 
+NUMBERS = {'check': 1, 'read': 2, 'pair': 3, 'sheet': 4}
 FUNCTIONS = {'check': ref.check, 'read': ref.read, 'pair': ref.pair,
              'sheet': ref.sheet}
 
@@ -154,18 +175,43 @@ def list_text(answer, count):
     return 'first %d last %d sum %d' % (first, last, sum(after))
 
 
+def label(name, call, *words):
+    """What the line has before the answer."""
+    if call == 'sheet':
+        said = ' %d %d over %d' % words
+    else:
+        said = ''.join(' %d' % word for word in words)
+    return '%s %s%s: ' % (name, call, said)
+
+
 def line(name, call, *words):
     answer = FUNCTIONS[call](*CURVES[name], *words)
     text = answer_text(answer)
     if call == 'sheet':
-        said = ' %d %d over %d' % words
         text += ', ' + list_text(answer, words[2])
-    else:
-        said = ''.join(' %d' % word for word in words)
-    return '%s %s%s: %s' % (name, call, said, text)
+    return label(name, call, *words) + text
+
+
+def case(name, call, *words):
+    """The case's bytes."""
+    areas, values, slopes, shape = CURVES[name]
+    text = label(name, call, *words).encode()
+    points = b''.join(
+        struct.pack('<IIi', *point) for point in
+        itertools.zip_longest(areas, values, slopes, fillvalue=0))
+    arguments = words + (0,) * (3 - len(words))
+    start = 40 + len(text)
+    return struct.pack('<10I', start + len(points), NUMBERS[call], shape,
+                       *arguments, len(areas), len(values), len(slopes),
+                       start) + text + points
 
 
 def main():
+    if sys.argv[1:] == ['--stdin']:
+        sys.stdout.buffer.write(struct.pack('<I', len(CALLS)))
+        for call in CALLS:
+            sys.stdout.buffer.write(case(*call))
+        return
     for name, call, *words in CALLS:
         text = line(name, call, *words)
         if sys.argv[1:] == ['--calls']:

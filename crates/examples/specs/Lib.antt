@@ -1,2 +1,0 @@
--- What functions of `examples` ask.
-pub mod Lists
