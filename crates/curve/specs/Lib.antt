@@ -1,3 +1,2 @@
 -- The answers of the calls.
 pub mod Calls
-pub mod Steps

@@ -5,9 +5,6 @@ ghost use Rattle.model.specs.Read.{read-answer};
 ghost use Rattle.model.specs.Sheet.{sheet-answer, sheet-list};
 ghost use Rattle.curve.specs.Calls.{checked-answer, reading-answer, filled-answer};
 
-mod entries;
-mod lookup;
-
 // What Check answers: the number of segments, or a refusal's number and place.
 pub enum Checked {
     Segments(u32),
@@ -68,13 +65,13 @@ pub fn sheet(
         return Filled::Refused(fault.number, fault.place);
     }
     let n = out.len();
-    if entries::bad_sheet(step, n) {
+    if lookup::entries::bad_sheet(step, n) {
         return Filled::Refused(8, 0);
     }
-    let place = entries::first_outside(areas, start, step);
+    let place = lookup::entries::first_outside(areas, start, step);
     if place < n {
         return Filled::Refused(7, place as u32);
     }
-    entries::fill(areas, values, slopes, shape, start, step, out);
+    lookup::entries::fill(areas, values, slopes, shape, start, step, out);
     Filled::Entries(n as u32)
 }

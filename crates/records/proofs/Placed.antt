@@ -22,11 +22,11 @@ use Rattle.model.specs.Read.{outside, reading}
 use Rattle.model.specs.Sheet.{tabulate}
 use Rattle.model.specs.Facts.{fault-answer}
 use Rattle.model.specs.Facts.{Lengths, point-of, between, Inside}
-use Rattle.curve.specs.Steps.{Taken, Readable}
+use Rattle.lookup.specs.Steps.{Taken, Readable}
 use Rattle.model.proofs.Accepted.{lengths, not-before, outside-before}
 use Rattle.rows.proofs.Faults.{points-from, point-turn, segments-from, segment-turn}
 use Rattle.model.proofs.Indexed.{point}
-use Rattle.curve.proofs.Readable.{inside, reading-is}
+use Rattle.lookup.proofs.Readable.{inside, reading-is}
 use Rattle.model.proofs.Filling.{tabulate-length}
 use Rattle.layout.specs.Layout.{area-at, value-at, slope-at, areas-of, values-of, slopes-of}
 use Rattle.records.specs.Steps.{Several}

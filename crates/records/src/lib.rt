@@ -8,7 +8,7 @@ ghost use Rattle.model.specs.Points.{points, segments, shape-of};
 ghost use Rattle.model.specs.Check.{point-rows, segment-rows, curve-rows};
 ghost use Rattle.model.specs.Read.{reading, outside as lies-outside};
 ghost use Rattle.model.specs.Facts.{fault-answer};
-ghost use Rattle.curve.specs.Steps.{Taken, Readable};
+ghost use Rattle.lookup.specs.Steps.{Taken, Readable};
 ghost use Rattle.layout.specs.Layout.{area-at, areas-of, values-of, slopes-of};
 ghost use Rattle.layout.specs.Steps.{Holds};
 ghost use Rattle.records.specs.Steps.{Several, NoFault};

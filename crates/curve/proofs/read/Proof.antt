@@ -11,10 +11,10 @@ use Rattle.model.specs.Answer.{row, _then_}
 use Rattle.model.specs.Check.{Accepted}
 use Rattle.model.specs.Read.{outside, read-answer}
 use Rattle.curve.specs.Calls.{reading-answer}
-use Rattle.curve.specs.Steps.{Readable}
+use Rattle.lookup.specs.Steps.{Readable}
 use Rattle.model.proofs.Accepted.{lengths, not-before}
 use Rattle.rows.proofs.Faults.{a-fault, no-fault}
-use Rattle.curve.proofs.Readable.{inner, inside-of, reading-of}
+use Rattle.lookup.proofs.Readable.{inner, inside-of, reading-of}
 use Rattle.curve.proofs.read.Statement.{statement}
 use Rattle.curve.proofs.read.Tie as tie
 

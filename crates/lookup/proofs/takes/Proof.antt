@@ -1,4 +1,4 @@
--- `curve::lookup::takes` meets its contract.
+-- `lookup::takes` meets its contract.
 -- Assumes nothing.
 use mathlib.Core.Path.{_≡_}
 use mathlib.Core.Logic.{inl, inr}
@@ -7,8 +7,8 @@ use native.Mathlib.Numerals.{add-one}
 use native.Mathlib.Omega.{arith}
 use borrow.Author.Needs.{needs}
 use borrow.Author.Tests.{ltb-true, ltb-false}
-use Rattle.curve.proofs.lookup.takes.Statement.{statement}
-use Rattle.curve.proofs.lookup.takes.Tie as tie
+use Rattle.lookup.proofs.takes.Statement.{statement}
+use Rattle.lookup.proofs.takes.Tie as tie
 
 add-if1 : tie.Need-add-if1
 add-if1 c = search needs

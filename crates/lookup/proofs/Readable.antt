@@ -19,7 +19,7 @@ use Rattle.model.specs.Interpolant.{interpolant}
 use Rattle.model.specs.Read.{reading}
 use Rattle.model.specs.Sheet.{entry-area}
 use Rattle.model.specs.Facts.{Inside}
-use Rattle.curve.specs.Steps.{Reached, Taken, Inner, Readable}
+use Rattle.lookup.specs.Steps.{Reached, Taken, Inner, Readable}
 use Rattle.model.proofs.Indexed.{segment}
 use Rattle.model.proofs.Accepted.{view, lengths, value-is, not-beyond}
 

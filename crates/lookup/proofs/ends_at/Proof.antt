@@ -1,11 +1,11 @@
--- `curve::lookup::ends_at` meets its contract.
+-- `lookup::ends_at` meets its contract.
 -- Assumes nothing.
 use Prim.Native.Nat.{_+_}
 use native.Mathlib.Numerals.{add-one}
 use borrow.Author.Needs.{needs}
 use Rattle.segment.proofs.Bits.{element-is}
-use Rattle.curve.proofs.lookup.ends_at.Statement.{statement}
-use Rattle.curve.proofs.lookup.ends_at.Tie as tie
+use Rattle.lookup.proofs.ends_at.Statement.{statement}
+use Rattle.lookup.proofs.ends_at.Tie as tie
 
 add-j : tie.Need-add-j
 add-j c = search needs

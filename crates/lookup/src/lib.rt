@@ -1,4 +1,4 @@
-// The segment that an area takes.
+// The segment that an area takes, and its factor.
 ghost use mathlib.Core.Path.{_≡_};
 ghost use Prim.Native.Nat.{_<_};
 ghost use lib.ListN.{length};
@@ -7,7 +7,9 @@ ghost use Rattle.model.specs.Points.{shape-of};
 ghost use Rattle.model.specs.Interpolant.{interpolant};
 ghost use Rattle.model.specs.Read.{outside as lies-outside};
 ghost use Rattle.model.specs.Facts.{point-of, between, Inside};
-ghost use Rattle.curve.specs.Steps.{Reached, Taken, Told, Inner, segment-at};
+ghost use Rattle.lookup.specs.Steps.{Reached, Taken, Told, Inner, segment-at};
+
+pub mod entries;
 
 // Row 7.
 pub fn outside(areas: &[u32], area: u32) -> bool

@@ -1,13 +1,13 @@
--- `curve::lookup::find` meets its contract. The loop's invariant: the area at i is not above the area read, and i has a right neighbour.
+-- `lookup::find` meets its contract. The loop's invariant: the area at i is not above the area read, and i has a right neighbour.
 -- Assumes nothing.
 use Prim.Native.Nat.{suc, _-_}
 use native.Mathlib.Numerals.{add-one}
 use native.Mathlib.Omega.{arith}
 use borrow.Author.Tests.{not-true, not-false}
 use lib.ListN.{length}
-use Rattle.curve.specs.Steps.{Reached}
-use Rattle.curve.proofs.lookup.find.Statement.{statement}
-use Rattle.curve.proofs.lookup.find.Tie as tie
+use Rattle.lookup.specs.Steps.{Reached}
+use Rattle.lookup.proofs.find.Statement.{statement}
+use Rattle.lookup.proofs.find.Tie as tie
 
 abbrev Inv-loop : tie.InvT-loop
 Inv-loop areas from area i₀ i = Reached areas i area

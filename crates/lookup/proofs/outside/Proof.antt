@@ -1,11 +1,11 @@
--- `curve::lookup::outside` meets its contract.
+-- `lookup::outside` meets its contract.
 -- Assumes nothing.
 use mathlib.Core.Path.{refl}
 use borrow.Author.Tests.{lt-ltb, le-ltb}
 use Rattle.model.specs.Read.{outside}
 use borrow.Author.Needs.{needs}
-use Rattle.curve.proofs.lookup.outside.Statement.{statement}
-use Rattle.curve.proofs.lookup.outside.Tie as tie
+use Rattle.lookup.proofs.outside.Statement.{statement}
+use Rattle.lookup.proofs.outside.Tie as tie
 
 shared-slice-read-if1 : tie.Need-shared-slice-read-if1
 shared-slice-read-if1 c = search needs

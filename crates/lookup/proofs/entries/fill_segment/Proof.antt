@@ -1,4 +1,4 @@
--- `curve::entries::fill_segment` meets its contract. The loop's invariant: the entries from index to i are filled.
+-- `lookup::entries::fill_segment` meets its contract. The loop's invariant: the entries from index to i are filled.
 -- Assumes nothing.
 use mathlib.Core.Path.{_≡_, refl, _∙_, ap}
 use mathlib.Core.Bool.{false}
@@ -15,12 +15,12 @@ use mir.Facts.{toZ-ofZ}
 use Rattle.model.specs.Read.{outside, reading}
 use Rattle.model.specs.Sheet.{entry-area}
 use Rattle.model.specs.Facts.{Filling}
-use Rattle.curve.specs.Steps.{Readable}
+use Rattle.lookup.specs.Steps.{Readable}
 use Rattle.model.proofs.Accepted.{area-limit}
 use Rattle.model.proofs.Filling.{filling-goes-on}
-use Rattle.curve.proofs.Readable.{inner, inside-of, reading-of, reached-later, later}
-use Rattle.curve.proofs.entries.fill_segment.Statement.{statement}
-use Rattle.curve.proofs.entries.fill_segment.Tie as tie
+use Rattle.lookup.proofs.Readable.{inner, inside-of, reading-of, reached-later, later}
+use Rattle.lookup.proofs.entries.fill_segment.Statement.{statement}
+use Rattle.lookup.proofs.entries.fill_segment.Tie as tie
 
 record Going (f : ℕ → ℤ) (index i : ℕ) (before after : List ℤ) : Type 0 where
   pub least : index ≤ i

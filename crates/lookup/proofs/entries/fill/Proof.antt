@@ -1,4 +1,4 @@
--- `curve::entries::fill` meets its contract. The loop's invariant: the first entries are filled, and the next one reaches the segment at k.
+-- `lookup::entries::fill` meets its contract. The loop's invariant: the first entries are filled, and the next one reaches the segment at k.
 -- Assumes nothing.
 use mathlib.Core.Path.{_≡_, _∙_}
 use mathlib.Core.List.{List}
@@ -10,12 +10,12 @@ use lib.ListN.{length}
 use Rattle.model.specs.Read.{reading}
 use Rattle.model.specs.Sheet.{entry-area}
 use Rattle.model.specs.Facts.{Filling}
-use Rattle.curve.specs.Steps.{Reached}
+use Rattle.lookup.specs.Steps.{Reached}
 use Rattle.model.proofs.Accepted.{area-limit, lengths, not-before}
 use Rattle.model.proofs.Filling.{filling-starts, filled-up, fill-all}
-use Rattle.curve.proofs.Readable.{reached-later}
-use Rattle.curve.proofs.entries.fill.Statement.{statement}
-use Rattle.curve.proofs.entries.fill.Tie as tie
+use Rattle.lookup.proofs.Readable.{reached-later}
+use Rattle.lookup.proofs.entries.fill.Statement.{statement}
+use Rattle.lookup.proofs.entries.fill.Tie as tie
 
 record Going (f : ℕ → ℤ) (areas : List ℕ) (k start step index : ℕ) (before after : List ℤ) : Type 0 where
   pub most : index ≤ length before

@@ -1,4 +1,4 @@
--- `curve::entries::first_outside` meets its contract: areas of entries increase, so a division gives the first beyond the last point.
+-- `lookup::entries::first_outside` meets its contract: areas of entries increase, so a division gives the first beyond the last point.
 -- Assumes nothing.
 use mathlib.Core.Path.{_≡_, sym, _∙_}
 use mathlib.Core.Bool.{true, false}
@@ -11,8 +11,8 @@ use lib.ListN.{length, getD}
 use Rattle.model.specs.Read.{outside}
 use Rattle.model.proofs.Accepted.{outside-beyond, inside-both, not-before, not-beyond}
 use Rattle.model.proofs.SheetRows.{rows-first}
-use Rattle.curve.proofs.entries.first_outside.Statement.{statement}
-use Rattle.curve.proofs.entries.first_outside.Tie as tie
+use Rattle.lookup.proofs.entries.first_outside.Statement.{statement}
+use Rattle.lookup.proofs.entries.first_outside.Tie as tie
 
 -- from the first entry to the last area
 abbrev room : List ℕ → ℕ → ℕ

@@ -5,8 +5,7 @@ ghost use lib.ListN.{length};
 ghost use Rattle.model.specs.Read.{reading};
 ghost use Rattle.model.specs.Sheet.{bad-sheet, entry-area, entry-rows, tabulate};
 ghost use Rattle.model.specs.Facts.{first-answer};
-ghost use Rattle.curve.specs.Steps.{Fillable, Begun, Advanced};
-use super::lookup;
+ghost use Rattle.lookup.specs.Steps.{Fillable, Begun, Advanced};
 
 // Row 8.
 pub fn bad_sheet(step: u32, n: usize) -> bool
@@ -26,7 +25,7 @@ pub fn first_outside(areas: &[u32], start: u32, step: u32) -> usize
     requires { ⌜ (0 < length (now areas)) × (0 < step) ⌝ }
     ensures { λ r. ⌜ ((n : ℕ) → first-answer r n ≡ entry-rows (now (areas .entry)) start step 0 n) ⌝ }
 {
-    if lookup::outside(areas, start) {
+    if super::outside(areas, start) {
         return 0;
     }
     ((areas[areas.len() - 1] - start) / step) as usize + 1
@@ -55,14 +54,14 @@ fn fill_segment(
     requires { ⌜ Begun (now areas) (now values) (now slopes) shape k start step index (length (now out)) ⌝ }
     ensures { λ r. ⌜ Advanced (λ i. reading (now (areas .entry)) (now (values .entry)) (now (slopes .entry)) shape (entry-area start step i)) index r (now (out .entry)) (now (out .exit)) ⌝ }
 {
-    let ends = lookup::ends_at(areas, values, slopes, k);
+    let ends = super::ends_at(areas, values, slopes, k);
     let mut i = index;
     while i < out.len() {
         let area = area_of(start, step, i);
-        if !lookup::takes(areas, k, area) {
+        if !super::takes(areas, k, area) {
             return i;
         }
-        out[i] = lookup::factor(ends, shape, area);
+        out[i] = super::factor(ends, shape, area);
         i += 1;
     }
     i
@@ -84,7 +83,7 @@ pub fn fill(
     let mut k: usize = 0;
     let mut index: usize = 0;
     while index < out.len() {
-        k = lookup::find(areas, k, area_of(start, step, index));
+        k = super::find(areas, k, area_of(start, step, index));
         index = fill_segment(areas, values, slopes, shape, k, start, step, index, out);
     }
 }

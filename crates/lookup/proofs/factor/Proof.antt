@@ -1,10 +1,10 @@
--- `curve::lookup::factor` meets its contract.
+-- `lookup::factor` meets its contract.
 -- Assumes nothing.
 use mathlib.Core.Path.{_∙_}
 use mir.Facts.{toZ-ofZ}
-use Rattle.curve.proofs.Readable.{left-fits, right-fits}
-use Rattle.curve.proofs.lookup.factor.Statement.{statement}
-use Rattle.curve.proofs.lookup.factor.Tie as tie
+use Rattle.lookup.proofs.Readable.{left-fits, right-fits}
+use Rattle.lookup.proofs.factor.Statement.{statement}
+use Rattle.lookup.proofs.factor.Tie as tie
 
 factor-requires : tie.Need-factor-requires
 factor-requires c κs =

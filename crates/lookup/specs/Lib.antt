@@ -1,0 +1,2 @@
+-- What its functions ask and give.
+pub mod Steps
