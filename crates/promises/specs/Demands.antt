@@ -1,4 +1,4 @@
--- The third demand, for every accepted curve. Proofs: proofs/Demands.antt. Exact values are those of curve's specs/Laws.antt.
+-- The third demand, for every accepted curve. Proofs: proofs/Demands.antt. Exact values are those of model's specs/Laws.antt.
 -- Assumes nothing.
 use Prim.Native.Nat.{ℕ, _+_, _*_, _≤_, _<_}
 use mathlib.Core.Path.{_≡_}
