@@ -1,24 +1,26 @@
--- −1 − z and the quotient toward zero, which fit where z does, and floor division from the two.
+-- −1 − z, and floor division from the quotient of natural numbers.
 -- Assumes nothing.
-use mathlib.Core.Path.{_≡_, sym, ap, _∙_, subst⁻¹}
-use mathlib.Core.Bool.{Bool, cond}
+use mathlib.Core.Path.{_≡_, refl, sym, ap, _∙_, subst⁻¹}
+use mathlib.Core.Bool.{true, false}
 use mathlib.Core.List.{[], _∷_}
-use Prim.Native.Nat.{ℕ, zero, suc, _/_, _≤_, _<_, zero-le}
-use native.Mathlib.Nat.{div-le-self, le-of-suc-le-suc}
-use lib.Dec.{ltb→lt}
-use lib.IntN.{ℤ, pos, negsuc, negℤ, _+ℤ_, _-ℤ_}
-use lib.Signed.{mag, quotZ, ltZ, _<ℤ_}
-use borrow.Author.Tests.{le-ltb}
+use Prim.Native.Nat.{ℕ, _/_}
+use native.Mathlib.Nat.{div-le-self}
+use native.Mathlib.Omega.{arith}
+use borrow.Author.Tests.{ltb-true}
+use lib.Dec.{T, ltb}
+use lib.IntN.{ℤ, pos, negsuc, negℤ, natAbs, _+ℤ_, _-ℤ_}
+use lib.Signed.{nonNeg, ltZ}
 use mir.Syntax.{Width}
-use mir.Val.{SFits, ofZ}
+use mir.Val.{Fits, SFits, bits, hbits}
 use mir.ValLaws.{sfits-le}
+use mir.Facts.{fits-natAbs}
 use Rattle.exact.specs.Rounding.{floorDiv}
 use Rattle.exact.proofs.Integer.{negsuc-is}
 use Rattle.exact.proofs.Ring.{ring, terms}
 
-pub bits-above : (w : Width) {z : ℤ} → pos 0 <ℤ z → 0 < ofZ w z
-bits-above w {z = pos n} h = ltb→lt 0 n (h .lt)
-bits-above w {z = negsuc n} h = absurd (h .lt)
+-- a number that is not negative, as a natural number of a width that has room for it
+pub natural : {w w′ : Width} {z : ℤ} → T (ltb (hbits w) (bits w′)) → SFits w z → z ≡ pos (natAbs z) → T (nonNeg z) × Fits w′ (natAbs z)
+natural t f e = (subst⁻¹ (λ (y : ℤ). T (nonNeg y)) e tt, fits-natAbs t f)
 
 -- −1 − z
 abbrev pub mirror : ℤ → ℤ
@@ -36,19 +38,25 @@ pub sfits-mirror : {w : Width} {z : ℤ} → SFits w z → SFits w (mirror z)
 sfits-mirror {w = w} {z = pos m} f = subst⁻¹ (SFits w) (mirror-pos m) (record { sfits = f .sfits })
 sfits-mirror {w = w} {z = negsuc m} f = subst⁻¹ (SFits w) (mirror-negsuc m) (record { sfits = f .sfits })
 
-mag-neg : (r : ℕ) {a : ℕ} → r ≤ suc a → mag (negℤ (pos r)) ≤ a
-mag-neg zero h = zero-le
-mag-neg (suc r) h = le-of-suc-le-suc h
+pub sfits-quotient : {w : Width} {a : ℕ} (d : ℕ) → SFits w (pos a) → SFits w (pos (a / d))
+sfits-quotient {a = a} d f = sfits-le (div-le-self a d) f
 
-pub sfits-quot : {w : Width} {z : ℤ} (d : ℕ) → SFits w z → SFits w (quotZ z (pos d))
-sfits-quot {z = pos a} d f = sfits-le (div-le-self a d) f
-sfits-quot {z = negsuc a} d f = sfits-le (mag-neg (suc a / d) (div-le-self (suc a) d)) f
+-- z below 0
+pub below : (z : ℤ) → ltZ z (pos 0) ≡ true → mirror z ≡ pos (natAbs (mirror z))
+below (pos a) e = absurd (let h = ltb-true a 0 e in omega arith)
+below (negsuc a) e = rw (mirror-negsuc a)
 
--- what `flip` gives
-abbrev pub flip : Bool → ℤ → ℤ
-flip b z = cond b (mirror z) z
-
-pub flip-floor : (n : ℤ) (d : ℕ) → flip (ltZ n (pos 0)) (quotZ (flip (ltZ n (pos 0)) n) (pos d)) ≡ floorDiv n d
+pub floor-below : (z : ℤ) (d : ℕ) → ltZ z (pos 0) ≡ true → mirror (pos (natAbs (mirror z) / d)) ≡ floorDiv z d
 unfolding floorDiv
-flip-floor (pos a) d = rw (le-ltb a 0 zero-le)
-flip-floor (negsuc a) d = ap (λ z. mirror (quotZ z (pos d))) (mirror-negsuc a) ∙ mirror-pos (a / d)
+floor-below (pos a) d e = absurd (let h = ltb-true a 0 e in omega arith)
+floor-below (negsuc a) d e = rw (mirror-negsuc a) (mirror-pos (a / d))
+
+-- z not below 0
+pub not-below : (z : ℤ) → ltZ z (pos 0) ≡ false → z ≡ pos (natAbs z)
+not-below (pos a) e = refl
+not-below (negsuc a) e = absurd (let h : _≡_ {A = ℕ} 0 1 = cc in omega arith)
+
+pub floor-not-below : (z : ℤ) (d : ℕ) → ltZ z (pos 0) ≡ false → pos (natAbs z / d) ≡ floorDiv z d
+unfolding floorDiv
+floor-not-below (pos a) d e = refl
+floor-not-below (negsuc a) d e = absurd (let h : _≡_ {A = ℕ} 0 1 = cc in omega arith)

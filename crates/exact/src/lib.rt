@@ -1,26 +1,18 @@
 // Exact arithmetic: floor division, and the quotient of a product that may pass 64 bits.
 ghost use mathlib.Core.Path.{_≡_};
-ghost use mathlib.Core.Bool.{cond};
 ghost use Prim.Native.Nat.{_*_, _/_, _^_, _<_};
-ghost use lib.IntN.{pos, negsuc, natAbs, _-ℤ_};
-ghost use lib.Signed.{_<ℤ_};
 ghost use Rattle.exact.specs.Rounding.{floorDiv};
 ghost use Rattle.exact.specs.MulDiv.{Divided, Step, Scaled};
 
-// -1 - z where `negative`, else z.
-fn flip(z: i64, negative: bool) -> i64
-    ensures { λ r. ⌜ r ≡ cond negative (negsuc 0 -ℤ z) z ⌝ }
-{
-    if negative { -1 - z } else { z }
-}
-
 // n / d, rounded down. `/` truncates, so a negative n goes by -1 - (-1 - n) / d.
-pub fn floor_div(n: i64, d: i64) -> i64
-    requires { ⌜ pos 0 <ℤ d ⌝ }
-    ensures { λ r. ⌜ r ≡ floorDiv n (natAbs d) ⌝ }
+pub fn floor_div(n: i64, d: u64) -> i64
+    requires { ⌜ 0 < d ⌝ }
+    ensures { λ r. ⌜ r ≡ floorDiv n d ⌝ }
 {
-    let negative = n < 0;
-    flip(flip(n, negative) / d, negative)
+    if n < 0 {
+        return -1 - (((-1 - n) as u64 / d) as i64);
+    }
+    (n as u64 / d) as i64
 }
 
 // Bases for the digits of y, 2^26 and 2^16. A step fits 64 bits where c * base is at most 2^63.

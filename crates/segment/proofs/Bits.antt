@@ -1,24 +1,20 @@
 -- Signed numbers in machine words: tests by their bits.
 -- Assumes nothing.
-use mathlib.Core.Path.{_≡_, refl, sym, _∙_, ap, subst, subst⁻¹}
+use mathlib.Core.Path.{_≡_, refl, sym, _∙_, ap, subst}
 use mathlib.Core.Bool.{Bool, true, false, not}
 use mathlib.Core.List.{List}
 use Prim.Native.Nat.{ℕ, _^_, _<_}
 use borrow.Author.Tests.{leb-true, leb-false, lt-ltb, le-ltb}
 use lib.Dec.{T, eqb, leb, ltb, eqb→eq, eqb-refl}
-use lib.IntN.{ℤ, pos, negsuc, natAbs}
+use lib.IntN.{ℤ, pos, negsuc}
 use lib.ListN.{getD}
 use lib.Pow.{pow-pos}
-use lib.Signed.{mag, nonNeg, leZ, ltZ, ≤ℤ-refl, leZ-yes}
+use lib.Signed.{mag, leZ, ltZ, ≤ℤ-refl, leZ-yes}
 use mir.Syntax.{Width, w32}
-use mir.Val.{Fits, SFits, bits, hbits, toZ, ofZ}
-use mir.Facts.{toZ-ofZ, and-yes, yes-and, fits-natAbs}
+use mir.Val.{SFits, hbits, toZ, ofZ}
+use mir.Facts.{toZ-ofZ, and-yes, yes-and}
 use Rattle.exact.proofs.Order as Z
 use Rattle.segment.specs.Steps.{eqZ}
-
--- a number that is not negative, as a natural number of a width that has room for it
-pub natural : {w w′ : Width} {z : ℤ} → T (ltb (hbits w) (bits w′)) → SFits w z → z ≡ pos (natAbs z) → T (nonNeg z) × Fits w′ (natAbs z)
-natural t f e = (subst⁻¹ (λ (y : ℤ). T (nonNeg y)) e tt, fits-natAbs t f)
 
 pub same-test : (s t : Bool) → (T s → T t) → (T t → T s) → s ≡ t
 same-test true true f g = refl

@@ -2,7 +2,7 @@
 -- Assumes nothing.
 use mathlib.Core.Path.{_≡_, sym, _∙_, ap, ap₂, subst, subst⁻¹}
 use mathlib.Core.List.{[], _∷_}
-use Prim.Native.Nat.{ℕ, _+_, _*_, _<_}
+use Prim.Native.Nat.{ℕ, _+_, _*_, _/_, _<_}
 use native.Mathlib.Omega.{arith}
 use native.Mathlib.Nat.{zero-mul, zero-div}
 use lib.IntN.{ℤ, pos, _+ℤ_, _-ℤ_, _*ℤ_, *ℤ-comm}
@@ -21,7 +21,7 @@ use Rattle.model.proofs.ClosedForm.{B, B-positive, W-positive, g-positive, a-po
 use Rattle.model.proofs.Inside.{In}
 use Rattle.model.proofs.Curves.{Bend, bent, straight, bend-kind, over-S, flat-value, rising-value, bent-value, straight-value}
 use Rattle.model.specs.Facts.{Good}
-use Rattle.segment.specs.Steps.{part, above-tangent}
+use Rattle.segment.specs.Steps.{part, raised-reading}
 use Rattle.model.proofs.Segments.{gap, rise, distance, S, g, e₀, e₁, a, b, normal, around, proper-gradient, gap-positive, S-positive, within}
 use Rattle.segment.proofs.Machine.{rising-numbers, B-is, rising-machine, convex-numbers, W-is, convex-machine, straight-machine}
 
@@ -63,8 +63,8 @@ module _ (s : Segment) (t u : ℕ) (to : s .right .area ≡ s .left .area + t + 
       let v = flat-value (normal s) (S-positive s (k .ordered)) (gap-positive s (k .ordered)) (proper-gradient (s .left)) (proper-gradient (s .right)) (distance s (s .left .area + t)) (ap pos e) in
       round-≈ _ _ (v .proper) (Q.proper-whole (pos (s .left .value))) (v .same) ∙ round-whole (pos (s .left .value))
 
-  -- convex, with the slopes' distances from the chord as natural numbers
-  module _ (A B : ℕ) (k : Good convex s) (eA : a s ≡ pos A) (eB : b s ≡ pos B) where
+  -- convex, with the raised slope and the slopes' distances from the chord as natural numbers
+  module _ (D A B : ℕ) (k : Good convex s) (eD : s .left .slope +ℤ pos 10000 ≡ pos D) (eA : a s ≡ pos A) (eB : b s ≡ pos B) where
     S-is : S s ≡ pos (100 * (t + u))
     S-is = ap (λ (z : ℤ). pos 100 *ℤ z) gap-is
 
@@ -74,22 +74,27 @@ module _ (s : Segment) (t u : ℕ) (to : s .right .area ≡ s .left .area + t + 
     Sp : pos 0 <ℤ S s
     Sp = S-positive s (k .ordered)
 
-    S-above : 0 < 100 * (t + u)
-    S-above = Z.<-pos (subst (λ (z : ℤ). pos 0 <ℤ z) S-is Sp)
+    h-above : 0 < t + u
+    h-above = Z.<-pos (subst (λ (z : ℤ). pos 0 <ℤ z) gap-is hp)
 
-    tangent-slope : g s -ℤ b s ≡ e₀ s
-    tangent-slope = ring (g s ∷ e₀ s ∷ []) {a = g s -ℤ (g s -ℤ e₀ s)} (search terms depth 20 fits 9999) tt
+    e₀-is : e₀ s ≡ pos (t + u) *ℤ s .left .slope
+    e₀-is = ap (λ (z : ℤ). z *ℤ s .left .slope) gap-is
 
-    read-bent : gradient (s .left) <ℚ rise s over gap s → rise s over gap s <ℚ gradient (s .right) → round (I.interpolant convex s (s .left .area + t)) ≡ convex-numbers (s .left .value) (100 * (t + u)) t (above-tangent t u A B) (e₀ s)
+    tangent-slope : g s -ℤ b s ≡ pos (t + u) *ℤ s .left .slope
+    tangent-slope = ring (g s ∷ e₀ s ∷ []) {a = g s -ℤ (g s -ℤ e₀ s)} (search terms depth 20 fits 9999) tt ∙ e₀-is
+
+    abbrev Reads : Type 0
+    Reads = round (I.interpolant convex s (s .left .area + t)) +ℤ pos (100 * t) ≡ pos (raised-reading t u (t + u) (s .left .value) D A B)
+
+    read-bent : gradient (s .left) <ℚ rise s over gap s → rise s over gap s <ℚ gradient (s .right) → Reads
     unfolding I.interpolant I.curve
     read-bent low high =
         let i = in-segment in
         let p₀ = proper-gradient (s .left) in
         let p₁ = proper-gradient (s .right) in
         let W-pos = W-positive (gap s) (distance s (s .left .area + t)) hp (i .low) (i .high) (a-positive (around s) Sp hp p₀ p₁ high) (b-positive (around s) Sp hp p₀ p₁ low) in
-        convex-machine (g s) (s .left .value) t u (100 * (t + u)) A B gap-is distance-is S-is eA eB S-above (bent-value (around s) Sp hp p₀ p₁ (distance s (s .left .area + t)) i low high .value)
-        (Z.<-pos (subst (λ (z : ℤ). pos 0 <ℤ z) (W-is (g s) (s .left .value) t u (100 * (t + u)) A B gap-is distance-is S-is eA eB S-above) W-pos))
-        ∙ ap (λ (z : ℤ). convex-numbers (s .left .value) (100 * (t + u)) t (above-tangent t u A B) z) tangent-slope
+        convex-machine (g s) (s .left .slope) (s .left .value) D t u (t + u) A B eD gap-is distance-is S-is eA eB tangent-slope h-above (bent-value (around s) Sp hp p₀ p₁ (distance s (s .left .area + t)) i low high .value)
+        (Z.<-pos (subst (λ (z : ℤ). pos 0 <ℤ z) (W-is (g s) (s .left .slope) (s .left .value) D t u (t + u) A B eD gap-is distance-is S-is eA eB tangent-slope h-above) W-pos))
 
     -- a slope equal to the chord is at no distance from it
     no-distance : gradient (s .left) ≈ℚ rise s over gap s → B ≡ 0
@@ -97,22 +102,22 @@ module _ (s : Segment) (t u : ℕ) (to : s .right .area ≡ s .left .area + t + 
     no-distance e =
         Z.pos-injective (sym eB ∙ ap (λ (z : ℤ). pos 100 *ℤ rise s -ℤ z) (*ℤ-comm (gap s) (s .left .slope) ∙ e .cross) ∙ ring (rise s ∷ []) {a = pos 100 *ℤ rise s -ℤ rise s *ℤ pos 100} {b = pos 0} (search terms depth 20 fits 9999) tt)
 
-    read-straight : gradient (s .left) ≈ℚ rise s over gap s → round (I.interpolant convex s (s .left .area + t)) ≡ convex-numbers (s .left .value) (100 * (t + u)) t (above-tangent t u A B) (e₀ s)
+    read-straight : gradient (s .left) ≈ℚ rise s over gap s → Reads
     unfolding I.interpolant I.curve
     read-straight e =
         let v = straight-value (around s) Sp hp (proper-gradient (s .left)) (proper-gradient (s .right)) (distance s (s .left .area + t)) e .value in
-        let slope : rise s over gap s ≈ℚ e₀ s over pos (100 * (t + u)) = subst (λ (z : ℤ). rise s over gap s ≈ℚ e₀ s over z) S-is (Q.≈-trans (proper-gradient (s .left)) (Q.≈-sym e) (normal s .left-slope)) in
-        straight-machine (s .left .value) (100 * (t + u)) t (e₀ s) S-above (v .proper)
-        (Q.≈-trans (Q.proper-+ (search propers) (Q.proper-* (Q.proper-over _ _ hp) (search propers))) (v .same) (subst (λ (z : ℤ). whole (pos (s .left .value)) +ℚ (rise s over gap s) *ℚ whole (distance s (s .left .area + t)) ≈ℚ whole (pos (s .left .value)) +ℚ (e₀ s over pos (100 * (t + u))) *ℚ whole z) distance-is (Q.≈-+ (Q.≈-refl _) (Q.≈-* slope (Q.≈-refl _)))))
-        ∙ ap (λ (n : ℕ). convex-numbers (s .left .value) (100 * (t + u)) t n (e₀ s)) (sym (nothing-above (no-distance e)))
+        let slope : rise s over gap s ≈ℚ (pos (t + u) *ℤ s .left .slope) over pos (100 * (t + u)) = rw (S-is, e₀-is) at (Q.≈-trans (proper-gradient (s .left)) (Q.≈-sym e) (normal s .left-slope)) in
+        straight-machine (s .left .slope) (s .left .value) D t (t + u) eD h-above (v .proper)
+        (Q.≈-trans (Q.proper-+ (search propers) (Q.proper-* (Q.proper-over _ _ hp) (search propers))) (v .same) (subst (λ (z : ℤ). whole (pos (s .left .value)) +ℚ (rise s over gap s) *ℚ whole (distance s (s .left .area + t)) ≈ℚ whole (pos (s .left .value)) +ℚ ((pos (t + u) *ℤ s .left .slope) over pos (100 * (t + u))) *ℚ whole z) distance-is (Q.≈-+ (Q.≈-refl _) (Q.≈-* slope (Q.≈-refl _)))))
+        ∙ ap (λ (n : ℕ). pos (convex-numbers (s .left .value) D t n)) (sym (nothing-above (no-distance e)))
       where
-        nothing-above : B ≡ 0 → above-tangent t u A B ≡ 0
+        nothing-above : B ≡ 0 → B * t * (B * t) / ((A * u + B * t) * (t + u)) ≡ 0
         nothing-above z = rw z (simp (zero-mul, zero-div))
 
-    pub segment-convex : round (I.interpolant convex s (s .left .area + t)) ≡ convex-numbers (s .left .value) (100 * (t + u)) t (above-tangent t u A B) (e₀ s)
+    pub segment-convex : Reads
     unfolding has-shape fits
     segment-convex = decide (bend-kind (gap s) (rise s) (k .shaped))
       where
-        decide : Bend (rise s over gap s) (gradient (s .left)) (gradient (s .right)) → round (I.interpolant convex s (s .left .area + t)) ≡ convex-numbers (s .left .value) (100 * (t + u)) t (above-tangent t u A B) (e₀ s)
+        decide : Bend (rise s over gap s) (gradient (s .left)) (gradient (s .right)) → Reads
         decide (bent low high) = read-bent low high
         decide (straight e₀' e₁') = read-straight e₀'

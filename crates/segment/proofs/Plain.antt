@@ -2,11 +2,11 @@
 -- Assumes nothing.
 use mathlib.Core.Path.{_≡_, refl, sym, _∙_, ap, subst}
 use mathlib.Core.List.{[], _∷_}
-use Prim.Native.Nat.{ℕ, _+_, _-_, _≤_, _<_}
+use Prim.Native.Nat.{ℕ, _+_, _-_, _*_, _≤_, _<_}
 use native.Mathlib.Nat.{mul-le-mul}
 use native.Mathlib.Omega.{arith}
 use lib.IntN.{ℤ, pos, negsuc, natAbs, _+ℤ_, _-ℤ_, _*ℤ_}
-use lib.Signed.{_≤ℤ_, _<ℤ_, yes-nonNeg, pos-natAbs}
+use lib.Signed.{_≤ℤ_, _<ℤ_, ≤ℤ-refl, yes-nonNeg, pos-natAbs}
 use mir.Syntax.{w32}
 use mir.Val.{SFits}
 use Rattle.exact.specs.Fraction.{_over_, _≤ℚ_}
@@ -15,17 +15,16 @@ use Rattle.exact.proofs.Ring.{ring, terms}
 use Rattle.exact.proofs.Order as Z
 use Rattle.exact.proofs.Fractions as Q
 use Rattle.exact.proofs.Fractions.{NonNeg}
-use Rattle.exact.proofs.Magnitude.{size-between, size--, size-*, size-difference, fits-size}
+use Rattle.exact.proofs.Magnitude.{size-between, size-+, size--, size-*, size-difference, fits-size}
 use Rattle.model.specs.Points.{Point, gradient, Segment, Shape, rising, convex}
 use Rattle.model.specs.Interpolant.{interpolant}
 use Rattle.model.specs.Shape.{fits, has-shape}
 use Rattle.model.specs.Facts.{Inside}
-use Rattle.segment.specs.Steps.{Ends, Climbing, rising-reading, Bending, above-tangent, Tangent, tangent-reading}
+use Rattle.segment.specs.Steps.{Ends, Climbing, rising-reading, Bending, raised-reading}
 use Rattle.model.proofs.Curves.{Rise, climbs, flat, Bend, bent, straight, rise-kind, bend-kind}
 use Rattle.model.proofs.Segments.{gap, rise, g, e₀, e₁, a, b, interpolant-proper}
 use Rattle.segment.proofs.Numbers.{gap-is, segment-rising, segment-flat, segment-convex}
 use Rattle.model.proofs.Range.{value-range, reading-low, reading-high}
-use Rattle.segment.proofs.Sizes.{above-size}
 
 -- the reading fits an i32
 pub reading-fits : {shape : Shape} {s : Segment} {x : ℕ} → Inside shape s x → SFits w32 (round (interpolant shape s x))
@@ -53,6 +52,9 @@ module _ {shape : Shape} {s : Segment} {x : ℕ} (i : Inside shape s x) where
   -- u is h − t
   pub rest : s .right .area - s .left .area - t ≡ u
   rest = let h = i .low in let k = i .high in omega arith
+
+  whole : t + u ≡ s .right .area - s .left .area
+  whole = let h = i .low in let k = i .high in omega arith
 
   pub ends : Ends t u
   ends =
@@ -119,11 +121,11 @@ flat-inside {s} {x} i e =
 -- ---- convex
 
 pub record Convex (s : Segment) (x : ℕ) : Type 0 where
+  pub raised-slope : s .left .slope +ℤ pos 10000 ≡ pos (natAbs (s .left .slope +ℤ pos 10000))
   pub right-over : a s ≡ pos (natAbs (a s))
   pub left-over : b s ≡ pos (natAbs (b s))
-  pub bending : Bending (x - s .left .area) (s .right .area - x) (natAbs (a s)) (natAbs (b s))
-  pub tangent : Tangent (x - s .left .area) ((x - s .left .area) + (s .right .area - x)) (s .left .value) (above-tangent (x - s .left .area) (s .right .area - x) (natAbs (a s)) (natAbs (b s))) (e₀ s)
-  pub reading : round (interpolant convex s x) ≡ tangent-reading (x - s .left .area) ((x - s .left .area) + (s .right .area - x)) (s .left .value) (above-tangent (x - s .left .area) (s .right .area - x) (natAbs (a s)) (natAbs (b s))) (e₀ s)
+  pub bending : Bending (x - s .left .area) (s .right .area - x) (s .right .area - s .left .area) (s .left .value) (natAbs (s .left .slope +ℤ pos 10000)) (natAbs (a s)) (natAbs (b s))
+  pub reading : round (interpolant convex s x) +ℤ pos (100 * (x - s .left .area)) ≡ pos (raised-reading (x - s .left .area) (s .right .area - x) (s .right .area - s .left .area) (s .left .value) (natAbs (s .left .slope +ℤ pos 10000)) (natAbs (a s)) (natAbs (b s)))
 
 -- the chord is not below the left slope, nor above the right
 left-not-above : (s : Segment) → gradient (s .left) ≤ℚ rise s over gap s → pos 0 ≤ℤ b s
@@ -161,22 +163,25 @@ module _ {s : Segment} {x : ℕ} (i : Inside convex s x) where
   convex-facts low high =
       let t = x - s .left .area in
       let u = s .right .area - x in
+      let low-slope : pos 0 ≤ℤ (s .left .slope +ℤ pos 10000) = Z.≤-+ (i .good .left-slope-low) (≤ℤ-refl (pos 10000)) in
+      let raised-is = sym (pos-natAbs (s .left .slope +ℤ pos 10000) (yes-nonNeg low-slope)) in
       let right-is = sym (pos-natAbs (a s) (yes-nonNeg (right-not-below s high))) in
       let left-is = sym (pos-natAbs (b s) (yes-nonNeg (left-not-above s low))) in
-      let bending : Bending t u (natAbs (a s)) (natAbs (b s)) = record { ends = ends i; right-slope = omega (arith, size-- (e₁ s) (g s), e₁-size, g-size); left-slope = omega (arith, size-- (g s) (e₀ s), e₀-size, g-size) } in
       record {
+        raised-slope = raised-is;
         right-over = right-is;
         left-over = left-is;
-        bending = bending;
-        tangent = record {
-          short = ends i .most;
-          least = ends i .least;
-          distance = omega arith;
+        bending = record {
+          from-left = (let n = i .high in omega arith);
+          from-right = (let n = i .low in omega arith);
+          short = (let n = i .good .near in omega arith);
+          least = (let n = i .good .ordered in omega arith);
           left-value = i .good .left-value;
-          slope = e₀-size;
-          above = above-size bending;
+          raised-slope = omega (arith, size-+ (s .left .slope) (pos 10000), slope-size (s .left .slope) (i .good .left-slope-low) (i .good .left-slope-high));
+          right-over = omega (arith, size-- (e₁ s) (g s), e₁-size, g-size);
+          left-over = omega (arith, size-- (g s) (e₀ s), e₀-size, g-size);
         };
-        reading = ap (λ (y : ℕ). round (interpolant convex s y)) (sym (reach i)) ∙ segment-convex s t u (span i) (natAbs (a s)) (natAbs (b s)) (i .good) right-is left-is;
+        reading = ap (λ (y : ℕ). round (interpolant convex s y) +ℤ pos (100 * t)) (sym (reach i)) ∙ segment-convex s t u (span i) (natAbs (s .left .slope +ℤ pos 10000)) (natAbs (a s)) (natAbs (b s)) (i .good) raised-is right-is left-is ∙ ap (λ (h : ℕ). pos (raised-reading t u h (s .left .value) (natAbs (s .left .slope +ℤ pos 10000)) (natAbs (a s)) (natAbs (b s)))) (whole i);
       }
 
 pub convex-inside : {s : Segment} {x : ℕ} → Inside convex s x → Convex s x

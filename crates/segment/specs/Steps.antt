@@ -4,9 +4,8 @@
 use mathlib.Core.Path.{_≡_}
 use mathlib.Core.Bool.{Bool, cond, _&&_}
 use Prim.Native.Nat.{ℕ, _+_, _*_, _/_, _≤_, _<_}
-use lib.IntN.{ℤ, pos, natAbs, _+ℤ_, _*ℤ_, _-ℤ_}
+use lib.IntN.{ℤ, pos, _*ℤ_, _-ℤ_}
 use lib.Signed.{leZ, ltZ}
-use Rattle.exact.specs.Rounding.{floorDiv}
 
 -- equality, as a test
 abbrev pub eqZ : ℤ → ℤ → Bool
@@ -40,7 +39,7 @@ whole-part t u F D₀ D₁ = part t u (100 * F) ((t + u) * D₀) + part u t (100
 
 abbrev pub rising-reading : (t u left F D₀ D₁ : ℕ) → ℕ
 rising-reading t u left F D₀ D₁ =
-    (2 * left + 1 + part t u (100 * F) ((t + u) * D₀) * (2 * F) / whole-part t u F D₀ D₁) / 2
+    left + (part t u (100 * F) ((t + u) * D₀) * F + whole-part t u F D₀ D₁ / 2) / whole-part t u F D₀ D₁
 
 pub record Climbing (t u left F D₀ D₁ : ℕ) : Type 0 where
   pub ends : Ends t u
@@ -50,30 +49,23 @@ pub record Climbing (t u left F D₀ D₁ : ℕ) : Type 0 where
   pub right-slope : D₁ ≤ 10000
   pub above-0 : 0 < whole-part t u F D₀ D₁
 
--- what the convex curve is above its left tangent, times 2 S: 2 w² / W with w = b t and W = a u + b t, 0 where W is
-abbrev pub above-tangent : (t u a b : ℕ) → ℕ
-above-tangent t u a b = b * t * (2 * (b * t)) / (a * u + b * t)
+-- The convex curve plus 100 t: its left tangent, and above that w² / (W h) hundredths, with w = b t and W = a u + b t. D is the
+-- left slope plus 10000.
+abbrev pub raised-reading : (t u h left D a b : ℕ) → ℕ
+raised-reading t u h left D a b = (50 * (2 * left + 1) + D * t + b * t * (b * t) / ((a * u + b * t) * h)) / 100
 
-pub record Bending (t u a b : ℕ) : Type 0 where
-  pub ends : Ends t u
-  pub right-slope : a ≤ 40000000
-  pub left-slope : b ≤ 40000000
+pub record Bending (t u h left D a b : ℕ) : Type 0 where
+  pub from-left : t ≤ h
+  pub from-right : u ≤ h
+  pub short : h ≤ 2000
+  pub least : 0 < h
+  pub left-value : left ≤ 200000
+  pub raised-slope : D ≤ 20000
+  pub right-over : a ≤ 40000000
+  pub left-over : b ≤ 40000000
 
 -- the slopes of a segment over the denominator 100 h
 pub record Normal (x₀ y₀ : ℕ) (d₀ : ℤ) (x₁ y₁ : ℕ) (d₁ e₀ g e₁ : ℤ) : Type 0 where
   pub left : e₀ ≡ (pos x₁ -ℤ pos x₀) *ℤ d₀
   pub chord : g ≡ (pos y₁ -ℤ pos y₀) *ℤ pos 100
   pub right : e₁ ≡ (pos x₁ -ℤ pos x₀) *ℤ d₁
-
--- the reading from the left tangent
-pub record Tangent (t h left E : ℕ) (e₀ : ℤ) : Type 0 where
-  pub short : h ≤ 2000
-  pub least : 0 < h
-  pub distance : t ≤ h
-  pub left-value : left ≤ 200000
-  pub slope : natAbs e₀ ≤ 20000000
-  pub above : E ≤ 160000000000
-
-abbrev pub tangent-reading : (t h left E : ℕ) (e₀ : ℤ) → ℤ
-tangent-reading t h left E e₀ =
-    floorDiv (pos ((2 * left + 1) * (100 * h)) +ℤ pos 2 *ℤ (e₀ *ℤ pos t) +ℤ pos E) (2 * (100 * h))

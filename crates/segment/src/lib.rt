@@ -1,10 +1,10 @@
 // One segment: its reading, by two divisions, and its shape.
 ghost use mathlib.Core.Path.{_≡_};
-ghost use Prim.Native.Nat.{_^_, _<_};
+ghost use Prim.Native.Nat.{_/_, _^_, _<_};
 ghost use lib.IntN.{pos, natAbs, _-ℤ_, _*ℤ_};
 ghost use Rattle.segment.specs.Steps as steps;
 ghost use Rattle.model.specs.Facts.{point-of, between, Inside};
-ghost use Rattle.segment.specs.Steps.{Weights, Climbing, rising-reading, Bending, above-tangent, Normal, Tangent, tangent-reading, rises-by, bends-by};
+ghost use Rattle.segment.specs.Steps.{Weights, Climbing, rising-reading, Bending, raised-reading, Normal, rises-by, bends-by};
 ghost use Rattle.exact.specs.Rounding.{round};
 ghost use Rattle.model.specs.Points.{Shape, shape-of};
 ghost use Rattle.model.specs.Interpolant.{interpolant};
@@ -26,21 +26,32 @@ pub fn rising(t: u64, u: u64, left: u64, rise: u64, d0: u64, d1: u64) -> u64
     let h = t + u;
     let g = 100 * rise;
     let a = part(t, u, g, h * d0);
-    let c = part(u, t, g, h * d1);
-    (2 * left + 1 + exact::mul_div(a, 2 * rise, a + c)) / 2
+    let b = a + part(u, t, g, h * d1);
+    left + (a * rise + b / 2) / b
 }
 
-// What a convex curve is above its left tangent, times 2 S; a and b are the end slopes' distances from the chord.
-pub fn above_tangent(t: u64, u: u64, a: u64, b: u64) -> u64
-    requires { ⌜ Bending t u a b ⌝ }
-    ensures { λ r. ⌜ r ≡ above-tangent t u a b ⌝ }
+// 100 times the factor on a convex curve, with 50 for the rounding and 10000 t, so that all is above 0 (d is the left slope plus
+// 10000): right but for the last two digits. a and b are the end slopes' distances from the chord. With w = b t and W = a u + w
+// the curve is w w / (W h) above its left tangent.
+pub fn raised(t: u64, u: u64, h: u64, left: u64, d: u64, a: u64, b: u64) -> u64
+    requires { ⌜ Bending t u h left d a b ⌝ }
+    ensures { λ r. ⌜ r / 100 ≡ raised-reading t u h left d a b ⌝ }
 {
+    let tangent = 50 * (2 * left + 1) + d * t;
     let w = b * t;
-    let divisor = a * u + w;
-    if divisor == 0 {
-        return 0;
+    if w == 0 {
+        return tangent;
     }
-    exact::mul_div(w, 2 * w, divisor)
+    let divisor = a * u + w;
+    if w < 0x1_0000_0000 {
+        return tangent + w * w / (divisor * h);
+    }
+    // w w passes 64 bits. This sum is at most 1 too low, which changes no more than the last two digits unless they are 99.
+    let least = tangent + w / h * w / divisor;
+    if least % 100 != 99 {
+        return least;
+    }
+    tangent + exact::mul_div(w, w, divisor) / h
 }
 
 // a - b
@@ -76,16 +87,6 @@ pub fn slopes_of(x0: u32, y0: u32, d0: i32, x1: u32, y1: u32, d1: i32) -> Slopes
     }
 }
 
-// The left tangent and what the curve is above it, over 2 S with S = 100 h, rounded down.
-fn over_tangent(t: u64, h: u64, left: u64, e0: i64, above: u64) -> i64
-    requires { ⌜ Tangent t h left above e0 ⌝ }
-    ensures { λ r. ⌜ r ≡ tangent-reading t h left above e0 ⌝ }
-{
-    let s = 100 * h;
-    let base = (2 * left + 1) * s + above;
-    exact::floor_div((base as i64) + 2 * (e0 * (t as i64)), (2 * s) as i64)
-}
-
 // The factor at an area of a rising segment. u is h - t, so that t + u is the same for every area.
 fn rising_factor(x0: u32, y0: u32, d0: i32, x1: u32, y1: u32, d1: i32, area: u32) -> i32
     requires { ⌜ Inside Shape.rising (between (point-of x0 y0 d0) (point-of x1 y1 d1)) area ⌝ }
@@ -105,10 +106,12 @@ fn convex_factor(x0: u32, y0: u32, d0: i32, x1: u32, y1: u32, d1: i32, area: u32
     ensures { λ r. ⌜ r ≡ round (interpolant Shape.convex (between (point-of x0 y0 d0) (point-of x1 y1 d1)) area) ⌝ }
 {
     let t = (area - x0) as u64;
-    let u = (x1 - x0) as u64 - t;
+    let u = (x1 - area) as u64;
+    let h = (x1 - x0) as u64;
     let e = slopes_of(x0, y0, d0, x1, y1, d1);
-    let above = above_tangent(t, u, (e.right - e.chord) as u64, (e.chord - e.left) as u64);
-    over_tangent(t, t + u, y0 as u64, e.left, above) as i32
+    let d = (d0 + 10000) as u64;
+    let r = raised(t, u, h, y0 as u64, d, (e.right - e.chord) as u64, (e.chord - e.left) as u64);
+    exact::floor_div((r as i64) - ((10000 * t) as i64), 100) as i32
 }
 
 // The factor at an area of a segment that has its shape.

@@ -11,7 +11,7 @@ use Rattle.exact.specs.Rounding.{round}
 use Rattle.model.specs.Points.{rising}
 use Rattle.model.specs.Interpolant.{interpolant}
 use Rattle.model.specs.Facts.{point-of, between}
-use Rattle.segment.proofs.Bits.{natural}
+use Rattle.exact.proofs.Signed.{natural}
 use Rattle.segment.proofs.Plain.{Rising, rest, rising-inside, flat-inside, reading-fits}
 use Rattle.segment.proofs.rising_factor.Statement.{statement}
 use Rattle.segment.proofs.rising_factor.Tie as tie
