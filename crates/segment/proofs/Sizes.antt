@@ -1,7 +1,7 @@
 -- The sizes of what is computed in a segment.
 -- Assumes nothing.
-use Prim.Native.Nat.{ℕ, _+_, _*_, _/_, _≤_, _<_}
-use native.Mathlib.Nat.{le-of-lt, mul-comm, mul-pos, mul-le-mul, mul-le-mul-left, mul-le-mul-right, le-mul-of-pos-right, div-le-self, div-le-of-le-mul, div-mul-le-self, lt-div-mul-add, add-div-right}
+use Prim.Native.Nat.{ℕ, _+_, _*_, _/_, _^_, _≤_}
+use native.Mathlib.Nat.{mul-le-mul, mul-le-mul-left, mul-le-mul-right, le-mul-of-pos-right, div-le-self, add-div-right}
 use lib.Ieee.Nearest.{div-mono}
 use native.Mathlib.Omega.{arith}
 use Rattle.exact.proofs.Size.{scaled-size}
@@ -47,15 +47,20 @@ module _ {t u left F D₀ D₁ : ℕ} (k : Climbing t u left F D₀ D₁) where
       let m = k .left-value in
       omega (arith, div-le-self (part t u (100 * F) ((t + u) * D₀) * F + whole-part t u F D₀ D₁ / 2) (whole-part t u F D₀ D₁))
 
--- w w / (c h) in two divisions: at most 1 too low
-one-below : {w h c : ℕ} → 0 < h → 0 < c → w ≤ c → (w / h * w / c ≤ w * w / (c * h)) × (w * w / (c * h) ≤ w / h * w / c + 1)
-one-below {w} {h} {c} hh hc m =
-    let low = mul-le-mul-right (w * c) (div-mul-le-self w h) in
-    let high = mul-le-mul-right (w * c) (le-of-lt (lt-div-mul-add {a = w} hh)) in
-    let last = mul-le-mul-right (c * h) m in (
-      div-mono (w / h * w) c (w * w) (c * h) hc (mul-pos hc hh) (omega arith),
-      rw (← add-div-right (w / h * w) hc) (div-mono (w * w) (c * h) (w / h * w + c) c (mul-pos hc hh) hc (omega arith)),
-    )
+-- w w / z by their leading bits: at most 1 too low
+module _ (w x y z : ℕ) (x-low : 32 * x ≤ w) (x-high : w ≤ 32 * x + 31) (y-low : z ≤ 1024 * y) (y-high : 1024 * y ≤ z + 1024) (large : 1000 ≤ w) (small : w * 100 ≤ z) where
+  leading-low : x * x * z ≤ w * w * y
+  leading-low = omega (arith, mul-le-mul-right y (mul-le-mul x-low x-low), mul-le-mul-left (x * x) y-low)
+
+  leading-high : w * w * y ≤ (x * x + y) * z
+  leading-high =
+      let rest : 73 * w + 961 ≤ z = omega arith in
+      let square : w * w ≤ 1024 * (x * x) + 62 * w + 961 = omega (arith, mul-le-mul x-high x-high) in
+      omega (arith, mul-le-mul-right z square, mul-le-mul-left (w * w) y-high, mul-le-mul-right w small, mul-le-mul-right z rest, mul-le-mul-right z y-low)
+
+  one-below : (x * x / y ≤ w * w / z) × (w * w / z ≤ x * x / y + 1)
+  one-below =
+      (div-mono (x * x) y (w * w) z (omega arith) (omega arith) leading-low, rw (← add-div-right (x * x) {k = y} (omega arith)) (div-mono (w * w) z (x * x + y) y (omega arith) (omega arith) leading-high))
 
 -- convex: w, W, the tangent, and what is above it
 module _ {t u h left D a b : ℕ} (k : Bending t u h left D a b) where
@@ -85,15 +90,17 @@ module _ {t u h left D a b : ℕ} (k : Bending t u h left D a b) where
       let n = le-mul-of-pos-right (a * u + b * t) (k .least) in
       scaled-size {x = b * t} {c = (a * u + b * t) * h} (b * t) (omega arith)
 
-  -- w / h is at most b
-  pub scaled-w-size : b * t / h * (b * t) ≤ 3200000000000000000
-  scaled-w-size =
-      let q : b * t / h ≤ b = div-le-of-le-mul h (rw (mul-comm h b) (mul-le-mul-left b (k .from-left))) in
-      let n = k .left-over in
-      omega (arith, mul-le-mul {n₁ = b * t / h} {m₁ = b * t} {n₂ = 40000000} {m₂ = 80000000000} (omega arith) w-size)
+  pub leading-size : b * t / 32 * (b * t / 32) ≤ 6250000000000000000
+  leading-size =
+      let n = w-size in
+      mul-le-mul {n₁ = b * t / 32} {m₁ = b * t / 32} {n₂ = 2500000000} {m₂ = 2500000000} (omega arith) (omega arith)
 
-  pub least-near : 0 < b * t → (b * t / h * (b * t) / (a * u + b * t) ≤ b * t * (b * t) / ((a * u + b * t) * h)) × (b * t * (b * t) / ((a * u + b * t) * h) ≤ b * t / h * (b * t) / (a * u + b * t) + 1)
-  least-near p = one-below {w = b * t} (k .least) (omega arith) (omega arith)
+  pub least-near : 2 ^ 32 ≤ b * t → (b * t / 32 * (b * t / 32) / ((a * u + b * t) * h / 1024 + 1) ≤ b * t * (b * t) / ((a * u + b * t) * h)) × (b * t * (b * t) / ((a * u + b * t) * h) ≤ b * t / 32 * (b * t / 32) / ((a * u + b * t) * h / 1024 + 1) + 1)
+  least-near n =
+      let long = mul-le-mul-right t (k .left-over) in
+      let m = k .from-left in
+      one-below (b * t) (b * t / 32) ((a * u + b * t) * h / 1024 + 1) ((a * u + b * t) * h) (omega arith) (omega arith) (omega arith) (omega arith) (omega arith)
+      (mul-le-mul {n₁ = b * t} {m₁ = 100} {n₂ = a * u + b * t} {m₂ = h} (omega arith) (omega arith))
 
   pub raised-size : raised-reading t u h left D a b ≤ 800600000
   raised-size = omega (arith, tangent-size, w-size, above-size)

@@ -30,9 +30,9 @@ pub fn rising(t: u64, u: u64, left: u64, rise: u64, d0: u64, d1: u64) -> u64
     left + (a * rise + b / 2) / b
 }
 
-// 100 times the factor on a convex curve, with 50 for the rounding and 10000 t, so that all is above 0 (d is the left slope plus
-// 10000): right but for the last two digits. a and b are the end slopes' distances from the chord. With w = b t and W = a u + w
-// the curve is w w / (W h) above its left tangent.
+// 100 times the value of a convex curve, with 50 for the rounding and 10000 t, so that nothing is negative (d is the left slope plus
+// 10000); the last two digits need not be right. a and b are the end slopes' distances from the chord: with w = b t and
+// W = a u + w the curve is w w / (W h) hundredths above its left tangent.
 pub fn raised(t: u64, u: u64, h: u64, left: u64, d: u64, a: u64, b: u64) -> u64
     requires { ⌜ Bending t u h left d a b ⌝ }
     ensures { λ r. ⌜ r / 100 ≡ raised-reading t u h left d a b ⌝ }
@@ -46,8 +46,9 @@ pub fn raised(t: u64, u: u64, h: u64, left: u64, d: u64, a: u64, b: u64) -> u64
     if w < 0x1_0000_0000 {
         return tangent + w * w / (divisor * h);
     }
-    // w w passes 64 bits. This sum is at most 1 too low, which changes no more than the last two digits unless they are 99.
-    let least = tangent + w / h * w / divisor;
+    // w w passes 64 bits. From the leading bits the sum is at most 1 too low, which changes the last two digits alone unless they are 99.
+    let x = w / 32;
+    let least = tangent + x * x / (divisor * h / 1024 + 1);
     if least % 100 != 99 {
         return least;
     }
@@ -110,7 +111,15 @@ fn convex_factor(x0: u32, y0: u32, d0: i32, x1: u32, y1: u32, d1: i32, area: u32
     let h = (x1 - x0) as u64;
     let e = slopes_of(x0, y0, d0, x1, y1, d1);
     let d = (d0 + 10000) as u64;
-    let r = raised(t, u, h, y0 as u64, d, (e.right - e.chord) as u64, (e.chord - e.left) as u64);
+    let r = raised(
+        t,
+        u,
+        h,
+        y0 as u64,
+        d,
+        (e.right - e.chord) as u64,
+        (e.chord - e.left) as u64,
+    );
     exact::floor_div((r as i64) - ((10000 * t) as i64), 100) as i32
 }
 

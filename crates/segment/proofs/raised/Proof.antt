@@ -1,10 +1,11 @@
 -- `segment::raised` meets its contract.
 -- Assumes nothing.
 use borrow.Author.Needs.{needs}
+use mathlib.Core.Path.{refl}
 use native.Mathlib.Nat.{mul-pos, div-div-eq-div-mul}
 use native.Mathlib.Omega.{arith}
 use Rattle.exact.proofs.Size.{product-size}
-use Rattle.segment.proofs.Sizes.{tangent-size, w-size, divisor-size, denominator-size, above-size, scaled-w-size, least-near}
+use Rattle.segment.proofs.Sizes.{tangent-size, w-size, divisor-size, denominator-size, above-size, leading-size, least-near}
 use Rattle.segment.proofs.raised.Statement.{statement}
 use Rattle.segment.proofs.raised.Tie as tie
 
@@ -50,19 +51,22 @@ add-result c =
     omega (arith, tangent-size k, w-size k, above-size k)
 
 returns-2 : tie.Need-returns-2
-returns-2 c = search needs
+returns-2 c = refl
+
+mul-least : tie.Need-mul-least
+mul-least c = omega (arith, leading-size (c .before .before .pre))
+
+mul-least-2 : tie.Need-mul-least-2
+mul-least-2 c = omega (arith, denominator-size (c .before .before .pre))
+
+add-least : tie.Need-add-least
+add-least c = omega (arith, denominator-size (c .before .before .pre))
 
 div-least : tie.Need-div-least
 div-least c = search needs
 
-mul-least : tie.Need-mul-least
-mul-least c = omega (arith, scaled-w-size (c .before .before .pre))
-
-div-least-2 : tie.Need-div-least-2
-div-least-2 c = search needs
-
-add-least : tie.Need-add-least
-add-least c =
+add-least-2 : tie.Need-add-least-2
+add-least-2 c =
     let k = c .before .before .pre in
     let n = least-near k (omega arith) in
     omega (arith, tangent-size k, w-size k, above-size k)
@@ -91,4 +95,4 @@ returns-4 c = rw (c .mul-div .ensures, div-div-eq-div-mul)
 pub raised-spec : {M : Type 1} → statement M
 raised-spec =
     tie.close
-    (tie.spec mul-tangent add-tangent mul-tangent-2 mul-tangent-3 add-tangent-2 mul-w returns mul-divisor add-divisor mul-result mul-result-2 div-result add-result returns-2 div-least mul-least div-least-2 add-least returns-3 mul-div-requires div-result-2 add-result-2 returns-4)
+    (tie.spec mul-tangent add-tangent mul-tangent-2 mul-tangent-3 add-tangent-2 mul-w returns mul-divisor add-divisor mul-result mul-result-2 div-result add-result returns-2 mul-least mul-least-2 add-least div-least add-least-2 returns-3 mul-div-requires div-result-2 add-result-2 returns-4)
