@@ -20,8 +20,7 @@ use Rattle.model.specs.Interpolant.{interpolant}
 use Rattle.model.specs.Check.{bad-lengths, point-rows, Accepted}
 use Rattle.model.specs.Read.{outside, reading}
 use Rattle.model.specs.Sheet.{tabulate}
-use Rattle.model.specs.Facts.{fault-answer}
-use Rattle.model.specs.Facts.{Lengths, point-of, between, Inside}
+use Rattle.model.specs.Facts.{fault-answer, Lengths, point-of, between, Inside}
 use Rattle.lookup.specs.Steps.{Taken, Readable}
 use Rattle.model.proofs.Accepted.{lengths, not-before, outside-before}
 use Rattle.rows.proofs.Faults.{points-from, point-turn, segments-from, segment-turn}

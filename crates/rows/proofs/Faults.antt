@@ -16,8 +16,7 @@ use Rattle.model.specs.Answer.{Answer, gives, refused, row, _then_}
 use Rattle.model.specs.Points.{Point, points, segments, Shape}
 use Rattle.model.specs.Shape.{has-shape}
 use Rattle.model.specs.Check.{bad-area, point-rows, segment-rows}
-use Rattle.model.specs.Facts.{fault-answer}
-use Rattle.model.specs.Facts.{Lengths, between}
+use Rattle.model.specs.Facts.{fault-answer, Lengths, between}
 use Rattle.rows.specs.Steps.{earlier}
 use Rattle.segment.proofs.Bits.{same-test}
 use Rattle.model.proofs.Accepted.{passed, limit-passed}

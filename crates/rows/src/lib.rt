@@ -5,10 +5,8 @@ ghost use mathlib.Core.Option.{none};
 ghost use Prim.Native.Nat.{ℕ, _≤_};
 ghost use lib.ListN.{length};
 ghost use Rattle.model.specs.Points.{points, segments, shape-of};
-ghost use Rattle.model.specs.Shape.{has-shape};
 ghost use Rattle.model.specs.Check.{bad-lengths, bad-code, bad-area, point-rows, segment-rows, curve-rows};
-ghost use Rattle.model.specs.Facts.{fault-answer};
-ghost use Rattle.model.specs.Facts.{Lengths, point-of, between};
+ghost use Rattle.model.specs.Facts.{fault-answer, Lengths, point-of};
 ghost use Rattle.rows.specs.Steps.{earlier};
 
 // A fault's number and place; the number 0 is no fault.

@@ -19,7 +19,7 @@ fn part(t: u64, u: u64, g: u64, e: u64) -> u64
 }
 
 // The factor on a rising curve. t and u are the distances from the two ends, d0 and d1 the slopes in hundredths.
-pub fn rising(t: u64, u: u64, left: u64, rise: u64, d0: u64, d1: u64) -> u64
+fn rising(t: u64, u: u64, left: u64, rise: u64, d0: u64, d1: u64) -> u64
     requires { ⌜ Climbing t u left rise d0 d1 ⌝ }
     ensures { λ r. ⌜ r ≡ rising-reading t u left rise d0 d1 ⌝ }
 {
@@ -33,7 +33,7 @@ pub fn rising(t: u64, u: u64, left: u64, rise: u64, d0: u64, d1: u64) -> u64
 // 100 times the value of a convex curve, with 50 for the rounding and 10000 t, so that nothing is negative (d is the left slope plus
 // 10000); the last two digits need not be right. a and b are the end slopes' distances from the chord: with w = b t and
 // W = a u + w the curve is w w / (W h) hundredths above its left tangent.
-pub fn raised(t: u64, u: u64, h: u64, left: u64, d: u64, a: u64, b: u64) -> u64
+fn raised(t: u64, u: u64, h: u64, left: u64, d: u64, a: u64, b: u64) -> u64
     requires { ⌜ Bending t u h left d a b ⌝ }
     ensures { λ r. ⌜ r / 100 ≡ raised-reading t u h left d a b ⌝ }
 {
@@ -71,13 +71,13 @@ fn scaled(h: i64, d: i32) -> i64
 }
 
 // The slopes of a segment over the denominator 100 h: left end, chord, right end.
-pub struct Slopes {
-    pub left: i64,
-    pub chord: i64,
-    pub right: i64,
+struct Slopes {
+    left: i64,
+    chord: i64,
+    right: i64,
 }
 
-pub fn slopes_of(x0: u32, y0: u32, d0: i32, x1: u32, y1: u32, d1: i32) -> Slopes
+fn slopes_of(x0: u32, y0: u32, d0: i32, x1: u32, y1: u32, d1: i32) -> Slopes
     ensures { λ r. ⌜ Normal x0 y0 d0 x1 y1 d1 (r .left) (r .chord) (r .right) ⌝ }
 {
     let h = difference(x1, x0);

@@ -9,8 +9,7 @@ use lib.ListN.{length}
 use Rattle.model.specs.Answer.{Answer, row, _then_}
 use Rattle.model.specs.Points.{Point, shape-of}
 use Rattle.model.specs.Shape.{has-shape}
-use Rattle.model.specs.Facts.{fault-answer}
-use Rattle.model.specs.Facts.{between}
+use Rattle.model.specs.Facts.{fault-answer, between}
 use Rattle.segment.proofs.Bits.{element-is}
 use Rattle.model.proofs.Indexed.{point}
 use Rattle.rows.proofs.Faults.{segments-from, segment-turn, segment-end}
