@@ -5,7 +5,8 @@
  * then batches of both versions in turn. The ratio is the median over the
  * repetitions of (archive time / plain time).
  *
- * With -DHAVE_SHEET also sheet_factors, which has plain_sheet_factors' form.
+ * With -DHAVE_SHEET also sheet_factors, which takes the same arguments as
+ * plain_sheet_factors; its 0 for a refusal does not occur here.
  */
 #define _POSIX_C_SOURCE 199309L
 #include <stdio.h>

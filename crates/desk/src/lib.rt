@@ -17,7 +17,7 @@ fn refusal(number: u32) -> i32
     -1000000 - (number as i32)
 }
 
-// Rows 1 to 7 of the file's first n points.
+// Rows 1 to 7 of the file's first n points, and the factor.
 fn read_points(bytes: &[u8], n: usize, shape: u32, area: u32) -> Reading
     requires { ⌜ 7 + 12 * n ≤ length (now bytes) ⌝ }
     ensures { λ r. ⌜ reading-answer r ≡ read-answer (areas-of (now (bytes .entry)) n) (values-of (now (bytes .entry)) n) (slopes-of (now (bytes .entry)) n) shape area ⌝ }

@@ -28,7 +28,7 @@ pub record Greatest (x : Fraction) (k : ℤ) : Type 0 where
 abbrev pub FloorIsGreatest : Type 0
 FloorIsGreatest = (x : Fraction) → Proper x → Greatest x (floor x)
 
--- The public face of the rounding: it keeps order, and is at most one half off, upwards only where it is exactly that.
+-- The public face of the rounding: it keeps order, and is at most one half off; where it is exactly one half, upwards.
 abbrev pub RoundKeepsOrder : Type 0
 RoundKeepsOrder = (x y : Fraction) → Proper x → Proper y → x ≤ℚ y → round x ≤ℤ round y
 

@@ -7,8 +7,8 @@ ghost use Rattle.file.specs.Open.{short-list, open-answer, open-list};
 ghost use Rattle.file.specs.Calls.{opened-answer};
 ghost use Rattle.file.specs.Steps.{Room};
 
-// Writes the file's first n points into the first entries of the lists. It asks that all of them are there, since its callers
-// have tested that.
+// Writes the file's first n points into the first entries of the lists. It asks that the file has them and the lists have room,
+// which `open` has tested.
 fn decode(bytes: &[u8], n: usize, areas: &mut [u32], values: &mut [u32], slopes: &mut [i32])
     requires { ⌜ Room n (length (now bytes)) (length (now areas)) (length (now values)) (length (now slopes)) ⌝ }
     ensures areas { λ _. ⌜ now (areas .exit) ≡ areas-of (now (bytes .entry)) n ++ drop n (now (areas .entry)) ⌝ }

@@ -1,4 +1,4 @@
--- What private functions ask and give. Nothing here need be believed: the calls' contracts cite the definitions of document 01.
+-- What functions of this crate ask and give. Nothing here need be believed: the calls' contracts cite the definitions of document 01.
 -- Assumes nothing.
 use mathlib.Core.Path.{_≡_}
 use mathlib.Core.Bool.{Bool, true, false}

@@ -178,7 +178,7 @@ pub convex-middle : ConvexMiddle
 convex-middle c e x k k₀ k₁ k₂ =
     middle _ _ _ _ (pos x) (pos k) (values-are-proper c x k₀) (values-are-proper c (x + k) k₁) (values-are-proper c (x + 2 * k) k₂) (σ-proper c e (x + k) k₁) (supports c e (x + k) x k₁ k₀) (supports c e (x + k) (x + 2 * k) k₁ k₂)
 
--- three roundings, each at most half a unit off, upwards only where it is exactly that
+-- three roundings, each at most half a unit off, and upwards where it is exactly half a unit
 rounded-middle : (v₀ v₁ v₂ : Fraction) (r₀ r₁ r₂ : ℤ) → Proper v₀ → Proper v₁ → Proper v₂ → v₀ -ℚ (pos 1 over pos 2) <ℚ whole r₀ → whole r₁ ≤ℚ v₁ +ℚ (pos 1 over pos 2) → v₂ -ℚ (pos 1 over pos 2) <ℚ whole r₂ → whole (pos 2) *ℚ v₁ ≤ℚ v₀ +ℚ v₂ → (r₁ -ℤ r₀ -ℤ pos 1) ≤ℤ (r₂ -ℤ r₁)
 rounded-middle v₀ v₁ v₂ r₀ r₁ r₂ p₀ p₁ p₂ h₀ h₁ h₂ m =
     Z.≤-of-< (whole-< _ _ (Q.<-by (search propers) (search propers)

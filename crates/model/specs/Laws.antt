@@ -62,7 +62,7 @@ RatedPointsRead =
 abbrev pub ValuesAreProper : Type 0
 ValuesAreProper = (c : Curve) (x : ℕ) → Area c x → Proper (value-at c x)
 
--- at most half a unit off, and upwards only where it is exactly that
+-- at most half a unit off; where it is exactly half a unit, upwards
 abbrev pub FactorsAreNear : Type 0
 FactorsAreNear =
     (c : Curve) (x : ℕ) → Area c x →
@@ -100,7 +100,7 @@ ConvexChords =
     (c : Curve) → c .code ≡ 2 → (x₁ x₂ x₃ x₄ : ℕ) → Area c x₁ → Area c x₂ → Area c x₃ → Area c x₄ → x₁ < x₂ → x₂ ≤ x₃ → x₃ < x₄ →
     Proper (chord-slope c x₁ x₂) × Proper (chord-slope c x₃ x₄) × (chord-slope c x₁ x₂ ≤ℚ chord-slope c x₃ x₄)
 
--- of three areas equally far apart
+-- of three areas equally far apart, twice the middle value is at most the sum of the outer ones
 abbrev pub ConvexMiddle : Type 0
 ConvexMiddle =
     (c : Curve) → c .code ≡ 2 → (x k : ℕ) → Area c x → Area c (x + k) → Area c (x + 2 * k) →

@@ -1,4 +1,4 @@
--- Document 01 in definitions, in the document's order; then what is proved of them.
+-- Document 01 in definitions, each after those it uses; then its laws, and facts for inner contracts.
 pub mod Answer
 pub mod Points
 pub mod Interpolant

@@ -19,7 +19,7 @@ use Rattle.model.specs.Read.{outside, reading, read-answer}
 use Rattle.model.specs.Sheet.{bad-sheet, entry-area, entry-rows, tabulate, sheet-answer, sheet-list}
 use Rattle.model.proofs.Accepted.{then-first, then-rest, row-passed}
 use Rattle.model.proofs.Answers.{gives-injective, given, gives-reading}
-use Rattle.model.proofs.Laws.{factors-are-near, rising-factors, convex-chords, convex-steps}
+use Rattle.model.proofs.Laws.{values-are-proper, factors-are-near, rising-factors, convex-chords, convex-steps}
 use Rattle.model.proofs.SheetRows.{rows-inside}
 use Rattle.layout.specs.Layout.{shape-code, count, areas-of, values-of, slopes-of}
 use Rattle.layout.specs.Head.{head-rows}
@@ -150,7 +150,8 @@ pub half-a-unit : D.HalfAUnit
 half-a-unit c x f r =
     let k = is r in
     let n = factors-are-near c x (k .area) in
-    subst (λ (z : ℤ). (value-at c x -ℚ (pos 1 over pos 2) ≤ℚ whole z) × (whole z ≤ℚ value-at c x +ℚ (pos 1 over pos 2))) (k .factor) (<-weak (n .0), n .1)
+    let near = subst (λ (z : ℤ). (value-at c x -ℚ (pos 1 over pos 2) ≤ℚ whole z) × (whole z ≤ℚ value-at c x +ℚ (pos 1 over pos 2))) (k .factor) (<-weak (n .0), n .1) in
+    (values-are-proper c x (k .area), near .0, near .1)
 
 pub same-factor : D.SameFactor
 same-factor c x f g r s = sym (is r .factor) ∙ is s .factor

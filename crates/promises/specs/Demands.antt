@@ -33,11 +33,11 @@ DeskRefusesBy11 =
     (c : Curve) (bytes : List ℕ) (x scratch : ℕ) → FileOf c bytes → Area c x →
     (number place : ℕ) → desk-answer bytes x scratch ≡ refused number place → number ≡ 11
 
--- each factor is at most half a unit off
+-- each factor is at most half a unit off the exact value, whose denominator is above 0
 abbrev pub HalfAUnit : Type 0
 HalfAUnit =
     (c : Curve) (x : ℕ) (f : ℤ) → FactorRead c x f →
-    (value-at c x -ℚ (pos 1 over pos 2) ≤ℚ whole f) × (whole f ≤ℚ value-at c x +ℚ (pos 1 over pos 2))
+    Proper (value-at c x) × (value-at c x -ℚ (pos 1 over pos 2) ≤ℚ whole f) × (whole f ≤ℚ value-at c x +ℚ (pos 1 over pos 2))
 
 -- the same area reads the same factor whichever call reads it
 abbrev pub SameFactor : Type 0

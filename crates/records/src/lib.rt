@@ -131,7 +131,7 @@ pub fn outside(bytes: &[u8], n: usize, area: u32) -> bool
     area_of(bytes, n - 1) < area
 }
 
-// Every eighth point, to the last of them whose area is not above the area.
+// Every eighth point that begins a segment, to the last of them whose area is not above the area.
 fn skip(bytes: &[u8], n: usize, area: u32) -> usize
     requires { ⌜ Several n (length (now bytes)) × (area-at (now bytes) 0 ≤ area) ⌝ }
     ensures { λ r. ⌜ (r + 1 < n) × (area-at (now (bytes .entry)) r ≤ area) ⌝ }

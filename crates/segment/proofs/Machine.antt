@@ -1,4 +1,4 @@
--- The reading of a segment by two divisions, and the sizes of all that is computed on the way.
+-- The reading of a segment as one rounding by two divisions.
 -- Assumes nothing.
 use mathlib.Core.Path.{_≡_, refl, sym, _∙_, ap, ap₂}
 use mathlib.Core.List.{[], _∷_}

@@ -1,4 +1,4 @@
-// One segment: its reading, by one division, and its shape.
+// One segment: its reading, by one division other than by constants, and its shape.
 ghost use mathlib.Core.Path.{_≡_};
 ghost use Prim.Native.Nat.{_/_, _^_, _<_};
 ghost use lib.IntN.{pos, natAbs, _-ℤ_, _*ℤ_};
