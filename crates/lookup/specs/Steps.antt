@@ -24,7 +24,7 @@ pub record Taken (areas : List ℕ) (i x : ℕ) : Type 0 where
   pub high : (x < getD areas (suc i) 0) ⊎ (suc (suc i) ≡ length areas)
 
 -- whether the segment at an index is taken; if not, the next is reached
-pub record Told (areas : List ℕ) (i x : ℕ) (r : Bool) : Type 0 where
+pub record TakesResult (areas : List ℕ) (i x : ℕ) (r : Bool) : Type 0 where
   pub yes : r ≡ true → Taken areas i x
   pub no : r ≡ false → Reached areas (suc i) x
 
@@ -52,13 +52,13 @@ pub record Fillable (areas values : List ℕ) (slopes : List ℤ) (code start st
   pub inside : (i : ℕ) → i < n → outside areas (entry-area start step i) ≡ false
 
 -- the next entry of these, and the segment that it takes
-pub record Begun (areas values : List ℕ) (slopes : List ℤ) (code k start step index n : ℕ) : Type 0 where
+pub record NextEntry (areas values : List ℕ) (slopes : List ℤ) (code k start step index n : ℕ) : Type 0 where
   pub entries : Fillable areas values slopes code start step n
   pub left : index < n
   pub taken : Taken areas k (entry-area start step index)
 
 -- the entries from index up to next are filled too
-pub record Advanced (f : ℕ → ℤ) (index next : ℕ) (before after : List ℤ) : Type 0 where
+pub record FilledUpTo (f : ℕ → ℤ) (index next : ℕ) (before after : List ℤ) : Type 0 where
   pub more : index < next
   pub most : next ≤ length before
   pub filled : (found : List ℤ) → Filling f index found before → Filling f next found after

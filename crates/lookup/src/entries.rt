@@ -5,7 +5,7 @@ ghost use lib.ListN.{length};
 ghost use Rattle.model.specs.Read.{reading};
 ghost use Rattle.model.specs.Sheet.{bad-sheet, entry-area, entry-rows, tabulate};
 ghost use Rattle.model.specs.Facts.{first-answer};
-ghost use Rattle.lookup.specs.Steps.{Fillable, Begun, Advanced};
+ghost use Rattle.lookup.specs.Steps.{Fillable, NextEntry, FilledUpTo};
 
 // Row 8.
 pub fn bad_sheet(step: u32, n: usize) -> bool
@@ -51,8 +51,8 @@ fn fill_segment(
     index: usize,
     out: &mut [i32],
 ) -> usize
-    requires { ⌜ Begun (now areas) (now values) (now slopes) shape k start step index (length (now out)) ⌝ }
-    ensures { λ r. ⌜ Advanced (λ i. reading (now (areas .entry)) (now (values .entry)) (now (slopes .entry)) shape (entry-area start step i)) index r (now (out .entry)) (now (out .exit)) ⌝ }
+    requires { ⌜ NextEntry (now areas) (now values) (now slopes) shape k start step index (length (now out)) ⌝ }
+    ensures { λ r. ⌜ FilledUpTo (λ i. reading (now (areas .entry)) (now (values .entry)) (now (slopes .entry)) shape (entry-area start step i)) index r (now (out .entry)) (now (out .exit)) ⌝ }
 {
     let ends = super::ends_at(areas, values, slopes, k);
     let mut i = index;

@@ -7,7 +7,7 @@ ghost use Rattle.model.specs.Points.{shape-of};
 ghost use Rattle.model.specs.Interpolant.{interpolant};
 ghost use Rattle.model.specs.Read.{outside as lies-outside};
 ghost use Rattle.model.specs.Facts.{point-of, between, Inside};
-ghost use Rattle.lookup.specs.Steps.{Reached, Taken, Told, Inner, segment-at};
+ghost use Rattle.lookup.specs.Steps.{Reached, Taken, TakesResult, Inner, segment-at};
 
 pub mod entries;
 
@@ -25,7 +25,7 @@ pub fn outside(areas: &[u32], area: u32) -> bool
 // Whether an area takes the segment at i, whose left area is not above it.
 pub fn takes(areas: &[u32], i: usize, area: u32) -> bool
     requires { ⌜ Reached (now areas) i area ⌝ }
-    ensures { λ r. ⌜ Told (now (areas .entry)) i area r ⌝ }
+    ensures { λ r. ⌜ TakesResult (now (areas .entry)) i area r ⌝ }
 {
     if i + 2 == areas.len() {
         return true;

@@ -28,7 +28,7 @@ use Rattle.model.proofs.Indexed.{point}
 use Rattle.lookup.proofs.Readable.{inside, reading-is}
 use Rattle.model.proofs.Filling.{tabulate-length}
 use Rattle.layout.specs.Layout.{area-at, value-at, slope-at, areas-of, values-of, slopes-of}
-use Rattle.records.specs.Steps.{Several}
+use Rattle.records.specs.Steps.{CurvePoints}
 
 module _ {A : Type 0} (f : ℕ → A) (d : A) where
   at-index : (j i n : ℕ) → i < n → getD (tabulate f j n) i d ≡ f (j + i)
@@ -50,7 +50,7 @@ module _ (bytes : List ℕ) (n : ℕ) where
   abbrev pub at : ℕ → Point
   at = point (areas-of bytes n) (values-of bytes n) (slopes-of bytes n)
 
-  pub all-lengths : {k : ℕ} → Several n k → Lengths (length (areas-of bytes n)) (length (values-of bytes n)) (length (slopes-of bytes n))
+  pub all-lengths : {k : ℕ} → CurvePoints n k → Lengths (length (areas-of bytes n)) (length (values-of bytes n)) (length (slopes-of bytes n))
   all-lengths s =
       let v = tabulate-length (value-at bytes) 0 n in
       let w = tabulate-length (slope-at bytes) 0 n in
@@ -78,7 +78,7 @@ module _ (bytes : List ℕ) (n : ℕ) where
   first-reached {x} h e = rw (tabulated (area-at bytes) 0 0 n h) at (not-before (areas-of bytes n) x e)
 
   -- what an accepted curve has of points
-  pub several : {code m : ℕ} → Accepted (areas-of bytes n) (values-of bytes n) (slopes-of bytes n) code → 7 + 12 * n ≤ m → Several n m
+  pub several : {code m : ℕ} → Accepted (areas-of bytes n) (values-of bytes n) (slopes-of bytes n) code → 7 + 12 * n ≤ m → CurvePoints n m
   several a h =
       let k = lengths a in
       record { file = h; least = omega (arith, size, k .least); most = omega (arith, size, k .most) }
@@ -108,7 +108,7 @@ module _ (bytes : List ℕ) (n : ℕ) where
     pub reading-of : round (interpolant (shape-of code) (between p q) x) ≡ reading (areas-of bytes n) (values-of bytes n) (slopes-of bytes n) code x
     reading-of = rw (e, f) (sym (reading-is k))
 
-  module _ {m : ℕ} (s : Several n m) (i : ℕ) where
+  module _ {m : ℕ} (s : CurvePoints n m) (i : ℕ) where
     pub point-done : {p : Point} (before : Option ℕ) (number : ℕ) → i < n → p ≡ at i → fault-answer number i ≡ point-rows i before (p ∷ []) → (fault-answer number i then points-from (areas-of bytes n) (values-of bytes n) (slopes-of bytes n) (some (p .area)) (i + 1)) ≡ points-from (areas-of bytes n) (values-of bytes n) (slopes-of bytes n) before i
     point-done {p} before number h e f =
         rw (f, e) (sym (point-turn (areas-of bytes n) (values-of bytes n) (slopes-of bytes n) (all-lengths s) before i (rw size h)))

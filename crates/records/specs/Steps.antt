@@ -10,7 +10,7 @@ use Rattle.model.specs.Check.{point-rows, segment-rows}
 use Rattle.layout.specs.Layout.{areas-of, values-of, slopes-of}
 
 -- as many points as a curve has are in a file of so many bytes
-pub record Several (n bytes : ℕ) : Type 0 where
+pub record CurvePoints (n bytes : ℕ) : Type 0 where
   pub file : 7 + 12 * n ≤ bytes
   pub least : 2 ≤ n
   pub most : n ≤ 64

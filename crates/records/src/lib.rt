@@ -11,14 +11,14 @@ ghost use Rattle.model.specs.Facts.{fault-answer};
 ghost use Rattle.lookup.specs.Steps.{Taken, Readable};
 ghost use Rattle.layout.specs.Layout.{area-at, areas-of, values-of, slopes-of};
 ghost use Rattle.layout.specs.Steps.{Holds};
-ghost use Rattle.records.specs.Steps.{Several, NoFault};
+ghost use Rattle.records.specs.Steps.{CurvePoints, NoFault};
 use layout::area_of;
 use layout::record_at;
 use rows::Fault;
 
 // Rows 3, 4 and 5: the first bad point of n.
 fn points_fault(bytes: &[u8], n: usize) -> Fault
-    requires { ⌜ Several n (length (now bytes)) ⌝ }
+    requires { ⌜ CurvePoints n (length (now bytes)) ⌝ }
     ensures { λ r. ⌜ fault-answer (r .number) (r .place) ≡ point-rows 0 none (points (areas-of (now (bytes .entry)) n) (values-of (now (bytes .entry)) n) (slopes-of (now (bytes .entry)) n)) ⌝ }
 {
     let mut number: u32 = 0;
@@ -41,7 +41,7 @@ fn points_fault(bytes: &[u8], n: usize) -> Fault
 
 // Row 6: the first segment without its shape, at its left point.
 fn segments_fault(bytes: &[u8], n: usize, shape: u32) -> Fault
-    requires { ⌜ Several n (length (now bytes)) ⌝ }
+    requires { ⌜ CurvePoints n (length (now bytes)) ⌝ }
     ensures { λ r. ⌜ fault-answer (r .number) (r .place) ≡ segment-rows 0 (shape-of shape) (segments (points (areas-of (now (bytes .entry)) n) (values-of (now (bytes .entry)) n) (slopes-of (now (bytes .entry)) n))) ⌝ }
 {
     let last = n - 1;
@@ -66,7 +66,7 @@ fn segments_fault(bytes: &[u8], n: usize, shape: u32) -> Fault
 
 // Rows 3 to 6 in one pass. Where it finds a fault it does not say which.
 fn all_pass(bytes: &[u8], n: usize, shape: u32) -> bool
-    requires { ⌜ Several n (length (now bytes)) ⌝ }
+    requires { ⌜ CurvePoints n (length (now bytes)) ⌝ }
     ensures { λ r. ⌜ (r ≡ true → NoFault (now (bytes .entry)) n shape) ⌝ }
 {
     let first = record_at(bytes, 0);
@@ -122,7 +122,7 @@ pub fn curve_fault(bytes: &[u8], n: usize, shape: u32) -> Fault
 
 // Row 7 of the first n points.
 pub fn outside(bytes: &[u8], n: usize, area: u32) -> bool
-    requires { ⌜ Several n (length (now bytes)) ⌝ }
+    requires { ⌜ CurvePoints n (length (now bytes)) ⌝ }
     ensures { λ r. ⌜ r ≡ lies-outside (areas-of (now (bytes .entry)) n) area ⌝ }
 {
     if area < area_of(bytes, 0) {
@@ -133,7 +133,7 @@ pub fn outside(bytes: &[u8], n: usize, area: u32) -> bool
 
 // Every eighth point that begins a segment, to the last of them whose area is not above the area.
 fn skip(bytes: &[u8], n: usize, area: u32) -> usize
-    requires { ⌜ Several n (length (now bytes)) × (area-at (now bytes) 0 ≤ area) ⌝ }
+    requires { ⌜ CurvePoints n (length (now bytes)) × (area-at (now bytes) 0 ≤ area) ⌝ }
     ensures { λ r. ⌜ (r + 1 < n) × (area-at (now (bytes .entry)) r ≤ area) ⌝ }
 {
     let mut i: usize = 0;
@@ -148,7 +148,7 @@ fn skip(bytes: &[u8], n: usize, area: u32) -> usize
 
 // The index of the left point of the segment that the area takes.
 pub fn find(bytes: &[u8], n: usize, area: u32) -> usize
-    requires { ⌜ Several n (length (now bytes)) × (area-at (now bytes) 0 ≤ area) ⌝ }
+    requires { ⌜ CurvePoints n (length (now bytes)) × (area-at (now bytes) 0 ≤ area) ⌝ }
     ensures { λ r. ⌜ Taken (areas-of (now (bytes .entry)) n) r area ⌝ }
 {
     let mut i = skip(bytes, n, area);
@@ -163,7 +163,7 @@ pub fn find(bytes: &[u8], n: usize, area: u32) -> usize
 
 // The factor at an area that takes the segment at i.
 pub fn factor_at(bytes: &[u8], n: usize, shape: u32, i: usize, area: u32) -> i32
-    requires { ⌜ Several n (length (now bytes)) × Readable (areas-of (now bytes) n) (values-of (now bytes) n) (slopes-of (now bytes) n) shape i area ⌝ }
+    requires { ⌜ CurvePoints n (length (now bytes)) × Readable (areas-of (now bytes) n) (values-of (now bytes) n) (slopes-of (now bytes) n) shape i area ⌝ }
     ensures { λ r. ⌜ r ≡ reading (areas-of (now (bytes .entry)) n) (values-of (now (bytes .entry)) n) (slopes-of (now (bytes .entry)) n) shape area ⌝ }
 {
     let p = record_at(bytes, i);

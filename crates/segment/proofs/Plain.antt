@@ -20,7 +20,7 @@ use Rattle.model.specs.Points.{Point, gradient, Segment, Shape, rising, convex}
 use Rattle.model.specs.Interpolant.{interpolant}
 use Rattle.model.specs.Shape.{fits, has-shape}
 use Rattle.model.specs.Facts.{Inside}
-use Rattle.segment.specs.Steps.{Ends, Climbing, rising-reading, Bending, raised-reading}
+use Rattle.segment.specs.Steps.{Ends, RisingInput, rising-reading, ConvexInput, raised-reading}
 use Rattle.model.proofs.Curves.{Rise, climbs, flat, Bend, bent, straight, rise-kind, bend-kind}
 use Rattle.model.proofs.Segments.{gap, rise, g, e₀, e₁, a, b, interpolant-proper}
 use Rattle.segment.proofs.Numbers.{gap-is, segment-rising, segment-flat, segment-convex}
@@ -73,7 +73,7 @@ pub record Rising (s : Segment) (x : ℕ) : Type 0 where
   pub up : s .left .value ≤ s .right .value
   pub left-slope : s .left .slope ≡ pos (natAbs (s .left .slope))
   pub right-slope : s .right .slope ≡ pos (natAbs (s .right .slope))
-  pub climbing : Climbing (x - s .left .area) (s .right .area - x) (s .left .value) (s .right .value - s .left .value) (natAbs (s .left .slope)) (natAbs (s .right .slope))
+  pub climbing : RisingInput (x - s .left .area) (s .right .area - x) (s .left .value) (s .right .value - s .left .value) (natAbs (s .left .slope)) (natAbs (s .right .slope))
   pub reading : round (interpolant rising s x) ≡ pos (rising-reading (x - s .left .area) (s .right .area - x) (s .left .value) (s .right .value - s .left .value) (natAbs (s .left .slope)) (natAbs (s .right .slope)))
 
 nonneg-slope : (p : Point) → NonNeg (gradient p) → p .slope ≡ pos (natAbs (p .slope))
@@ -124,7 +124,7 @@ pub record Convex (s : Segment) (x : ℕ) : Type 0 where
   pub raised-slope : s .left .slope +ℤ pos 10000 ≡ pos (natAbs (s .left .slope +ℤ pos 10000))
   pub right-over : a s ≡ pos (natAbs (a s))
   pub left-over : b s ≡ pos (natAbs (b s))
-  pub bending : Bending (x - s .left .area) (s .right .area - x) (s .right .area - s .left .area) (s .left .value) (natAbs (s .left .slope +ℤ pos 10000)) (natAbs (a s)) (natAbs (b s))
+  pub bending : ConvexInput (x - s .left .area) (s .right .area - x) (s .right .area - s .left .area) (s .left .value) (natAbs (s .left .slope +ℤ pos 10000)) (natAbs (a s)) (natAbs (b s))
   pub reading : round (interpolant convex s x) +ℤ pos (100 * (x - s .left .area)) ≡ pos (raised-reading (x - s .left .area) (s .right .area - x) (s .right .area - s .left .area) (s .left .value) (natAbs (s .left .slope +ℤ pos 10000)) (natAbs (a s)) (natAbs (b s)))
 
 -- the chord is not below the left slope, nor above the right

@@ -5,7 +5,7 @@ use native.Mathlib.Nat.{mul-le-mul, mul-le-mul-left, mul-le-mul-right, le-mul-of
 use lib.Ieee.Nearest.{div-mono}
 use native.Mathlib.Omega.{arith}
 use Rattle.exact.proofs.Size.{scaled-size}
-use Rattle.segment.specs.Steps.{part, whole-part, Weights, Climbing, rising-reading, Bending, raised-reading}
+use Rattle.segment.specs.Steps.{part, whole-part, Weights, RisingInput, rising-reading, ConvexInput, raised-reading}
 
 -- a sum weighted by the distances from the two ends
 pub blend-size : {t u g e : ℕ} → Weights t u g e → g * t + e * u ≤ 40000000000
@@ -20,7 +20,7 @@ part-size {t} k = mul-le-mul-left t (blend-size k)
 pub slope-size : {h d : ℕ} → h ≤ 2000 → d ≤ 10000 → h * d ≤ 20000000
 slope-size {h} {d} n k = omega (arith, mul-le-mul-right d n)
 
-module _ {t u left F D₀ D₁ : ℕ} (k : Climbing t u left F D₀ D₁) where
+module _ {t u left F D₀ D₁ : ℕ} (k : RisingInput t u left F D₀ D₁) where
   pub from-left : Weights t u (100 * F) ((t + u) * D₀)
   from-left = record { ends = k .ends; first = (let n = k .rise in omega arith); second = slope-size (k .ends .most) (k .left-slope) }
 
@@ -63,7 +63,7 @@ module _ (w x y z : ℕ) (x-low : 32 * x ≤ w) (x-high : w ≤ 32 * x + 31) (y-
       (div-mono (x * x) y (w * w) z (omega arith) (omega arith) leading-low, rw (← add-div-right (x * x) {k = y} (omega arith)) (div-mono (w * w) z (x * x + y) y (omega arith) (omega arith) leading-high))
 
 -- convex: w, W, the tangent, and what is above it
-module _ {t u h left D a b : ℕ} (k : Bending t u h left D a b) where
+module _ {t u h left D a b : ℕ} (k : ConvexInput t u h left D a b) where
   pub tangent-size : 50 * (2 * left + 1) + D * t ≤ 60000050
   tangent-size =
       let n = k .left-value in

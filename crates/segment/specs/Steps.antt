@@ -41,7 +41,7 @@ abbrev pub rising-reading : (t u left F D₀ D₁ : ℕ) → ℕ
 rising-reading t u left F D₀ D₁ =
     left + (part t u (100 * F) ((t + u) * D₀) * F + whole-part t u F D₀ D₁ / 2) / whole-part t u F D₀ D₁
 
-pub record Climbing (t u left F D₀ D₁ : ℕ) : Type 0 where
+pub record RisingInput (t u left F D₀ D₁ : ℕ) : Type 0 where
   pub ends : Ends t u
   pub left-value : left ≤ 200000
   pub rise : F ≤ 200000
@@ -54,7 +54,7 @@ pub record Climbing (t u left F D₀ D₁ : ℕ) : Type 0 where
 abbrev pub raised-reading : (t u h left D a b : ℕ) → ℕ
 raised-reading t u h left D a b = (50 * (2 * left + 1) + D * t + b * t * (b * t) / ((a * u + b * t) * h)) / 100
 
-pub record Bending (t u h left D a b : ℕ) : Type 0 where
+pub record ConvexInput (t u h left D a b : ℕ) : Type 0 where
   pub from-left : t ≤ h
   pub from-right : u ≤ h
   pub short : h ≤ 2000

@@ -4,7 +4,7 @@ ghost use Prim.Native.Nat.{_/_, _^_, _<_};
 ghost use lib.IntN.{pos, natAbs, _-ℤ_, _*ℤ_};
 ghost use Rattle.segment.specs.Steps as steps;
 ghost use Rattle.model.specs.Facts.{point-of, between, Inside};
-ghost use Rattle.segment.specs.Steps.{Weights, Climbing, rising-reading, Bending, raised-reading, Normal, rises-by, bends-by};
+ghost use Rattle.segment.specs.Steps.{Weights, RisingInput, rising-reading, ConvexInput, raised-reading, Normal, rises-by, bends-by};
 ghost use Rattle.exact.specs.Rounding.{round};
 ghost use Rattle.model.specs.Points.{Shape, shape-of};
 ghost use Rattle.model.specs.Interpolant.{interpolant};
@@ -20,7 +20,7 @@ fn part(t: u64, u: u64, g: u64, e: u64) -> u64
 
 // The factor on a rising curve. t and u are the distances from the two ends, d0 and d1 the slopes in hundredths.
 fn rising(t: u64, u: u64, left: u64, rise: u64, d0: u64, d1: u64) -> u64
-    requires { ⌜ Climbing t u left rise d0 d1 ⌝ }
+    requires { ⌜ RisingInput t u left rise d0 d1 ⌝ }
     ensures { λ r. ⌜ r ≡ rising-reading t u left rise d0 d1 ⌝ }
 {
     let h = t + u;
@@ -34,7 +34,7 @@ fn rising(t: u64, u: u64, left: u64, rise: u64, d0: u64, d1: u64) -> u64
 // 10000); the last two digits need not be right. a and b are the end slopes' distances from the chord: with w = b t and
 // W = a u + w the curve is w w / (W h) hundredths above its left tangent.
 fn raised(t: u64, u: u64, h: u64, left: u64, d: u64, a: u64, b: u64) -> u64
-    requires { ⌜ Bending t u h left d a b ⌝ }
+    requires { ⌜ ConvexInput t u h left d a b ⌝ }
     ensures { λ r. ⌜ r / 100 ≡ raised-reading t u h left d a b ⌝ }
 {
     let tangent = 50 * (2 * left + 1) + d * t;

@@ -16,7 +16,7 @@ use Rattle.model.specs.Read.{outside, read-answer}
 use Rattle.curve.specs.Calls.{reading-answer}
 use Rattle.rows.proofs.Faults.{a-fault, no-fault}
 use Rattle.layout.specs.Layout.{areas-of, values-of, slopes-of}
-use Rattle.records.specs.Steps.{Several}
+use Rattle.records.specs.Steps.{CurvePoints}
 use Rattle.records.proofs.Placed.{several, first-reached}
 use Rattle.desk.proofs.read_points.Statement.{statement}
 use Rattle.desk.proofs.read_points.Tie as tie
@@ -42,7 +42,7 @@ module _ (c : tie.Else1) where
   accepted : Accepted (areas-of bytes n) (values-of bytes n) (slopes-of bytes n) (start .args .shape)
   accepted = record { none-applies = sym (c .before .before .curve-fault .ensures) ∙ no-fault _ (c .if1 .left) }
 
-  enough : Several n (length bytes)
+  enough : CurvePoints n (length bytes)
   enough = several bytes n accepted (start .pre)
 
 outside-requires : tie.Need-outside-requires
