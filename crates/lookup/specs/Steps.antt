@@ -5,13 +5,12 @@ use mathlib.Core.Bool.{Bool, true, false}
 use mathlib.Core.List.{List}
 use mathlib.Core.Logic.{_⊎_}
 use Prim.Native.Nat.{ℕ, suc, _≤_, _<_}
-use lib.IntN.{ℤ, pos}
+use lib.IntN.{ℤ}
 use lib.ListN.{length, getD}
-use Rattle.model.specs.Points.{Segment}
 use Rattle.model.specs.Check.{Accepted}
 use Rattle.model.specs.Read.{outside}
 use Rattle.model.specs.Sheet.{entry-area}
-use Rattle.model.specs.Facts.{point-of, between, Filling}
+use Rattle.model.specs.Facts.{Filling}
 
 -- the area at an index is not above the area read
 pub record Reached (areas : List ℕ) (i x : ℕ) : Type 0 where
@@ -33,11 +32,6 @@ pub record Inner (areas values : List ℕ) (slopes : List ℤ) (i : ℕ) : Type 
   pub area-too : suc i < length areas
   pub value-too : suc i < length values
   pub slope-too : suc i < length slopes
-
-abbrev pub segment-at : List ℕ → List ℕ → List ℤ → ℕ → Segment
-segment-at areas values slopes i =
-    between (point-of (getD areas i 0) (getD values i 0) (getD slopes i (pos 0)))
-    (point-of (getD areas (suc i) 0) (getD values (suc i) 0) (getD slopes (suc i) (pos 0)))
 
 -- an area of an accepted curve, and the index of the segment that it takes
 pub record Readable (areas values : List ℕ) (slopes : List ℤ) (code i x : ℕ) : Type 0 where

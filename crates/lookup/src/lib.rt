@@ -6,8 +6,8 @@ ghost use Rattle.exact.specs.Rounding.{round};
 ghost use Rattle.model.specs.Points.{shape-of};
 ghost use Rattle.model.specs.Interpolant.{interpolant};
 ghost use Rattle.model.specs.Read.{outside as lies-outside};
-ghost use Rattle.model.specs.Facts.{point-of, between, Inside};
-ghost use Rattle.lookup.specs.Steps.{Reached, Taken, TakesResult, Inner, segment-at};
+ghost use Rattle.model.specs.Facts.{point-of, between, segment-at, Inside};
+ghost use Rattle.lookup.specs.Steps.{Reached, Taken, TakesResult, Inner};
 
 pub mod entries;
 

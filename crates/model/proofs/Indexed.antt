@@ -12,15 +12,8 @@ use lib.Dec.{leb}
 use lib.IntN.{ℤ, pos}
 use lib.ListN.{length, getD}
 use Rattle.model.specs.Points.{Point, points, Segment}
-use Rattle.model.specs.Facts.{between}
+pub use Rattle.model.specs.Facts.{point-at as point, segment-at as segment}
 use Rattle.model.proofs.Walk.{Chain, link, stop, compare-areas}
-
-abbrev pub point : List ℕ → List ℕ → List ℤ → ℕ → Point
-point areas values slopes i =
-    record { area = getD areas i 0; value = getD values i 0; slope = getD slopes i (pos 0) }
-
-abbrev pub segment : List ℕ → List ℕ → List ℤ → ℕ → Segment
-segment areas values slopes i = between (point areas values slopes i) (point areas values slopes (suc i))
 
 module _ (G : Segment → Type 0) (ordered : (s : Segment) → G s → s .left .area < s .right .area) where
   -- each neighbouring pair is a segment of the chain

@@ -4,10 +4,10 @@
 use mathlib.Core.Path.{_≡_}
 use mathlib.Core.Bool.{not}
 use mathlib.Core.List.{List, _++_}
-use Prim.Native.Nat.{ℕ, _+_, _≤_, _<_}
+use Prim.Native.Nat.{ℕ, suc, _+_, _≤_, _<_}
 use lib.Dec.{T, eqb, ltb}
 use lib.IntN.{ℤ, pos, negsuc}
-use lib.ListN.{length, drop}
+use lib.ListN.{length, getD, drop}
 use lib.Signed.{_≤ℤ_}
 use Rattle.model.specs.Answer.{Answer, row}
 use Rattle.model.specs.Points.{Point, Segment, Shape}
@@ -30,6 +30,13 @@ point-of area value slope = record { area = area; value = value; slope = slope }
 
 abbrev pub between : Point → Point → Segment
 between left right = record { left = left; right = right }
+
+-- the point at an index of the three lists, and the segment that begins there
+abbrev pub point-at : List ℕ → List ℕ → List ℤ → ℕ → Point
+point-at areas values slopes i = point-of (getD areas i 0) (getD values i 0) (getD slopes i (pos 0))
+
+abbrev pub segment-at : List ℕ → List ℕ → List ℤ → ℕ → Segment
+segment-at areas values slopes i = between (point-at areas values slopes i) (point-at areas values slopes (suc i))
 
 -- what rows 3 to 6 leave of a segment
 pub record Good (shape : Shape) (s : Segment) : Type 0 where

@@ -1,6 +1,7 @@
 -- Laws of one segment's reading and shape in machine numbers.
 pub mod Bits
 pub mod Tests
+pub mod EndSlopes
 pub mod Machine
 pub mod Numbers
 pub mod Sizes

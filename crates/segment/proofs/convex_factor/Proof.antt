@@ -5,7 +5,7 @@ use mathlib.Core.Path.{_≡_, sym, _∙_, ap, ap₂}
 use mathlib.Core.List.{[], _∷_}
 use Prim.Native.Nat.{ℕ, _*_, _/_, _-_, _≤_}
 use native.Mathlib.Omega.{arith}
-use lib.IntN.{ℤ, pos, natAbs, _+ℤ_, _-ℤ_, *ℤ-comm}
+use lib.IntN.{ℤ, pos, natAbs, _+ℤ_, _-ℤ_}
 use mir.Syntax.{w32, w64}
 use mir.Val.{SFits, toZ, ofZ}
 use mir.Facts.{toZ-ofZ, toZ-pos}
@@ -17,15 +17,13 @@ use Rattle.model.specs.Points.{Segment, convex}
 use Rattle.model.specs.Facts.{point-of, between}
 use Rattle.segment.specs.Steps.{raised-reading}
 use Rattle.exact.proofs.Signed.{natural}
-use Rattle.model.proofs.Segments.{rise, e₀, e₁, g, a, b}
+use Rattle.model.proofs.Segments.{e₀, e₁, g, a, b}
+use Rattle.segment.proofs.EndSlopes.{left-slope, chord-slope, right-slope}
 use Rattle.segment.proofs.Machine.{lowered}
 use Rattle.segment.proofs.Sizes.{raised-size}
 use Rattle.segment.proofs.Plain.{Convex, convex-inside, e₀-size, e₁-size, g-size, reading-fits}
 use Rattle.segment.proofs.convex_factor.Statement.{statement}
 use Rattle.segment.proofs.convex_factor.Tie as tie
-
-slope-fits : {z : ℤ} → natAbs z ≤ 20000000 → SFits w64 z
-slope-fits {z} h = fits-size w64 z (omega arith)
 
 -- the segment, and what is known of the area in it
 abbrev at : tie.Start → Segment
@@ -35,17 +33,15 @@ facts : (c : tie.Start) → Convex (at c) (c .args .area)
 facts c = convex-inside (c .pre)
 
 -- the three slopes, read back
-back : {r z : ℤ} → SFits w64 z → r ≡ z → toZ w64 (ofZ w64 r) ≡ z
-back f e = ap (λ (x : ℤ). toZ w64 (ofZ w64 x)) e ∙ toZ-ofZ f
+module _ (c : tie.After-slopes-of) where
+  left-is : toZ w64 (ofZ w64 (c .slopes-of .result .left)) ≡ e₀ (at (c .before))
+  left-is = left-slope (c .before .fits .d0) (c .before .fits .d1) (c .slopes-of .ensures) (search needs)
 
-left-is : (c : tie.After-slopes-of) → toZ w64 (ofZ w64 (c .slopes-of .result .left)) ≡ e₀ (at (c .before))
-left-is c = back (slope-fits (e₀-size (c .before .pre))) (rw (toZ-ofZ (c .before .fits .d0)) at (c .slopes-of .ensures .left))
+  chord-is : toZ w64 (ofZ w64 (c .slopes-of .result .chord)) ≡ g (at (c .before))
+  chord-is = chord-slope (c .before .fits .d0) (c .before .fits .d1) (c .slopes-of .ensures) (search needs)
 
-right-is : (c : tie.After-slopes-of) → toZ w64 (ofZ w64 (c .slopes-of .result .right)) ≡ e₁ (at (c .before))
-right-is c = back (slope-fits (e₁-size (c .before .pre))) (rw (toZ-ofZ (c .before .fits .d1)) at (c .slopes-of .ensures .right))
-
-chord-is : (c : tie.After-slopes-of) → toZ w64 (ofZ w64 (c .slopes-of .result .chord)) ≡ g (at (c .before))
-chord-is c = back (slope-fits (g-size (c .before .pre))) (c .slopes-of .ensures .chord ∙ *ℤ-comm (rise (at (c .before))) (pos 100))
+  right-is : toZ w64 (ofZ w64 (c .slopes-of .result .right)) ≡ e₁ (at (c .before))
+  right-is = right-slope (c .before .fits .d0) (c .before .fits .d1) (c .slopes-of .ensures) (search needs)
 
 -- a = e₁ − g and b = g − e₀
 a-fits : (c : tie.Start) → SFits w64 (a (at c))

@@ -1,7 +1,6 @@
 -- `segment::has_shape` meets its contract: the tests are the fractions' cross products.
 -- Assumes nothing.
 use mathlib.Core.Path.{_≡_, sym, _∙_, ap}
-use lib.IntN.{pos, *ℤ-comm}
 use mir.Syntax.{w64}
 use mir.Val.{toZ, ofZ}
 use mir.Facts.{toZ-ofZ}
@@ -10,7 +9,8 @@ use Rattle.model.specs.Points.{Segment, Shape}
 use Rattle.model.specs.Shape.{has-shape}
 use Rattle.model.specs.Facts.{point-of, between}
 use Rattle.model.proofs.Codes.{is-rising, is-convex}
-use Rattle.model.proofs.Segments.{rise, e₀, g, e₁}
+use Rattle.model.proofs.Segments.{e₀, g, e₁}
+use Rattle.segment.proofs.EndSlopes.{left-slope, chord-slope, right-slope}
 use Rattle.segment.proofs.Tests.{rising-test, convex-test}
 use Rattle.segment.proofs.has_shape.Statement.{statement}
 use Rattle.segment.proofs.has_shape.Tie as tie
@@ -35,13 +35,13 @@ returns c =
 -- the slopes over one denominator
 module _ (c : tie.After-slopes-of) where
   left-is : toZ w64 (ofZ w64 (c .slopes-of .result .left)) ≡ e₀ (segment (c .before .before))
-  left-is = toZ-ofZ {w = w64} {z = c .slopes-of .result .left} (search needs) ∙ (rw (toZ-ofZ (c .before .before .fits .d0)) at (c .slopes-of .ensures .left))
+  left-is = left-slope (c .before .before .fits .d0) (c .before .before .fits .d1) (c .slopes-of .ensures) (search needs)
 
   chord-is : toZ w64 (ofZ w64 (c .slopes-of .result .chord)) ≡ g (segment (c .before .before))
-  chord-is = toZ-ofZ {w = w64} {z = c .slopes-of .result .chord} (search needs) ∙ c .slopes-of .ensures .chord ∙ *ℤ-comm (rise (segment (c .before .before))) (pos 100)
+  chord-is = chord-slope (c .before .before .fits .d0) (c .before .before .fits .d1) (c .slopes-of .ensures) (search needs)
 
   right-is : toZ w64 (ofZ w64 (c .slopes-of .result .right)) ≡ e₁ (segment (c .before .before))
-  right-is = toZ-ofZ {w = w64} {z = c .slopes-of .result .right} (search needs) ∙ (rw (toZ-ofZ (c .before .before .fits .d1)) at (c .slopes-of .ensures .right))
+  right-is = right-slope (c .before .before .fits .d0) (c .before .before .fits .d1) (c .slopes-of .ensures) (search needs)
 
 slopes-of-requires : tie.Need-slopes-of-requires
 slopes-of-requires c κs = search needs
