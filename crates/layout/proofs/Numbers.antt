@@ -1,6 +1,7 @@
 -- Numbers of bytes.
 -- Assumes nothing.
 use mathlib.Core.Path.{_≡_, _∙_, ap}
+use mathlib.Core.Bool.{Bool, cond}
 use mathlib.Core.List.{List, [], _∷_}
 use Prim.Native.Nat.{ℕ, suc, _+_, _*_, _-_, _≤_, _<_}
 use native.Mathlib.Omega.{arith}
@@ -25,7 +26,7 @@ module _ (bytes : List ℕ) (at : ℕ) where
 
 pub low-half : {x : ℕ} → x < 2147483648 → twos-complement x ≡ pos x
 unfolding twos-complement
-low-half {x} h = rw (lt-ltb x 2147483648 h)
+low-half {x} h = ap (λ (b : Bool). cond b (pos x) (pos x -ℤ pos 4294967296)) (lt-ltb x 2147483648 h)
 
 pub high-half : {x : ℕ} → 2147483648 ≤ x → x < 4294967296 → twos-complement x ≡ mirror (pos (4294967295 - x))
 unfolding twos-complement

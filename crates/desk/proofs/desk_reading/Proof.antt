@@ -35,7 +35,7 @@ refusal-requires c κs = subst Numbered (head-refused c) (in-head _) .1
 
 returns : tie.Need-returns
 unfolding desk-answer desk-number desk-scratch row _then_
-returns c = (rw (toZ-ofZ (record { sfits = c .refusal .ok }), c .refusal .ensures, head-refused (c .before)), rw (head-refused (c .before)))
+returns c = (rw (toZ-ofZ (record { sfits = c .refusal .ok }), c .refusal .ensures, head-refused (c .before)) refl, rw (head-refused (c .before)) refl)
 
 -- rows 9 and 10 are passed
 module _ (c : tie.Else1) where

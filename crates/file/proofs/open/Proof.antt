@@ -53,7 +53,7 @@ returns-2 : tie.Need-returns-2
 unfolding open-answer open-list opened-answer row _then_
 returns-2 c =
     let e = c .before .before .before in
-    (rw (passed e, sym (c .before .short-list .ensures) ∙ c .if2 .taken), (refl, (refl, refl)))
+    (rw (passed e, sym (c .before .short-list .ensures) ∙ c .if2 .taken) refl, (refl, (refl, refl)))
 
 -- row 11 is passed
 module _ (c : tie.Else2) where
