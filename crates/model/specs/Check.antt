@@ -1,22 +1,26 @@
 -- Document 01, "Refusals and their places", rows 1 to 6, and what Check answers.
 -- Assumes nothing.
-use Prim.Native.Nat.{ℕ, suc, _+_, _-_}
+use Prim.Native.Nat.{ℕ, suc, _+_}
 use mathlib.Core.Path.{_≡_}
 use mathlib.Core.Bool.{Bool, not, _&&_, _||_}
 use mathlib.Core.List.{List, [], _∷_}
 use mathlib.Core.Option.{Option, none, some}
 use lib.Dec.{eqb, leb, ltb}
-use lib.IntN.{ℤ, pos, negsuc}
+use lib.IntN.{ℤ, pos, negℤ}
 use lib.ListN.{length}
 use lib.Signed.{ltZ}
 use Rattle.model.specs.Answer.{Answer, gives, row, _then_}
+use Rattle.model.specs.Points.{points-least, points-most, area-most, gap-most, value-most, slope-most}
 use Rattle.model.specs.Points.{Point, points, Segment, segments, Shape, shape-of}
 use Rattle.model.specs.Shape.{has-shape}
 
--- row 1: list lengths differ, or fewer than 2 or more than 64 points
-unfoldable pub bad-lengths : ℕ → ℕ → ℕ → Bool
-bad-lengths areas values slopes =
-    not (eqb areas values) || not (eqb areas slopes) || ltb areas 2 || ltb 64 areas
+-- row 1: list lengths differ
+unfoldable pub lengths-differ : ℕ → ℕ → ℕ → Bool
+lengths-differ areas values slopes = not (eqb areas values) || not (eqb areas slopes)
+
+-- row 1: fewer than 2 or more than 64 points
+unfoldable pub bad-count : ℕ → Bool
+bad-count count = ltb count points-least || ltb points-most count
 
 -- row 2: shape code other than 1 or 2
 unfoldable pub bad-code : ℕ → Bool
@@ -24,16 +28,16 @@ bad-code code = not (eqb code 1) && not (eqb code 2)
 
 -- row 3: area above 20,000, or not larger than the one before, or more than 2,000 beyond it
 unfoldable pub bad-area : Option ℕ → ℕ → Bool
-bad-area none area = ltb 20000 area
-bad-area (some before) area = ltb 20000 area || leb area before || ltb (before + 2000) area
+bad-area none area = ltb area-most area
+bad-area (some before) area = ltb area-most area || leb area before || ltb (before + gap-most) area
 
 -- row 4: value above 200,000
 unfoldable pub bad-value : ℕ → Bool
-bad-value value = ltb 200000 value
+bad-value value = ltb value-most value
 
 -- row 5: slope outside −10,000 to 10,000
 unfoldable pub bad-slope : ℤ → Bool
-bad-slope slope = ltZ slope (negsuc 9999) || ltZ (pos 10000) slope
+bad-slope slope = ltZ slope (negℤ (pos slope-most)) || ltZ (pos slope-most) slope
 
 -- rows 3, 4 and 5 together at each point, from the point at place i on
 unfoldable pub point-rows : ℕ → Option ℕ → List Point → Answer (Unit {0})
@@ -47,18 +51,23 @@ unfoldable pub segment-rows : ℕ → Shape → List Segment → Answer (Unit {0
 segment-rows i shape [] = gives tt
 segment-rows i shape (s ∷ ss) = row (not (has-shape shape s)) 6 i then segment-rows (suc i) shape ss
 
-module _ (areas values : List ℕ) (slopes : List ℤ) (code : ℕ) where
-  unfoldable pub curve-rows : Answer (Unit {0})
-  curve-rows =
-      row (bad-lengths (length areas) (length values) (length slopes)) 1 0
-      then row (bad-code code) 2 0
-      then point-rows 0 none (points areas values slopes)
-      then segment-rows 0 (shape-of code) (segments (points areas values slopes))
+-- rows 1 to 6 of points and a shape code
+unfoldable pub curve-rows : List Point → ℕ → Answer (Unit {0})
+curve-rows ps code =
+    row (bad-count (length ps)) 1 0
+    then row (bad-code code) 2 0
+    then point-rows 0 none ps
+    then segment-rows 0 (shape-of code) (segments ps)
 
-  -- the number of segments
-  unfoldable pub checked : Answer ℕ
-  checked = curve-rows then gives (length areas - 1)
+-- none of Check's refusals applies
+pub record Accepted (ps : List Point) (code : ℕ) : Type 0 where
+  pub none-applies : curve-rows ps code ≡ gives tt
 
-  -- none of Check's refusals applies
-  pub record Accepted : Type 0 where
-    pub none-applies : curve-rows ≡ gives tt
+-- Check: the number of segments
+unfoldable pub check-answer : List Point → ℕ → Answer ℕ
+check-answer ps code = curve-rows ps code then gives (length (segments ps))
+
+-- a call on points that come in three lists: their lengths are tried first
+unfoldable pub on-lists : {A : Type 0} → List ℕ → List ℕ → List ℤ → (List Point → Answer A) → Answer A
+on-lists areas values slopes call =
+    row (lengths-differ (length areas) (length values) (length slopes)) 1 0 then call (points areas values slopes)

@@ -1,4 +1,4 @@
--- Document 01 in definitions, each after those it uses; then its laws, and facts for inner contracts.
+-- Document 01 in definitions, each after those it uses; then what is said of accepted curves, and what inner contracts cite.
 pub mod Answer
 pub mod Points
 pub mod Interpolant
@@ -8,4 +8,4 @@ pub mod Read
 pub mod Sheet
 pub mod Readings
 pub mod Laws
-pub mod Facts
+pub mod Inner

@@ -7,6 +7,27 @@ use lib.Dec.{eqb}
 use lib.IntN.{ℤ, pos}
 use Rattle.exact.specs.Fraction.{Fraction, _over_}
 
+-- a curve is a list of 2 to 64 points
+abbrev pub points-least : ℕ
+points-least = 2
+
+abbrev pub points-most : ℕ
+points-most = 64
+
+-- the largest area; each area is larger than the one before it, by at most 2,000
+abbrev pub area-most : ℕ
+area-most = 20000
+
+abbrev pub gap-most : ℕ
+gap-most = 2000
+
+-- the largest value, and the largest size of a slope
+abbrev pub value-most : ℕ
+value-most = 200000
+
+abbrev pub slope-most : ℕ
+slope-most = 10000
+
 -- area in tenths of a square metre; value in units (ten-thousandths); slope in hundredths of a unit for each tenth
 pub record Point : Type 0 where
   pub area : ℕ

@@ -1,15 +1,14 @@
 -- Document 01: the segment that an area takes, the exact value there, the reading ("Rounding"), and what Read answers.
 -- Assumes nothing.
-use Prim.Native.Nat.{ℕ, _-_}
-use mathlib.Core.Bool.{Bool, cond, _||_}
+use Prim.Native.Nat.{ℕ}
+use mathlib.Core.Bool.{Bool, true, cond, _||_}
 use mathlib.Core.List.{List, [], _∷_}
 use lib.Dec.{leb, ltb}
 use lib.IntN.{ℤ, pos}
-use lib.ListN.{length, getD}
 use Rattle.exact.specs.Fraction.{Fraction, whole}
 use Rattle.exact.specs.Rounding.{round}
 use Rattle.model.specs.Answer.{Answer, gives, row, _then_}
-use Rattle.model.specs.Points.{points, Segment, segments, Shape, shape-of}
+use Rattle.model.specs.Points.{Point, Segment, segments, Shape, shape-of}
 use Rattle.model.specs.Interpolant.{interpolant}
 use Rattle.model.specs.Check.{curve-rows}
 
@@ -23,18 +22,22 @@ unfoldable pub value-in : Shape → List Segment → ℕ → Fraction
 value-in shape [] area = whole (pos 0)
 value-in shape (s ∷ ss) area = interpolant shape (taken area s ss) area
 
+unfoldable pub exact-value : List Point → ℕ → ℕ → Fraction
+exact-value ps code area = value-in (shape-of code) (segments ps) area
+
+-- rounded once
+unfoldable pub reading : List Point → ℕ → ℕ → ℤ
+reading ps code area = round (exact-value ps code area)
+
+abbrev pub last-area : Point → List Point → ℕ
+last-area p [] = p .area
+last-area p (q ∷ ps) = last-area q ps
+
 -- row 7: an area read is before the first point's or beyond the last
-unfoldable pub outside : List ℕ → ℕ → Bool
-outside areas area = ltb area (getD areas 0 0) || ltb (getD areas (length areas - 1) 0) area
+unfoldable pub outside : List Point → ℕ → Bool
+outside [] area = true
+outside (p ∷ ps) area = ltb area (p .area) || ltb (last-area p ps) area
 
-module _ (areas values : List ℕ) (slopes : List ℤ) (code : ℕ) where
-  unfoldable pub exact-value : ℕ → Fraction
-  exact-value area = value-in (shape-of code) (segments (points areas values slopes)) area
-
-  -- rounded once
-  unfoldable pub reading : ℕ → ℤ
-  reading area = round (exact-value area)
-
-  -- rows 1 to 6, then 7 at place 0
-  unfoldable pub read-answer : ℕ → Answer ℤ
-  read-answer area = curve-rows areas values slopes code then row (outside areas area) 7 0 then gives (reading area)
+-- rows 1 to 6, then 7 at place 0
+unfoldable pub read-answer : List Point → ℕ → ℕ → Answer ℤ
+read-answer ps code area = curve-rows ps code then row (outside ps area) 7 0 then gives (reading ps code area)

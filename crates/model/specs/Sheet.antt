@@ -5,40 +5,43 @@ use mathlib.Core.Bool.{Bool, _||_}
 use mathlib.Core.List.{List, [], _∷_}
 use lib.Dec.{eqb, ltb}
 use lib.IntN.{ℤ}
-use lib.ListN.{length}
 use Rattle.model.specs.Answer.{Answer, gives, refused, row, _then_}
+use Rattle.model.specs.Points.{Point}
 use Rattle.model.specs.Check.{curve-rows}
 use Rattle.model.specs.Read.{outside, reading}
 
+abbrev pub entries-most : ℕ
+entries-most = 1024
+
 -- row 8: step 0, or 0 entries, or more than 1,024
 unfoldable pub bad-sheet : ℕ → ℕ → Bool
-bad-sheet step entries = eqb step 0 || eqb entries 0 || ltb 1024 entries
+bad-sheet step entries = eqb step 0 || eqb entries 0 || ltb entries-most entries
 
 -- the area of an entry is start + index × step, the true sum
 abbrev pub entry-area : ℕ → ℕ → ℕ → ℕ
 entry-area start step index = start + index * step
 
 -- row 7 at n entries from the index on: the place is the first entry outside
-unfoldable pub entry-rows : List ℕ → ℕ → ℕ → ℕ → ℕ → Answer (Unit {0})
-entry-rows areas start step index zero = gives tt
-entry-rows areas start step index (suc n) =
-    row (outside areas (entry-area start step index)) 7 index then entry-rows areas start step (suc index) n
+unfoldable pub entry-rows : List Point → ℕ → ℕ → ℕ → ℕ → Answer (Unit {0})
+entry-rows ps start step index zero = gives tt
+entry-rows ps start step index (suc n) =
+    row (outside ps (entry-area start step index)) 7 index then entry-rows ps start step (suc index) n
 
 -- f at n indices from the index on
 unfoldable pub tabulate : {A : Type 0} → (ℕ → A) → ℕ → ℕ → List A
 tabulate f index zero = []
 tabulate f index (suc n) = f index ∷ tabulate f (suc index) n
 
-module _ (areas values : List ℕ) (slopes : List ℤ) (code start step : ℕ) where
+module _ (ps : List Point) (code start step : ℕ) where
   -- rows 1 to 6, then 8, then 7; the number of entries
-  unfoldable pub sheet-answer : List ℤ → Answer ℕ
-  sheet-answer out =
-      curve-rows areas values slopes code
-      then row (bad-sheet step (length out)) 8 0
-      then entry-rows areas start step 0 (length out)
-      then gives (length out)
+  unfoldable pub sheet-answer : ℕ → Answer ℕ
+  sheet-answer entries =
+      curve-rows ps code
+      then row (bad-sheet step entries) 8 0
+      then entry-rows ps start step 0 entries
+      then gives entries
 
   -- the list after the call, by its answer: into every entry the factor at its area, or what it held
   unfoldable pub sheet-list : Answer ℕ → List ℤ → List ℤ
-  sheet-list (gives entries) out = tabulate (λ index. reading areas values slopes code (entry-area start step index)) 0 entries
+  sheet-list (gives entries) out = tabulate (λ index. reading ps code (entry-area start step index)) 0 entries
   sheet-list (refused number place) out = out

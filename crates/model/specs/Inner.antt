@@ -1,0 +1,96 @@
+-- What contracts of inner functions cite. Nothing here need be believed: the calls' contracts cite the definitions of document 01.
+--   fault-answer       a fault's number and place, as an answer
+--   Alike              three lists are equally long
+--   point-at           the point at an index; segment-at, the segment that begins there
+--   Limits             what rows 3 to 5 leave of a point; Neighbours, of two; Good, and row 6 too
+--   Inside             an area is read in a segment
+--   Reached, Taken     the segment that an area takes, by its index; Readable, on an accepted curve
+--   Filling            a list that is filled from the front
+-- Assumes nothing.
+use mathlib.Core.Path.{_≡_}
+use mathlib.Core.Bool.{not, false}
+use mathlib.Core.List.{List, map, _++_}
+use mathlib.Core.Logic.{_⊎_}
+use Prim.Native.Nat.{ℕ, suc, _+_, _≤_, _<_}
+use lib.Dec.{T, eqb, ltb}
+use lib.IntN.{ℤ, pos, negℤ}
+use lib.ListN.{length, getD, drop}
+use lib.Signed.{_≤ℤ_}
+use Rattle.model.specs.Answer.{Answer, row}
+use Rattle.model.specs.Points.{area-most, gap-most, value-most, slope-most, Point, Segment, Shape}
+use Rattle.model.specs.Shape.{has-shape}
+use Rattle.model.specs.Check.{Accepted}
+use Rattle.model.specs.Read.{outside}
+use Rattle.model.specs.Sheet.{tabulate}
+
+-- the number 0 is no fault
+unfoldable pub fault-answer : ℕ → ℕ → Answer (Unit {0})
+fault-answer number place = row (not (eqb number 0)) number place
+
+-- row 7 of n entries, by the first entry outside
+abbrev pub first-answer : ℕ → ℕ → Answer (Unit {0})
+first-answer index n = row (ltb index n) 7 index
+
+-- the lengths of three lists
+pub record Alike (areas values slopes : ℕ) : Type 0 where
+  pub values-too : areas ≡ values
+  pub slopes-too : areas ≡ slopes
+
+abbrev pub between : Point → Point → Segment
+between left right = record { left = left; right = right }
+
+abbrev pub origin : Point
+origin = record { area = 0; value = 0; slope = pos 0 }
+
+abbrev pub point-at : List Point → ℕ → Point
+point-at ps i = getD ps i origin
+
+abbrev pub segment-at : List Point → ℕ → Segment
+segment-at ps i = between (point-at ps i) (point-at ps (suc i))
+
+abbrev pub areas-of : List Point → List ℕ
+areas-of ps = map (λ p. p .area) ps
+
+-- rows 3, 4 and 5 are passed
+pub record Limits (p : Point) : Type 0 where
+  pub area : p .area ≤ area-most
+  pub value : p .value ≤ value-most
+  pub slope-low : negℤ (pos slope-most) ≤ℤ p .slope
+  pub slope-high : p .slope ≤ℤ pos slope-most
+
+pub record Neighbours (s : Segment) : Type 0 where
+  pub left : Limits (s .left)
+  pub right : Limits (s .right)
+  pub ordered : s .left .area < s .right .area
+  pub near : s .right .area ≤ s .left .area + gap-most
+
+pub record Good (shape : Shape) (s : Segment) : Type 0 where
+  pub ends : Neighbours s
+  pub shaped : T (has-shape shape s)
+
+-- an area between the ends of a segment of which G holds
+pub record Inside (G : Segment → Type 0) (s : Segment) (x : ℕ) : Type 0 where
+  pub good : G s
+  pub low : s .left .area ≤ x
+  pub high : x ≤ s .right .area
+
+-- the area at an index is not above the area read
+pub record Reached (areas : List ℕ) (i x : ℕ) : Type 0 where
+  pub inner : suc i < length areas
+  pub low : getD areas i 0 ≤ x
+
+-- and the next is above it, or there is no later segment
+pub record Taken (areas : List ℕ) (i x : ℕ) : Type 0 where
+  pub reached : Reached areas i x
+  pub high : (x < getD areas (suc i) 0) ⊎ (suc (suc i) ≡ length areas)
+
+-- an area of an accepted curve, and the index of the segment that it takes
+pub record Readable (ps : List Point) (code i x : ℕ) : Type 0 where
+  pub accepted : Accepted ps code
+  pub within : outside ps x ≡ false
+  pub taken : Taken (areas-of ps) i x
+
+-- f in the first i entries, the others as found
+pub record Filling {A : Type 0} (f : ℕ → A) (i : ℕ) (found filled : List A) : Type 0 where
+  pub size : length filled ≡ length found
+  pub is : filled ≡ tabulate f 0 i ++ drop i found
