@@ -10,3 +10,4 @@ pub mod Identities
 pub mod Signed
 pub mod Size
 pub mod Magnitude
+pub mod Bits

@@ -2,4 +2,4 @@
 pub mod Fraction
 pub mod Rounding
 pub mod Identities
-pub mod MulDiv
+pub mod Inner

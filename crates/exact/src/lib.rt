@@ -2,7 +2,7 @@
 ghost use mathlib.Core.Path.{_≡_};
 ghost use Prim.Native.Nat.{_*_, _/_, _^_, _<_};
 ghost use Rattle.exact.specs.Rounding.{floorDiv};
-ghost use Rattle.exact.specs.MulDiv.{Divided, Step, Scaled};
+ghost use Rattle.exact.specs.Inner.{Divided, Step, Scaled};
 
 // n / d, rounded down. `/` truncates, so a negative n goes by -1 - (-1 - n) / d.
 pub fn floor_div(n: i64, d: u64) -> i64

@@ -6,11 +6,5 @@ pub mod Walk
 pub mod Inside
 pub mod Curves
 pub mod Segments
-pub mod Indexed
-pub mod Accepted
 pub mod Relations
 pub mod Range
-pub mod Laws
-pub mod Filling
-pub mod SheetRows
-pub mod Answers

@@ -19,9 +19,8 @@ use Rattle.model.specs.Points.{gradient, Segment, Shape, rising, convex}
 use Rattle.model.specs.Interpolant.{interpolant, curve}
 use Rattle.model.proofs.Inside.{In}
 use Rattle.model.proofs.Curves.{Joins, Bends, end-left, end-right}
-use Rattle.model.specs.Facts.{Good}
+use Rattle.model.specs.Inner.{Good, Inside}
 use Rattle.model.proofs.Segments.{gap, distance, curve-at, slope-at, gap-positive, segment-rises, segment-bends, within}
-use Rattle.model.proofs.Walk.{Reads}
 
 whole-≤ : (a b : ℤ) → a ≤ℤ b → whole a ≤ℚ whole b
 whole-≤ a b h =
@@ -43,16 +42,16 @@ ranged-point n p e h =
 -- both ends are
 module _ {shape : Shape} (s : Segment) (k : Good shape s) (j : Joins (gap s) (pos (s .left .value)) (pos (s .right .value)) (curve-at s shape)) where
   ranged-left : Ranged (curve-at s shape (pos 0))
-  ranged-left = ranged-point (s .left .value) (j .proper (pos 0) (end-left (gap-positive s (k .ordered)))) (j .at-left) (k .left-value)
+  ranged-left = ranged-point (s .left .value) (j .proper (pos 0) (end-left (gap-positive s (k .ends .ordered)))) (j .at-left) (k .ends .left .value)
 
   ranged-right : Ranged (curve-at s shape (gap s))
-  ranged-right = ranged-point (s .right .value) (j .proper (gap s) (end-right (gap-positive s (k .ordered)))) (j .at-right) (k .right-value)
+  ranged-right = ranged-point (s .right .value) (j .proper (gap s) (end-right (gap-positive s (k .ends .ordered)))) (j .at-right) (k .ends .right .value)
 
 rising-range : (s : Segment) → Good rising s → (t : ℤ) → In (gap s) t → Ranged (curve-at s rising t)
 rising-range s k t i =
     let r = segment-rises s k in
-    let l = end-left (gap-positive s (k .ordered)) in
-    let e = end-right (gap-positive s (k .ordered)) in
+    let l = end-left (gap-positive s (k .ends .ordered)) in
+    let e = end-right (gap-positive s (k .ends .ordered)) in
     let proper = r .joins .proper in
     record {
       low = Q.≤-trans (search propers) (proper (pos 0) l) (proper t i) (ranged-left s k (r .joins) .low) (r .order (pos 0) t l i (i .low));
@@ -83,7 +82,7 @@ convex-high s k t i = decide (Q.≤-or-< (whole (pos 0)) (slope-at s t))
 
     decide : (whole (pos 0) ≤ℚ slope-at s t) ⊎ (slope-at s t <ℚ whole (pos 0)) → curve-at s convex t ≤ℚ whole (pos 200000)
     decide (inl h) =
-        let e = end-right (gap-positive s (k .ordered)) in
+        let e = end-right (gap-positive s (k .ends .ordered)) in
         let p = r .joins .proper t i in
         let p' = r .joins .proper (gap s) e in
         let q = r .proper t i in
@@ -91,7 +90,7 @@ convex-high s k t i = decide (Q.≤-or-< (whole (pos 0)) (slope-at s t))
         (along _ _ (slope-at s t) t (gap s) p p' q (r .below t (gap s) i e) (Q.nonneg-* (Q.nonneg-≈ q (search propers) (field (slope-at s t .num ∷ slope-at s t .den ∷ []) {y = slope-at s t -ℚ whole (pos 0)} (search ratios depth 30 fits 9999) tt) (Q.nonneg-difference h)) (Q.nonneg-whole _ (i .high))))
         (ranged-right s k (r .joins) .high)
     decide (inr h) =
-        let e = end-left (gap-positive s (k .ordered)) in
+        let e = end-left (gap-positive s (k .ends .ordered)) in
         let p = r .joins .proper t i in
         let p' = r .joins .proper (pos 0) e in
         let q = r .proper t i in
@@ -103,15 +102,15 @@ convex-low : (s : Segment) → Good convex s → (t : ℤ) → In (gap s) t → 
 unfolding gradient
 convex-low s k t i =
     let r = segment-bends s k in
-    let l = end-left (gap-positive s (k .ordered)) in
+    let l = end-left (gap-positive s (k .ends .ordered)) in
     let p = r .joins .proper (pos 0) l in
     let q = r .proper (pos 0) l in
     let D : Proper (s .left .slope over pos 100) = search positivity in
-    let short : gap s ≤ℤ pos 2000 = Z.≤-by (pos (s .left .area + 2000) -ℤ pos (s .right .area)) (ring (pos (s .left .area) ∷ pos (s .right .area) ∷ []) {b = pos (s .left .area) +ℤ pos 2000 -ℤ pos (s .right .area)} (search terms depth 20 fits 9999) tt) (Z.≤-difference (Z.pos-≤ (k .near))) in
-    Q.≤-trans (search propers) (search propers) (r .joins .proper t i) (tangent-low (s .left .value) (s .left .slope) (gap s) t (k .left-slope-low) short i)
+    let short : gap s ≤ℤ pos 2000 = Z.≤-by (pos (s .left .area + 2000) -ℤ pos (s .right .area)) (ring (pos (s .left .area) ∷ pos (s .right .area) ∷ []) {b = pos (s .left .area) +ℤ pos 2000 -ℤ pos (s .right .area)} (search terms depth 20 fits 9999) tt) (Z.≤-difference (Z.pos-≤ (k .ends .near))) in
+    Q.≤-trans (search propers) (search propers) (r .joins .proper t i) (tangent-low (s .left .value) (s .left .slope) (gap s) t (k .ends .left .slope-low) short i)
     (Q.≤-trans (search propers) (Q.proper-+ p (Q.proper-* q (search propers))) (r .joins .proper t i) (Q.≤-of-≈ (Q.≈-sym (Q.≈-+ (r .joins .at-left) (Q.≈-* (r .at-left) (Q.≈-refl (whole (t -ℤ pos 0))))))) (r .below (pos 0) t l i))
 
-pub value-range : (shape : Shape) (s : Segment) (x : ℕ) → Reads (Good shape) s x → Ranged (interpolant shape s x)
+pub value-range : (shape : Shape) (s : Segment) (x : ℕ) → Inside (Good shape) s x → Ranged (interpolant shape s x)
 unfolding interpolant
 value-range rising s x r = rising-range s (r .good) (distance s x) (within s x (r .low) (r .high))
 value-range convex s x r =

@@ -17,11 +17,12 @@ use Rattle.exact.proofs.Fractions as Q
 use Rattle.exact.proofs.Fractions.{NonNeg, propers}
 use Rattle.model.specs.Points.{Point, gradient, Segment, Shape, rising, convex}
 use Rattle.model.specs.Interpolant.{interpolant}
-use Rattle.model.specs.Facts.{between, Good}
+use Rattle.model.specs.Read.{last-area}
+use Rattle.model.specs.Inner.{between, Good, Inside}
 use Rattle.model.proofs.Segments.{proper-gradient, distance, slope-at, segment-rises, segment-bends, within, interpolant-proper, interpolant-left, interpolant-right}
-use Rattle.model.proofs.Walk.{Chain, Reads, stop, last-area, across, compare-areas}
+use Rattle.model.proofs.Walk.{Chain, stop, across, compare-areas}
 
-value-proper : (shape : Shape) (s : Segment) (x : ℕ) → Reads (Good shape) s x → Proper (interpolant shape s x)
+value-proper : (shape : Shape) (s : Segment) (x : ℕ) → Inside (Good shape) s x → Proper (interpolant shape s x)
 value-proper shape s x r = interpolant-proper shape s (r .good) x (r .low) (r .high)
 
 -- both segments give the value of the point between them
@@ -30,11 +31,11 @@ meet shape p q r g g' =
     Q.≈-trans (Q.proper-whole (pos (q .value))) (interpolant-right shape (between p q) g) (Q.≈-sym (interpolant-left shape (between q r) g'))
 
 -- a segment reads its ends
-corner-left : {shape : Shape} (q r : Point) → Good shape (between q r) → Reads (Good shape) (between q r) (q .area)
-corner-left q r g = record { good = g; low = le-refl (q .area); high = le-of-lt (g .ordered) }
+corner-left : {shape : Shape} (q r : Point) → Good shape (between q r) → Inside (Good shape) (between q r) (q .area)
+corner-left q r g = record { good = g; low = le-refl (q .area); high = le-of-lt (g .ends .ordered) }
 
-corner-right : {shape : Shape} (p q : Point) → Good shape (between p q) → Reads (Good shape) (between p q) (q .area)
-corner-right p q g = record { good = g; low = le-of-lt (g .ordered); high = le-refl (q .area) }
+corner-right : {shape : Shape} (p q : Point) → Good shape (between p q) → Inside (Good shape) (between p q) (q .area)
+corner-right p q g = record { good = g; low = le-of-lt (g .ends .ordered); high = le-refl (q .area) }
 
 distances : (a x y : ℕ) → (pos y -ℤ pos a) -ℤ (pos x -ℤ pos a) ≡ pos y -ℤ pos x
 distances a x y = ring (pos a ∷ pos x ∷ pos y ∷ []) (search terms depth 20 fits 9999) tt
@@ -45,12 +46,12 @@ module _ {p q : Point} {ps : List Point} (c : Chain (Good rising) p (q ∷ ps)) 
   pub values-rise : (x y : ℕ) → p .area ≤ x → x ≤ y → y ≤ last-area q ps → interpolant rising (stop p q ps x) x ≤ℚ interpolant rising (stop p q ps y) y
   unfolding interpolant
   values-rise x y low order high =
-      across (Good rising) (λ s g. g .ordered) (λ s x s' y. interpolant rising s x ≤ℚ interpolant rising s' y) inside
+      across (Good rising) (λ s g. g .ends .ordered) (λ s x s' y. interpolant rising s x ≤ℚ interpolant rising s' y) inside
       (λ p q r g g'. Q.≤-of-≈ (meet rising p q r g g'))
       (λ s s' s'' x y z r r' r''. Q.≤-trans (value-proper rising s x r) (value-proper rising s' y r') (value-proper rising s'' z r''))
       x y c low order high
     where
-      inside : (s : Segment) (x y : ℕ) → Reads (Good rising) s x → Reads (Good rising) s y → x ≤ y → interpolant rising s x ≤ℚ interpolant rising s y
+      inside : (s : Segment) (x y : ℕ) → Inside (Good rising) s x → Inside (Good rising) s y → x ≤ y → interpolant rising s x ≤ℚ interpolant rising s y
       inside s x y r r' h =
           segment-rises s (r .good) .order (distance s x) (distance s y) (within s x (r .low) (r .high)) (within s y (r' .low) (r' .high))
           (Z.≤-by (pos y -ℤ pos x) (distances (s .left .area) x y) (Z.≤-difference (Z.pos-≤ h)))
@@ -71,7 +72,7 @@ pub record Convex (s : Segment) (x : ℕ) (s' : Segment) (y : ℕ) : Type 0 wher
   pub leftwards : Below s' y s x
   pub slopes : slope s x ≤ℚ slope s' y
 
-pub slope-proper : (s : Segment) (x : ℕ) → Reads (Good convex) s x → Proper (slope s x)
+pub slope-proper : (s : Segment) (x : ℕ) → Inside (Good convex) s x → Proper (slope s x)
 slope-proper s x r = segment-bends s (r .good) .proper (distance s x) (within s x (r .low) (r .high))
 
 -- from x to y to z, where the slope at y is on the side of z
@@ -88,7 +89,7 @@ nonneg-mirror σ σ' x y p p' h k =
     (field (σ .num ∷ σ .den ∷ σ' .num ∷ σ' .den ∷ x ∷ y ∷ []) (search ratios depth 30 fits 9999) tt)
     (Q.nonneg-* (Q.nonneg-difference h) (Q.nonneg-whole _ (Z.≤-difference k)))
 
-convex-trans : (s s' s'' : Segment) (x y z : ℕ) → Reads (Good convex) s x → Reads (Good convex) s' y → Reads (Good convex) s'' z → Convex s x s' y → Convex s' y s'' z → Convex s x s'' z
+convex-trans : (s s' s'' : Segment) (x y z : ℕ) → Inside (Good convex) s x → Inside (Good convex) s' y → Inside (Good convex) s'' z → Convex s x s' y → Convex s' y s'' z → Convex s x s'' z
 convex-trans s s' s'' x y z r r' r'' h k =
     let v = value-proper convex s x r in
     let v' = value-proper convex s' y r' in
@@ -112,13 +113,13 @@ steeper v v' σ σ' x y pv pv' pσ pσ' lt h k =
     (Q.nonneg-+ (search propers) (search propers) (Q.nonneg-difference h) (Q.nonneg-difference k)))
 
 -- inside one segment
-below-inside : (s : Segment) (x y : ℕ) → Reads (Good convex) s x → Reads (Good convex) s y → Below s x s y
+below-inside : (s : Segment) (x y : ℕ) → Inside (Good convex) s x → Inside (Good convex) s y → Below s x s y
 unfolding interpolant
 below-inside s x y r r' =
     subst (λ (t : ℤ). interpolant convex s x +ℚ slope s x *ℚ whole t ≤ℚ interpolant convex s y) (distances (s .left .area) x y)
     (segment-bends s (r .good) .below (distance s x) (distance s y) (within s x (r .low) (r .high)) (within s y (r' .low) (r' .high)))
 
-convex-inside : (s : Segment) (x y : ℕ) → Reads (Good convex) s x → Reads (Good convex) s y → x ≤ y → Convex s x s y
+convex-inside : (s : Segment) (x y : ℕ) → Inside (Good convex) s x → Inside (Good convex) s y → x ≤ y → Convex s x s y
 convex-inside s x y r r' h =
     record { order = h; rightwards = below-inside s x y r r'; leftwards = below-inside s y x r' r; slopes = slopes (compare-areas y x) }
   where
@@ -157,15 +158,15 @@ convex-join p q r g g' =
 
 pub tangents-support : {p q : Point} {ps : List Point} → Chain (Good convex) p (q ∷ ps) → (x y : ℕ) → p .area ≤ x → x ≤ y → y ≤ last-area q ps → Convex (stop p q ps x) x (stop p q ps y) y
 tangents-support c x y low order high =
-    across (Good convex) (λ s g. g .ordered) Convex convex-inside convex-join convex-trans x y c low order high
+    across (Good convex) (λ s g. g .ends .ordered) Convex convex-inside convex-join convex-trans x y c low order high
 
 -- the slope in a segment is between those of its ends
-pub slope-above : (s : Segment) (x : ℕ) → Reads (Good convex) s x → gradient (s .left) ≤ℚ slope s x
+pub slope-above : (s : Segment) (x : ℕ) → Inside (Good convex) s x → gradient (s .left) ≤ℚ slope s x
 slope-above s x r =
     let l = corner-left (s .left) (s .right) (r .good) in
     Q.≤-trans (proper-gradient (s .left)) (slope-proper s (s .left .area) l) (slope-proper s x r) (Q.≤-of-≈ (Q.≈-sym (slope-left s (r .good)))) (convex-inside s (s .left .area) x l r (r .low) .slopes)
 
-pub slope-below : (s : Segment) (x : ℕ) → Reads (Good convex) s x → slope s x ≤ℚ gradient (s .right)
+pub slope-below : (s : Segment) (x : ℕ) → Inside (Good convex) s x → slope s x ≤ℚ gradient (s .right)
 slope-below s x r =
     let l = corner-right (s .left) (s .right) (r .good) in
     Q.≤-trans (slope-proper s x r) (slope-proper s (s .right .area) l) (proper-gradient (s .right)) (convex-inside s x (s .right .area) r l (r .high) .slopes) (Q.≤-of-≈ (slope-right s (r .good)))

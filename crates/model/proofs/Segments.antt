@@ -13,7 +13,7 @@ use Rattle.exact.proofs.Fractions as Q
 use Rattle.model.specs.Points.{Point, gradient, Segment, Shape, rising, convex}
 use Rattle.model.specs.Interpolant as I
 use Rattle.model.specs.Shape.{fits, has-shape}
-use Rattle.model.specs.Facts.{Good}
+use Rattle.model.specs.Inner.{Good}
 use Rattle.model.proofs.ClosedForm.{Normal, Around}
 use Rattle.model.proofs.Inside.{In}
 use Rattle.model.proofs.Curves.{Joins, Rises, Bends, rise-kind, bend-kind, rising-rises, convex-bends, tangent}
@@ -88,12 +88,12 @@ S-positive s h = Z.positive-* (Z.positive-lit tt) (gap-positive s h)
 pub segment-rises : (s : Segment) → Good rising s → Rises (gap s) (pos (s .left .value)) (pos (s .right .value)) (curve-at s rising)
 unfolding I.curve has-shape fits
 segment-rises s k =
-    rising-rises (normal s) (S-positive s (k .ordered)) (gap-positive s (k .ordered)) (proper-gradient (s .left)) (proper-gradient (s .right)) (rise-kind (gap s) (pos (s .left .value)) (pos (s .right .value)) (k .shaped))
+    rising-rises (normal s) (S-positive s (k .ends .ordered)) (gap-positive s (k .ends .ordered)) (proper-gradient (s .left)) (proper-gradient (s .right)) (rise-kind (gap s) (pos (s .left .value)) (pos (s .right .value)) (k .shaped))
 
 pub segment-bends : (s : Segment) → Good convex s → Bends (gap s) (pos (s .left .value)) (pos (s .right .value)) (gradient (s .left)) (gradient (s .right)) (curve-at s convex) (slope-at s)
 unfolding I.curve has-shape fits
 segment-bends s k =
-    convex-bends (around s) (S-positive s (k .ordered)) (gap-positive s (k .ordered)) (proper-gradient (s .left)) (proper-gradient (s .right)) (bend-kind (gap s) (rise s) (k .shaped))
+    convex-bends (around s) (S-positive s (k .ends .ordered)) (gap-positive s (k .ends .ordered)) (proper-gradient (s .left)) (proper-gradient (s .right)) (bend-kind (gap s) (rise s) (k .shaped))
 
 pub segment-joins : (shape : Shape) (s : Segment) → Good shape s → Joins (gap s) (pos (s .left .value)) (pos (s .right .value)) (curve-at s shape)
 segment-joins rising s k = segment-rises s k .joins

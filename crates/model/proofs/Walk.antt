@@ -10,8 +10,8 @@ use native.Mathlib.Omega.{arith}
 use lib.Dec.{leb}
 use borrow.Author.Tests.{leb-true, leb-false, lt-leb, le-leb}
 use Rattle.model.specs.Points.{Point, Segment, segments}
-use Rattle.model.specs.Read.{taken}
-use Rattle.model.specs.Facts.{between}
+use Rattle.model.specs.Read.{taken, last-area}
+use Rattle.model.specs.Inner.{between, Inside}
 
 -- the test of two areas, by cases
 pub compare-areas : (a x : ℕ) → ((a ≤ x) × (leb a x ≡ true)) ⊎ ((x < a) × (leb a x ≡ false))
@@ -26,20 +26,10 @@ abbrev pub stop : Point → Point → List Point → ℕ → Segment
 stop p q [] x = between p q
 stop p q (r ∷ ps) x = cond (leb (q .area) x) (stop q r ps x) (between p q)
 
-abbrev pub last-area : Point → List Point → ℕ
-last-area p [] = p .area
-last-area p (q ∷ ps) = last-area q ps
-
 module _ (G : Segment → Type 0) where
   pub data Chain : Point → List Point → Type 0 where
     end : {p : Point} → Chain p []
     link : {p q : Point} {ps : List Point} → G (between p q) → Chain q ps → Chain p (q ∷ ps)
-
-  -- an area is read in a segment of the curve
-  pub record Reads (s : Segment) (x : ℕ) : Type 0 where
-    pub good : G s
-    pub low : s .left .area ≤ x
-    pub high : x ≤ s .right .area
 
   module _ (ordered : (s : Segment) → G s → s .left .area < s .right .area) where
     pub chain-ordered : {p : Point} {ps : List Point} → Chain p ps → p .area ≤ last-area p ps
@@ -68,10 +58,10 @@ module _ (G : Segment → Type 0) where
         (λ (w : (x < q .area) × (leb (q .area) x ≡ false)). step false (w .1) (stays x (between p q) c (let h = w .0 in omega arith)))
         (compare-areas (q .area) x)
 
-    pub stop-reads : (x : ℕ) {p q : Point} {ps : List Point} → Chain p (q ∷ ps) → p .area ≤ x → x ≤ last-area q ps → Reads (stop p q ps x) x
-    stop-reads x (link g end) low high = record { good = g; low = low; high = high }
-    stop-reads x (link {p = p} {q = q} g (link {q = r} {ps = ps} g' c)) low high =
-        let later : q .area ≤ x → Reads (stop q r ps x) x = λ h. stop-reads x (link g' c) h high in
+    pub stop-inside : (x : ℕ) {p q : Point} {ps : List Point} → Chain p (q ∷ ps) → p .area ≤ x → x ≤ last-area q ps → Inside G (stop p q ps x) x
+    stop-inside x (link g end) low high = record { good = g; low = low; high = high }
+    stop-inside x (link {p = p} {q = q} g (link {q = r} {ps = ps} g' c)) low high =
+        let later : q .area ≤ x → Inside G (stop q r ps x) x = λ h. stop-inside x (link g' c) h high in
         ⊎-elim (λ (w : (q .area ≤ x) × (leb (q .area) x ≡ true)). rw (w .1) (later (w .0)))
         (λ (w : (x < q .area) × (leb (q .area) x ≡ false)). rw (w .1) (record { good = g; low = low; high = le-of-lt (w .0) }))
         (compare-areas (q .area) x)
@@ -82,18 +72,18 @@ module _ (G : Segment → Type 0) where
     stop-first (link {p = p} {q = q} g (link g' c)) = rw (lt-leb (q .area) (p .area) (ordered (between p q) g))
 
     module _ (R : Segment → ℕ → Segment → ℕ → Type 0)
-        (inside : (s : Segment) (x y : ℕ) → Reads s x → Reads s y → x ≤ y → R s x s y)
+        (inside : (s : Segment) (x y : ℕ) → Inside G s x → Inside G s y → x ≤ y → R s x s y)
         (join : (p q r : Point) → G (between p q) → G (between q r) → R (between p q) (q .area) (between q r) (q .area))
-        (trans : (s s' s'' : Segment) (x y z : ℕ) → Reads s x → Reads s' y → Reads s'' z → R s x s' y → R s' y s'' z → R s x s'' z) where
+        (trans : (s s' s'' : Segment) (x y z : ℕ) → Inside G s x → Inside G s' y → Inside G s'' z → R s x s' y → R s' y s'' z → R s x s'' z) where
       -- from x in the first segment to y beyond it
       beyond : (x y : ℕ) {p q r : Point} {ps : List Point} → G (between p q) → Chain q (r ∷ ps) → p .area ≤ x → x ≤ q .area → y ≤ last-area r ps → q .area ≤ y → R (between q r) (q .area) (stop q r ps y) y → R (between p q) x (stop q r ps y) y
       beyond x y {p} {q} {r} {ps} g (link g' c) low mid high far later =
           let h = ordered (between p q) g in
           let k = ordered (between q r) g' in
-          let here : Reads (between p q) x = record { good = g; low = low; high = mid } in
-          let corner : Reads (between p q) (q .area) = record { good = g; low = le-of-lt h; high = le-refl (q .area) } in
-          let corner' : Reads (between q r) (q .area) = record { good = g'; low = le-refl (q .area); high = le-of-lt k } in
-          let there = stop-reads y (link g' c) far high in
+          let here : Inside G (between p q) x = record { good = g; low = low; high = mid } in
+          let corner : Inside G (between p q) (q .area) = record { good = g; low = le-of-lt h; high = le-refl (q .area) } in
+          let corner' : Inside G (between q r) (q .area) = record { good = g'; low = le-refl (q .area); high = le-of-lt k } in
+          let there = stop-inside y (link g' c) far high in
           trans (between p q) (between p q) (stop q r ps y) x (q .area) y here corner there
           (inside (between p q) x (q .area) here corner mid)
           (trans (between p q) (between q r) (stop q r ps y) (q .area) (q .area) y corner corner' there (join p q r g g') later)

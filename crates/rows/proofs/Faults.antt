@@ -18,7 +18,7 @@ use Rattle.model.specs.Shape.{has-shape}
 use Rattle.model.specs.Check.{bad-area, point-rows, segment-rows}
 use Rattle.model.specs.Facts.{fault-answer, Lengths, between}
 use Rattle.rows.specs.Steps.{earlier}
-use Rattle.segment.proofs.Bits.{same-test}
+use Rattle.exact.proofs.Bits.{same-test}
 use Rattle.model.proofs.Accepted.{passed, limit-passed}
 use Rattle.model.proofs.Indexed.{point}
 

@@ -1,5 +1,4 @@
 -- Laws of one segment's reading and shape in machine numbers.
-pub mod Bits
 pub mod Tests
 pub mod EndSlopes
 pub mod Machine

@@ -9,7 +9,7 @@ use Rattle.model.specs.Points.{gradient, Segment, rising, convex}
 use Rattle.model.specs.Shape.{rises, bends, fits, has-shape}
 use Rattle.model.proofs.Segments.{gap, rise, e₀, g, e₁}
 use Rattle.segment.specs.Steps.{eqZ, rises-by, bends-by}
-use Rattle.segment.proofs.Bits.{le-is}
+use Rattle.exact.proofs.Bits.{le-is}
 
 apart : (a b : ℤ) → ltZ a b ≡ true → (eqZ a b ≡ false) × (eqZ b a ≡ false)
 apart a b e = (rw (le-is b a, e) (and-false (leZ a b)), rw (le-is b a, e))

@@ -6,7 +6,7 @@ use Prim.Native.Nat.{ℕ, _+_, _*_, _/_, _%_, _^_, _≤_, _<_}
 use native.Mathlib.Nat.{le-of-lt, mod-lt, mul-le-mul, mul-le-mul-right, div-add-mod', mul-add-div-right, mul-add-mod-self-right}
 use native.Mathlib.Omega.{arith}
 use borrow.Author.Needs.{needs}
-use Rattle.exact.specs.MulDiv.{Step}
+use Rattle.exact.specs.Inner.{Step}
 use Rattle.exact.proofs.Ring.{ring-ℕ, counts}
 use Rattle.exact.proofs.Size.{scaled-size}
 use Rattle.exact.proofs.step.Statement.{statement}

@@ -3,7 +3,7 @@
 use Prim.Native.Nat.{_+_}
 use native.Mathlib.Numerals.{add-one}
 use borrow.Author.Needs.{needs}
-use Rattle.segment.proofs.Bits.{element-is}
+use Rattle.exact.proofs.Bits.{element-is}
 use Rattle.lookup.proofs.ends_at.Statement.{statement}
 use Rattle.lookup.proofs.ends_at.Tie as tie
 

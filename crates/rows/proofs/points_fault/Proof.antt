@@ -10,7 +10,7 @@ use lib.ListN.{length, getD}
 use Rattle.model.specs.Answer.{Answer, _then_}
 use Rattle.model.specs.Facts.{fault-answer}
 use Rattle.rows.specs.Steps.{earlier}
-use Rattle.segment.proofs.Bits.{element-is}
+use Rattle.exact.proofs.Bits.{element-is}
 use Rattle.rows.proofs.Faults.{no-fault, passes, stops, after-first, area-passed, points-from, point-turn, point-end}
 use Rattle.rows.proofs.points_fault.Statement.{statement}
 use Rattle.rows.proofs.points_fault.Tie as tie

@@ -10,7 +10,7 @@ use Rattle.model.specs.Answer.{Answer, row, _then_}
 use Rattle.model.specs.Points.{Point, shape-of}
 use Rattle.model.specs.Shape.{has-shape}
 use Rattle.model.specs.Facts.{fault-answer, between}
-use Rattle.segment.proofs.Bits.{element-is}
+use Rattle.exact.proofs.Bits.{element-is}
 use Rattle.model.proofs.Indexed.{point}
 use Rattle.rows.proofs.Faults.{segments-from, segment-turn, segment-end}
 use Rattle.rows.proofs.segments_fault.Statement.{statement}

@@ -3,7 +3,7 @@
 use mathlib.Core.Path.{sym, _∙_}
 use borrow.Author.Tests.{eq-eqb, ne-eqb}
 use Rattle.segment.specs.Steps.{bends-by}
-use Rattle.segment.proofs.Bits.{lt-bits, eq-bits}
+use Rattle.exact.proofs.Bits.{lt-bits, eq-bits}
 use Rattle.segment.proofs.bends.Statement.{statement}
 use Rattle.segment.proofs.bends.Tie as tie
 

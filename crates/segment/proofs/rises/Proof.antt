@@ -10,7 +10,7 @@ use mir.Syntax.{w32, w64}
 use mir.Val.{ofZ}
 use mir.Facts.{toZ-ofZ}
 use Rattle.segment.specs.Steps.{eqZ, rises-by}
-use Rattle.segment.proofs.Bits.{zero-fits, le-is, eq-bits}
+use Rattle.exact.proofs.Bits.{zero-fits, le-is, eq-bits}
 use Rattle.segment.proofs.rises.Statement.{statement}
 use Rattle.segment.proofs.rises.Tie as tie
 

@@ -13,8 +13,8 @@ use lib.Signed.{mag, leZ, ltZ, ≤ℤ-refl, leZ-yes}
 use mir.Syntax.{Width, w32}
 use mir.Val.{SFits, hbits, toZ, ofZ}
 use mir.Facts.{toZ-ofZ, and-yes, yes-and}
+use Rattle.exact.specs.Inner.{eqZ}
 use Rattle.exact.proofs.Order as Z
-use Rattle.segment.specs.Steps.{eqZ}
 
 pub same-test : (s t : Bool) → (T s → T t) → (T t → T s) → s ≡ t
 same-test true true f g = refl

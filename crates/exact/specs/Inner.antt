@@ -1,7 +1,14 @@
--- The quotient of a product by long division: what it asks, and what holds after each digit.
+-- What contracts of inner functions cite: equality of integers as a test; the quotient of a product by long division, what it asks
+-- and what holds after each digit. Nothing here need be believed.
 -- Assumes nothing.
 use mathlib.Core.Path.{_≡_}
+use mathlib.Core.Bool.{Bool, _&&_}
+use lib.IntN.{ℤ}
+use lib.Signed.{leZ}
 use Prim.Native.Nat.{ℕ, _*_, _/_, _%_, _^_, _≤_, _<_}
+
+abbrev pub eqZ : ℤ → ℤ → Bool
+eqZ a b = leZ a b && leZ b a
 
 -- what x y / c asks
 pub record Scaled (x y c : ℕ) : Type 0 where

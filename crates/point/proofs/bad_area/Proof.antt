@@ -1,13 +1,13 @@
--- `rows::bad_area` meets its contract: each test is one of row 3's.
+-- `point::bad_area` meets its contract: each test is one of row 3's.
 -- Assumes nothing.
 use mathlib.Core.Path.{sym}
 use borrow.Author.Needs.{needs}
 use borrow.Author.Tests.{le-ltb}
 use Rattle.model.specs.Check.{bad-area}
-use Rattle.rows.specs.Steps.{earlier}
-use Rattle.rows.proofs.Faults.{too-large, wrapped}
-use Rattle.rows.proofs.bad_area.Statement.{statement}
-use Rattle.rows.proofs.bad_area.Tie as tie
+use Rattle.point.specs.Inner.{earlier}
+use Rattle.point.proofs.Area.{too-large, wrapped}
+use Rattle.point.proofs.bad_area.Statement.{statement}
+use Rattle.point.proofs.bad_area.Tie as tie
 
 returns : tie.Need-returns
 returns c = sym (too-large _ _ (c .if1 .taken))
