@@ -1,0 +1,284 @@
+-- The laws of an accepted curve, from the relations across it. Those that document 01 states of exact values: segments-meet,
+-- convex-chords (specs/Laws.antt). Of factors, for the demands over every call:
+--   factors-are-near      at most half a unit off; where it is exactly half a unit, upwards
+--   factors-are-ranged    from −200,000 to 200,000
+--   rated-points-read     at a rated point the factor is the point's value
+--   rising-factors        a larger area never reads less, on a rising curve
+--   convex-steps          of three areas equally far apart, the second step is at most one unit smaller, on a convex curve
+-- Assumes nothing.
+use mathlib.Core.Path.{_≡_, sym, _∙_, ap, subst, subst⁻¹, subst₂}
+use mathlib.Core.Bool.{true, false}
+use mathlib.Core.List.{List, [], _∷_, _++_}
+use mathlib.Core.Logic.{_⊎_, inl, inr}
+use Prim.Native.Nat.{ℕ, zero, suc, _+_, _*_, _≤_, _<_}
+use native.Mathlib.Nat.{le-refl, le-of-lt, le-of-eq}
+use native.Mathlib.Omega.{arith}
+use lib.IntN.{ℤ, pos, negℤ, _+ℤ_, _-ℤ_, _*ℤ_}
+use lib.ListN.{length, getD, length-map, List·getD-map}
+use lib.Signed.{_≤ℤ_, _<ℤ_}
+use Rattle.exact.specs.Fraction.{Fraction, Proper, whole, _+ℚ_, _-ℚ_, _*ℚ_, _/ℚ_, _≈ℚ_, _≤ℚ_, _<ℚ_}
+use Rattle.exact.specs.Rounding.{half}
+use Rattle.exact.proofs.Order as Z
+use Rattle.exact.proofs.Field.{field, ratios}
+use Rattle.exact.proofs.Fractions as Q
+use Rattle.exact.proofs.Fractions.{propers, positivity}
+use Rattle.exact.proofs.Floor.{round-keeps-order, round-is-near, round-≈, round-whole, whole-<}
+use Rattle.model.specs.Points.{Point, Segment, Shape, rising, convex, shape-of}
+use Rattle.model.specs.Interpolant.{interpolant}
+use Rattle.model.specs.Read.{outside, reading}
+use Rattle.model.specs.Laws.{Curve, Area, exact, factor, chord-slope, Gives, SegmentsMeet, ConvexChords}
+use Rattle.model.specs.Inner.{origin, point-at, segment-at, areas-of, Good, Inside, Taken}
+use Rattle.model.proofs.ClosedForm.{Closed}
+use Rattle.model.proofs.Codes.{is-rising, code-2}
+use Rattle.model.proofs.Walk.{compare-areas}
+use Rattle.model.proofs.Segments.{interpolant-proper, interpolant-left, interpolant-right}
+use Rattle.model.proofs.Range.{Ranged, value-range, reading-low, reading-high}
+use Rattle.model.proofs.Relations.{values-rise, slope, Convex, tangents-support, slope-proper}
+use Rattle.model.proofs.Indexed.{Chained, chained, stop-in, segment-at-append, chained-at, low-of, high-of}
+use Rattle.model.proofs.Accepted.{good-ordered, count-of, chained-of, stops-inside, value-is, value-at-index}
+
+module _ (c : Curve) where
+  abbrev shape : Shape
+  shape = shape-of (c .code)
+
+  -- the segment that an area takes
+  abbrev segment-of : ℕ → Segment
+  segment-of x = stop-in (c .points) x
+
+  segment-inside : (x : ℕ) → Area c x → Inside (Good shape) (segment-of x) x
+  segment-inside x k = stops-inside (c .accepted) x (k .within)
+
+  good-at : (i : ℕ) → suc i < length (c .points) → Good shape (segment-at (c .points) i)
+  good-at = chained-at (Good shape) good-ordered (chained-of (c .accepted))
+
+-- ---- values and factors
+
+pub values-are-proper : (c : Curve) (x : ℕ) → Area c x → Proper (exact c x)
+values-are-proper c x k =
+    let r = segment-inside c x k in
+    subst⁻¹ Proper (value-is (c .accepted) x) (interpolant-proper (shape c) (segment-of c x) (r .good) x (r .low) (r .high))
+
+pub factors-are-near : (c : Curve) (x : ℕ) → Area c x →
+    (exact c x -ℚ half <ℚ whole (factor c x)) × (whole (factor c x) ≤ℚ exact c x +ℚ half)
+unfolding reading
+factors-are-near c x k = round-is-near (exact c x) (values-are-proper c x k)
+
+pub factors-are-ranged : (c : Curve) (x : ℕ) → Area c x → (negℤ (pos 200000) ≤ℤ factor c x) × (factor c x ≤ℤ pos 200000)
+unfolding reading
+factors-are-ranged c x k =
+    let p = values-are-proper c x k in
+    let r = subst⁻¹ Ranged (value-is (c .accepted) x) (value-range (shape c) (segment-of c x) x (segment-inside c x k)) in
+    (reading-low (exact c x) p r, reading-high (exact c x) p r)
+
+-- ---- rated points
+
+pub segments-meet : SegmentsMeet
+segments-meet c before after p q e =
+    let i = length before in
+    let n : suc i < length (c .points) = subst⁻¹ (λ (ps : List Point). suc i < length ps) e (index before) in
+    let s = ap (λ (ps : List Point). segment-at ps i) e ∙ segment-at-append before after p q in
+    let g = subst (Good (shape c)) s (good-at c i n) in
+    let h = g .ends .ordered in
+    (record { proper = interpolant-proper (shape c) _ g (p .area) (le-refl _) (le-of-lt h); value = interpolant-left (shape c) _ g },
+    record { proper = interpolant-proper (shape c) _ g (q .area) (le-of-lt h) (le-refl _); value = interpolant-right (shape c) _ g })
+  where
+    index : (before : List Point) → suc (length before) < length (before ++ p ∷ q ∷ after)
+    index [] = omega arith
+    index (b ∷ before) = let h = index before in omega arith
+
+module _ (c : Curve) (i : ℕ) where
+  abbrev rated : Point
+  rated = point-at (c .points) i
+
+  -- the area of the point at i, in the list of areas
+  area-is : (j : ℕ) → getD (areas-of (c .points)) j 0 ≡ point-at (c .points) j .area
+  area-is j = List·getD-map (λ p. p .area) (c .points) j origin
+
+  size : length (areas-of (c .points)) ≡ length (c .points)
+  size = length-map (c .points) (λ p. p .area)
+
+  -- any point but the last is the left end of the segment that its area takes
+  rated-left : suc i < length (c .points) → Closed (exact c (rated .area)) (whole (pos (rated .value)))
+  rated-left n =
+      let g = good-at c i n in
+      let h = g .ends .ordered in
+      let taken : Taken (areas-of (c .points)) i (rated .area) = record {
+        reached = record { inner = rw size n; low = le-of-eq (area-is i) };
+        high = inl (rw (area-is (suc i)) h);
+      } in
+      rw (value-at-index (c .accepted) taken) (record { proper = interpolant-proper (shape c) _ g _ (le-refl _) (le-of-lt h); same = interpolant-left (shape c) _ g })
+
+-- the last is the right end of the last segment
+rated-right : (c : Curve) (k : ℕ) → suc (suc k) ≡ length (c .points) → Closed (exact c (rated c (suc k) .area)) (whole (pos (rated c (suc k) .value)))
+rated-right c k e =
+    let n : suc k < length (c .points) = omega arith in
+    let g = good-at c k n in
+    let h = g .ends .ordered in
+    let taken : Taken (areas-of (c .points)) k (rated c (suc k) .area) = record {
+      reached = record { inner = rw (size c k) n; low = rw (area-is c k k) (le-of-lt h) };
+      high = inr (e ∙ sym (size c k));
+    } in
+    rw (value-at-index (c .accepted) taken) (record { proper = interpolant-proper (shape c) _ g _ (le-of-lt h) (le-refl _); same = interpolant-right (shape c) _ g })
+
+rated-value : (c : Curve) (i : ℕ) → i < length (c .points) → Closed (exact c (rated c i .area)) (whole (pos (rated c i .value)))
+rated-value c i h =
+    elim (compare-areas (length (c .points)) (suc i)) [
+      | inl (k, e) ↦ last i h k
+      | inr (k, e) ↦ rated-left c i k
+    ]
+  where
+    last : (i : ℕ) → i < length (c .points) → length (c .points) ≤ suc i → Closed (exact c (rated c i .area)) (whole (pos (rated c i .value)))
+    last zero h k = absurd (let n = count-of (c .accepted) .0 in omega arith)
+    last (suc k) h m = rated-right c k (omega arith)
+
+pub rated-points-read : (c : Curve) (i : ℕ) → i < length (c .points) → factor c (rated c i .area) ≡ pos (rated c i .value)
+unfolding reading
+rated-points-read c i h =
+    let v = rated-value c i h in
+    round-≈ _ _ (v .proper) (Q.proper-whole (pos (rated c i .value))) (v .same) ∙ round-whole (pos (rated c i .value))
+
+-- ---- rising
+
+-- the value at x, on a curve of a known shape
+value-as : (c : Curve) {shape : Shape} → shape-of (c .code) ≡ shape → (x : ℕ) → exact c x ≡ interpolant shape (segment-of c x) x
+value-as c e x = value-is (c .accepted) x ∙ ap (λ (sh : Shape). interpolant sh (segment-of c x) x) e
+
+chained-as : (c : Curve) {shape : Shape} → shape-of (c .code) ≡ shape → Chained (Good shape) (c .points)
+chained-as c e = subst (λ (sh : Shape). Chained (Good sh) (c .points)) e (chained-of (c .accepted))
+
+rises-across : {ps : List Point} → Chained (Good rising) ps → (x y : ℕ) → outside ps x ≡ false → outside ps y ≡ false → x ≤ y →
+    interpolant rising (stop-in ps x) x ≤ℚ interpolant rising (stop-in ps y) y
+rises-across (chained {p = p} {q = q} {ps = ps} c) x y kx ky h =
+    values-rise c x y (low-of p (q ∷ ps) x kx) h (high-of p (q ∷ ps) y ky)
+
+pub rising-values : (c : Curve) → c .code ≡ 1 → (x y : ℕ) → Area c x → Area c y → x ≤ y → exact c x ≤ℚ exact c y
+rising-values c e x y kx ky h =
+    subst₂ (λ (v w : Fraction). v ≤ℚ w) (sym (value-as c (is-rising e) x)) (sym (value-as c (is-rising e) y))
+    (rises-across (chained-as c (is-rising e)) x y (kx .within) (ky .within) h)
+
+pub rising-factors : (c : Curve) → c .code ≡ 1 → (x y : ℕ) → Area c x → Area c y → x ≤ y → factor c x ≤ℤ factor c y
+unfolding reading
+rising-factors c e x y kx ky h =
+    round-keeps-order (exact c x) (exact c y) (values-are-proper c x kx) (values-are-proper c y ky) (rising-values c e x y kx ky h)
+
+-- ---- convex
+
+bends-across : {ps : List Point} → Chained (Good convex) ps → (x y : ℕ) → outside ps x ≡ false → outside ps y ≡ false → x ≤ y →
+    Convex (stop-in ps x) x (stop-in ps y) y
+bends-across (chained {p = p} {q = q} {ps = ps} c) x y kx ky h =
+    tangents-support c x y (low-of p (q ∷ ps) x kx) h (high-of p (q ∷ ps) y ky)
+
+module _ (c : Curve) (e : c .code ≡ 2) where
+  -- the slope at x, and the relation between two areas
+  abbrev σ : ℕ → Fraction
+  σ x = slope (segment-of c x) x
+
+  related : (x y : ℕ) → Area c x → Area c y → x ≤ y → Convex (segment-of c x) x (segment-of c y) y
+  related x y kx ky h = bends-across (chained-as c (code-2 e)) x y (kx .within) (ky .within) h
+
+  σ-proper : (x : ℕ) → Area c x → Proper (σ x)
+  σ-proper x k =
+      slope-proper (segment-of c x) x
+      (subst (λ (sh : Shape). Inside (Good sh) (segment-of c x) x) (code-2 e) (segment-inside c x k))
+
+  -- the tangent at x is nowhere above the curve
+  supports : (x z : ℕ) → Area c x → Area c z → exact c x +ℚ σ x *ℚ whole (pos z -ℤ pos x) ≤ℚ exact c z
+  supports x z kx kz =
+      rw (value-as c (code-2 e) x, value-as c (code-2 e) z)
+      (elim (compare-areas x z) [
+        | inl (h, t) ↦ related x z kx kz h .rightwards
+        | inr (h, t) ↦ related z x kz kx (le-of-lt h) .leftwards
+      ])
+
+-- two chords, the tangents at whose inner ends are below the curve
+module _ (v₁ v₂ v₃ v₄ s₂ s₃ : Fraction) (x₁ x₂ x₃ x₄ : ℤ)
+    (p₁ : Proper v₁) (p₂ : Proper v₂) (p₃ : Proper v₃) (p₄ : Proper v₄) (q₂ : Proper s₂) (q₃ : Proper s₃) where
+  abbrev left-chord : Fraction
+  left-chord = (v₂ -ℚ v₁) /ℚ whole (x₂ -ℤ x₁)
+
+  abbrev right-chord : Fraction
+  right-chord = (v₄ -ℚ v₃) /ℚ whole (x₄ -ℤ x₃)
+
+  -- what the curve is above the tangents at the outer ends, over the chords' lengths, and the tangents' difference
+  abbrev excess : Fraction
+  excess =
+      (v₄ -ℚ (v₃ +ℚ s₃ *ℚ whole (x₄ -ℤ x₃))) /ℚ whole (x₄ -ℤ x₃)
+      +ℚ (v₁ -ℚ (v₂ +ℚ s₂ *ℚ whole (x₁ -ℤ x₂))) /ℚ whole (x₂ -ℤ x₁)
+      +ℚ (s₃ -ℚ s₂)
+
+  chords-certificate : right-chord -ℚ left-chord ≈ℚ excess
+  chords-certificate =
+      field
+      (v₁ .num ∷ v₁ .den ∷ v₂ .num ∷ v₂ .den ∷ v₃ .num ∷ v₃ .den ∷ v₄ .num ∷ v₄ .den
+      ∷ s₂ .num ∷ s₂ .den ∷ s₃ .num ∷ s₃ .den ∷ x₁ ∷ x₂ ∷ x₃ ∷ x₄ ∷ [])
+      (search ratios depth 30 fits 9999) tt
+
+  chords : x₁ <ℤ x₂ → x₃ <ℤ x₄ →
+      v₂ +ℚ s₂ *ℚ whole (x₁ -ℤ x₂) ≤ℚ v₁ →
+      s₂ ≤ℚ s₃ →
+      v₃ +ℚ s₃ *ℚ whole (x₄ -ℤ x₃) ≤ℚ v₄ →
+      Proper left-chord × Proper right-chord × (left-chord ≤ℚ right-chord)
+  chords h h' k m k' =
+      let w = Q.positive-whole (x₂ -ℤ x₁) (Z.<-difference h) in
+      let w' = Q.positive-whole (x₄ -ℤ x₃) (Z.<-difference h') in
+      (search propers,
+      search propers,
+      Q.≤-by (search propers) (search propers) excess (search propers depth 9) chords-certificate
+      (Q.nonneg-+ (search propers depth 9) (search propers)
+      (Q.nonneg-+ (search propers depth 9) (search propers depth 9)
+      (Q.nonneg-/ (Q.nonneg-difference k') (search propers)) (Q.nonneg-/ (Q.nonneg-difference k) (search propers)))
+      (Q.nonneg-difference m)))
+
+pub convex-chords : ConvexChords
+convex-chords c e x₁ x₂ x₃ x₄ k₁ k₂ k₃ k₄ h m h' =
+    let p = values-are-proper c in
+    chords _ _ _ _ _ _ (pos x₁) (pos x₂) (pos x₃) (pos x₄)
+    (p x₁ k₁) (p x₂ k₂) (p x₃ k₃) (p x₄ k₄) (σ-proper c e x₂ k₂) (σ-proper c e x₃ k₃)
+    (Z.pos-< h) (Z.pos-< h')
+    (supports c e x₂ x₁ k₂ k₁) (related c e x₂ x₃ k₂ k₃ m .slopes) (supports c e x₃ x₄ k₃ k₄)
+
+-- of three areas equally far apart, twice the middle value is at most the sum of the outer ones
+module _ (v₀ v₁ v₂ s : Fraction) (x k : ℤ) (p₀ : Proper v₀) (p₁ : Proper v₁) (p₂ : Proper v₂) (q : Proper s) where
+  middle : v₁ +ℚ s *ℚ whole (x -ℤ (x +ℤ k)) ≤ℚ v₀ →
+      v₁ +ℚ s *ℚ whole ((x +ℤ pos 2 *ℤ k) -ℤ (x +ℤ k)) ≤ℚ v₂ →
+      whole (pos 2) *ℚ v₁ ≤ℚ v₀ +ℚ v₂
+  middle h m =
+      Q.≤-by (search propers) (search propers)
+      ((v₀ -ℚ (v₁ +ℚ s *ℚ whole (x -ℤ (x +ℤ k)))) +ℚ (v₂ -ℚ (v₁ +ℚ s *ℚ whole ((x +ℤ pos 2 *ℤ k) -ℤ (x +ℤ k)))))
+      (search propers depth 9)
+      (field
+      (v₀ .num ∷ v₀ .den ∷ v₁ .num ∷ v₁ .den ∷ v₂ .num ∷ v₂ .den ∷ s .num ∷ s .den ∷ x ∷ k ∷ [])
+      (search ratios depth 30 fits 9999) tt)
+      (Q.nonneg-+ (search propers) (search propers) (Q.nonneg-difference h) (Q.nonneg-difference m))
+
+-- their roundings: r₀ and r₂ are less than half a unit below, r₁ is at most half a unit above
+module _ (v₀ v₁ v₂ : Fraction) (r₀ r₁ r₂ : ℤ) (p₀ : Proper v₀) (p₁ : Proper v₁) (p₂ : Proper v₂) where
+  abbrev margin : Fraction
+  margin =
+      (whole r₀ -ℚ (v₀ -ℚ half))
+      +ℚ ((whole r₂ -ℚ (v₂ -ℚ half)) +ℚ (whole (pos 2) *ℚ (v₁ +ℚ half -ℚ whole r₁) +ℚ (v₀ +ℚ v₂ -ℚ whole (pos 2) *ℚ v₁)))
+
+  rounded-middle : v₀ -ℚ half <ℚ whole r₀ →
+      whole r₁ ≤ℚ v₁ +ℚ half →
+      v₂ -ℚ half <ℚ whole r₂ →
+      whole (pos 2) *ℚ v₁ ≤ℚ v₀ +ℚ v₂ →
+      (r₁ -ℤ r₀ -ℤ pos 1) ≤ℤ (r₂ -ℤ r₁)
+  rounded-middle h₀ h₁ h₂ m =
+      let q : Proper half = search positivity in
+      Z.≤-of-< (whole-< _ _ (Q.<-by (search propers) (search propers) margin (search positivity depth 9)
+      (field
+      (v₀ .num ∷ v₀ .den ∷ v₁ .num ∷ v₁ .den ∷ v₂ .num ∷ v₂ .den ∷ r₀ ∷ r₁ ∷ r₂ ∷ [])
+      (search ratios depth 30 fits 9999) tt)
+      (Q.positive-+ (search propers) (search propers depth 9) (Q.positive-difference h₀)
+      (Q.nonneg-+ (search propers) (search propers depth 9) (Q.positive-nonneg (Q.positive-difference h₂))
+      (Q.nonneg-+ (search propers) (search propers) (Q.nonneg-* (search positivity) (Q.nonneg-difference h₁))
+      (Q.nonneg-difference m))))))
+
+pub convex-steps : (c : Curve) → c .code ≡ 2 → (x k : ℕ) → Area c x → Area c (x + k) → Area c (x + 2 * k) →
+    (factor c (x + k) -ℤ factor c x -ℤ pos 1) ≤ℤ (factor c (x + 2 * k) -ℤ factor c (x + k))
+convex-steps c e x k k₀ k₁ k₂ =
+    let p = values-are-proper c in
+    rounded-middle _ _ _ _ _ _ (p x k₀) (p (x + k) k₁) (p (x + 2 * k) k₂)
+    (factors-are-near c x k₀ .0) (factors-are-near c (x + k) k₁ .1) (factors-are-near c (x + 2 * k) k₂ .0)
+    (middle _ _ _ _ (pos x) (pos k) (p x k₀) (p (x + k) k₁) (p (x + 2 * k) k₂) (σ-proper c e (x + k) k₁)
+    (supports c e (x + k) x k₁ k₀) (supports c e (x + k) (x + 2 * k) k₁ k₂))
