@@ -43,4 +43,4 @@ module _ (ps : List Point) (x : ℕ) (some : 0 < length ps) where
   inside-of-both h k = rw (outside-at ps x some, le-ltb x _ h, le-ltb _ x k)
 
   pub outside-of-beyond : last (areas-of ps) < x → outside ps x ≡ true
-  outside-of-beyond h = rw (outside-at ps x some, lt-ltb _ x h) (or-true _)
+  outside-of-beyond h = rw (outside-at ps x some, lt-ltb _ x h) (or-true (ltb x (first (areas-of ps))))
