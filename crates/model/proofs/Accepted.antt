@@ -1,6 +1,7 @@
 -- An accepted curve, as a chain of segments that each have their shape.
 --   count-of       2 to 64 points
---   chained-of     the points are a chain of good segments
+--   neighbours-of-rows    points that pass rows 1 and 3 to 5 are a chain; good-of-rows, and row 6 too
+--   chained-of     the points of an accepted curve are a chain of good segments
 --   value-is       the exact value at an area is that of the segment where a walk from the left stops
 --   inside, reading-is    the segment that an area takes, by its index
 -- Assumes nothing.
@@ -21,7 +22,7 @@ use Rattle.model.specs.Interpolant.{interpolant}
 use Rattle.model.specs.Shape.{has-shape}
 use Rattle.model.specs.Check.{bad-count, bad-code, point-rows, segment-rows, curve-rows, Accepted}
 use Rattle.model.specs.Read.{value-in, outside, exact-value, reading}
-use Rattle.model.specs.Inner.{between, segment-at, areas-of, Limits, Good, Inside, Taken, Readable}
+use Rattle.model.specs.Inner.{between, segment-at, areas-of, Limits, Neighbours, Good, Inside, Taken, Readable}
 use Rattle.model.proofs.Walk.{Chain, end, link, taken-is-stop}
 use Rattle.model.proofs.Indexed.{Chained, chained, stop-in, stop-at, stop-in-inside}
 use Rattle.model.proofs.Rows.{then-first, then-rest, row-passed, count-of-row-1, passed, neighbours}
@@ -29,23 +30,33 @@ use Rattle.model.proofs.Rows.{then-first, then-rest, row-passed, count-
 pub good-ordered : {shape : Shape} (s : Segment) → Good shape s → s .left .area < s .right .area
 good-ordered s g = g .ends .ordered
 
-chain : (shape : Shape) (i j : ℕ) (p : Point) (ps : List Point) → Limits p →
-    point-rows i (some (p .area)) ps ≡ gives tt → segment-rows j shape (segments (p ∷ ps)) ≡ gives tt → Chain (Good shape) p ps
-unfolding segments segment-rows
-chain shape i j p [] l e f = end
-chain shape i j p (q ∷ ps) l e f =
+neighbour-chain : (i : ℕ) (p : Point) (ps : List Point) → Limits p → point-rows i (some (p .area)) ps ≡ gives tt →
+    Chain Neighbours p ps
+neighbour-chain i p [] l e = end
+neighbour-chain i p (q ∷ ps) l e =
     let m = passed i (some (p .area)) q ps e in
-    let shaped = not-false (has-shape shape (between p q)) (row-passed (not (has-shape shape (between p q))) 6 j _ f) in
-    link (record { ends = neighbours l m; shaped = subst⁻¹ T shaped tt })
-    (chain shape (suc i) (suc j) q ps (m .limits) (m .later) (then-rest (row (not (has-shape shape (between p q))) 6 j) _ f))
+    link (neighbours l m) (neighbour-chain (suc i) q ps (m .limits) (m .later))
 
-pub chained-from : (shape : Shape) (ps : List Point) → points-least ≤ length ps →
-    point-rows 0 none ps ≡ gives tt → segment-rows 0 shape (segments ps) ≡ gives tt → Chained (Good shape) ps
-chained-from shape [] h e f = absurd (omega arith)
-chained-from shape (p ∷ []) h e f = absurd (omega arith)
-chained-from shape (p ∷ q ∷ ps) h e f =
+good-chain : (shape : Shape) (i : ℕ) {p : Point} {ps : List Point} → Chain Neighbours p ps →
+    segment-rows i shape (segments (p ∷ ps)) ≡ gives tt → Chain (Good shape) p ps
+unfolding segments segment-rows
+good-chain shape i end e = end
+good-chain shape i (link {p = p} {q = q} n c) e =
+    let shaped = row-passed (not (has-shape shape (between p q))) 6 i _ e in
+    link (record { ends = n; shaped = subst⁻¹ T (not-false (has-shape shape (between p q)) shaped) tt })
+    (good-chain shape (suc i) c (then-rest (row (not (has-shape shape (between p q))) 6 i) _ e))
+
+-- rows 1 and 3 to 5, then 6, as facts
+pub neighbours-of-rows : (ps : List Point) → points-least ≤ length ps → point-rows 0 none ps ≡ gives tt → Chained Neighbours ps
+neighbours-of-rows [] h e = absurd (omega arith)
+neighbours-of-rows (p ∷ []) h e = absurd (omega arith)
+neighbours-of-rows (p ∷ q ∷ ps) h e =
     let m = passed 0 none p (q ∷ ps) e in
-    chained (chain shape 1 0 p (q ∷ ps) (m .limits) (m .later) f)
+    chained (neighbour-chain 1 p (q ∷ ps) (m .limits) (m .later))
+
+pub good-of-rows : (shape : Shape) {ps : List Point} → Chained Neighbours ps → segment-rows 0 shape (segments ps) ≡ gives tt →
+    Chained (Good shape) ps
+good-of-rows shape (chained c) e = chained (good-chain shape 0 c e)
 
 module _ {ps : List Point} {code : ℕ} (k : Accepted ps code) where
   pub count-of : (points-least ≤ length ps) × (length ps ≤ points-most)
@@ -57,7 +68,8 @@ module _ {ps : List Point} {code : ℕ} (k : Accepted ps code) where
   chained-of =
       let after-1 = then-rest (row (bad-count (length ps)) 1 0) _ (k .none-applies) in
       let after-2 = then-rest (row (bad-code code) 2 0) _ after-1 in
-      chained-from (shape-of code) ps (count-of .0) (then-first (point-rows 0 none ps) _ after-2) (then-rest (point-rows 0 none ps) _ after-2)
+      good-of-rows (shape-of code) (neighbours-of-rows ps (count-of .0) (then-first (point-rows 0 none ps) _ after-2))
+      (then-rest (point-rows 0 none ps) _ after-2)
 
   pub stops-inside : (x : ℕ) → outside ps x ≡ false → Inside (Good (shape-of code)) (stop-in ps x) x
   stops-inside = stop-in-inside (Good (shape-of code)) good-ordered chained-of

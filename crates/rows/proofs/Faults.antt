@@ -4,10 +4,10 @@
 --   points-from, segments-from  the rows from an index on; point-turn, segment-turn, one turn of a loop over them
 -- Assumes nothing.
 use mathlib.Core.Path.{_≡_, refl, sym, _∙_}
-use mathlib.Core.Bool.{not}
+use mathlib.Core.Bool.{Bool, not}
 use mathlib.Core.List.{List, [], _∷_}
 use mathlib.Core.Option.{Option, some}
-use Prim.Native.Nat.{ℕ, _+_, _<_}
+use Prim.Native.Nat.{ℕ, suc, _+_, _<_}
 use native.Mathlib.Numerals.{add-one}
 use native.Mathlib.Omega.{arith}
 use borrow.Author.Tests.{eq-eqb, ne-eqb}
@@ -66,25 +66,32 @@ module _ (ps : List Point) where
   abbrev pub segments-from : Shape → ℕ → Answer (Unit {0})
   segments-from shape i = segment-rows i shape (segments (drop i ps))
 
-  pub point-turn : (before : Option ℕ) (i : ℕ) → i < length ps →
-      points-from before i ≡ (point-rows i before (point-at ps i ∷ []) then points-from (some (point-at ps i .area)) (i + 1))
+  -- the point at i, then the rows of the points after it
+  pub point-turn : (before : Option ℕ) (i number : ℕ) (p : Point) → i < length ps →
+      p ≡ point-at ps i →
+      fault-answer number i ≡ point-rows i before (p ∷ []) →
+      (fault-answer number i then points-from (some (p .area)) (i + 1)) ≡ points-from before i
   unfolding point-rows
-  point-turn before i h = rw (drop-cons ps i origin h, add-one i) (regroup _ _ _ _)
+  point-turn before i number p h e f = rw (f, e, drop-cons ps i origin h, add-one i) (sym (regroup _ _ _ _))
 
   pub point-end : (before : Option ℕ) (i : ℕ) → i ≡ length ps → points-from before i ≡ gives tt
   unfolding point-rows
   point-end before i e = rw (e, drop-length ps)
 
-  pub segment-turn : (shape : Shape) (i : ℕ) → i + 1 < length ps →
-      segments-from shape i
-      ≡ (row (not (has-shape shape (between (point-at ps i) (point-at ps (i + 1))))) 6 i then segments-from shape (i + 1))
+  -- the segment at i, then the rows of the segments after it
+  pub segment-turn : (shape : Shape) (i : ℕ) {b : Bool} (p q : Point) → i + 1 < length ps →
+      p ≡ point-at ps i →
+      q ≡ point-at ps (i + 1) →
+      b ≡ has-shape shape (between p q) →
+      (row (not b) 6 i then segments-from shape (i + 1)) ≡ segments-from shape i
   unfolding segments segment-rows
-  segment-turn shape i h =
-      let k : i < length ps = omega arith in
-      rw (drop-cons ps i origin k, ← add-one i, drop-cons ps (i + 1) origin h)
+  segment-turn shape i p q h e f g =
+      let here : i < length ps = omega arith in
+      let next : suc i < length ps = omega arith in
+      rw (g, e, f, add-one i, drop-cons ps i origin here, drop-cons ps (suc i) origin next)
 
   pub segment-end : (shape : Shape) (i : ℕ) → i + 1 ≡ length ps → segments-from shape i ≡ gives tt
   unfolding segments segment-rows
   segment-end shape i e =
-      let k : i < length ps = omega arith in
-      rw (drop-cons ps i origin k, ← add-one i, e, drop-length ps)
+      let here : i < length ps = omega arith in
+      rw (drop-cons ps i origin here, ← add-one i, e, drop-length ps)

@@ -9,7 +9,8 @@ use Rattle.point.proofs.point_at.Tie as tie
 returns : tie.Need-returns
 returns c =
     let s = c .before .before .before in
-    rw (fields-at (fields-of _ _ _ (s .pre .alike)) (s .args .i), element-is (s .args .slopes .now) (s .args .i) (c .t13 .given))
+    let fields = fields-of (s .args .areas .now) (s .args .values .now) (s .args .slopes .now) (s .pre .alike) in
+    rw (fields-at fields (s .args .i), element-is (s .args .slopes .now) (s .args .i) (c .t13 .given))
 
 pub point-at-spec : {M : Type 1} → statement M
 point-at-spec =
