@@ -1,15 +1,17 @@
 -- Row 7 by the first and the last area of a curve.
---   first, last                  these areas, by their index
+--   first, last                  the first and the last of a list of areas
+--   outside-of                   row 7 of points that have these areas
 --   not-before, not-beyond       what holds of an area that is not outside
 --   inside-of-both, outside-of-beyond    and back
 -- Assumes nothing.
-use mathlib.Core.Path.{_≡_, refl, ap}
+use mathlib.Core.Path.{_≡_, refl, sym, _∙_, ap}
 use mathlib.Core.Bool.{true, false, _||_, or-true}
-use mathlib.Core.List.{List, [], _∷_}
+use mathlib.Core.List.{List, [], _∷_, map}
 use Prim.Native.Nat.{ℕ, suc, _-_, _≤_, _<_}
 use native.Mathlib.Omega.{arith}
 use borrow.Author.Tests.{ltb-false, lt-ltb, le-ltb}
 use lib.Dec.{ltb}
+use lib.IntN.{pos}
 use lib.ListN.{length, getD, length-map}
 use Rattle.model.specs.Points.{Point}
 use Rattle.model.specs.Read.{outside}
@@ -23,7 +25,15 @@ first areas = getD areas 0 0
 abbrev pub last : List ℕ → ℕ
 last areas = getD areas (length areas - 1) 0
 
-pub outside-at : (ps : List Point) (x : ℕ) → 0 < length ps →
+-- there are points that have these areas
+abbrev pub flat-points : List ℕ → List Point
+flat-points areas = map (λ a. record { area = a; value = 0; slope = pos 0 }) areas
+
+pub flat-areas : (areas : List ℕ) → areas-of (flat-points areas) ≡ areas
+flat-areas [] = refl
+flat-areas (a ∷ areas) = ap (a ∷_) (flat-areas areas)
+
+outside-at : (ps : List Point) (x : ℕ) → 0 < length ps →
     outside ps x ≡ (ltb x (first (areas-of ps)) || ltb (last (areas-of ps)) x)
 unfolding outside
 outside-at [] x h = absurd (omega arith)
@@ -32,15 +42,18 @@ outside-at (p ∷ ps) x h = rw (last-area-at p ps, index) refl
     index : length (areas-of (p ∷ ps)) - 1 ≡ length ps
     index = omega (arith, length-map ps (λ p. p .area))
 
-module _ (ps : List Point) (x : ℕ) (some : 0 < length ps) where
-  pub not-before : outside ps x ≡ false → first (areas-of ps) ≤ x
-  not-before e = ltb-false x _ (or-left _ (ltb (last (areas-of ps)) x) (rw (outside-at ps x some) at e))
+module _ (ps : List Point) {areas : List ℕ} (are : areas-of ps ≡ areas) (some : 0 < length areas) (x : ℕ) where
+  pub outside-of : outside ps x ≡ (ltb x (first areas) || ltb (last areas) x)
+  outside-of = rw are at (outside-at ps x (omega (arith, length-map ps (λ p. p .area), ap length are)))
 
-  pub not-beyond : outside ps x ≡ false → x ≤ last (areas-of ps)
-  not-beyond e = ltb-false _ x (or-right (ltb x (first (areas-of ps))) _ (rw (outside-at ps x some) at e))
+  pub not-before : outside ps x ≡ false → first areas ≤ x
+  not-before e = ltb-false x (first areas) (or-left _ (ltb (last areas) x) (sym outside-of ∙ e))
 
-  pub inside-of-both : first (areas-of ps) ≤ x → x ≤ last (areas-of ps) → outside ps x ≡ false
-  inside-of-both h k = rw (outside-at ps x some, le-ltb x _ h, le-ltb _ x k)
+  pub not-beyond : outside ps x ≡ false → x ≤ last areas
+  not-beyond e = ltb-false (last areas) x (or-right (ltb x (first areas)) _ (sym outside-of ∙ e))
 
-  pub outside-of-beyond : last (areas-of ps) < x → outside ps x ≡ true
-  outside-of-beyond h = rw (outside-at ps x some, lt-ltb _ x h) (or-true (ltb x (first (areas-of ps))))
+  pub inside-of-both : first areas ≤ x → x ≤ last areas → outside ps x ≡ false
+  inside-of-both h k = rw (outside-of, le-ltb x _ h, le-ltb _ x k)
+
+  pub outside-of-beyond : last areas < x → outside ps x ≡ true
+  outside-of-beyond h = rw (outside-of, lt-ltb _ x h) (or-true (ltb x (first areas)))

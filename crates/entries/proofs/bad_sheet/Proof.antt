@@ -1,10 +1,10 @@
--- `lookup::entries::bad_sheet` meets its contract.
+-- `entries::bad_sheet` meets its contract.
 -- Assumes nothing.
 use mathlib.Core.Path.{refl}
 use borrow.Author.Tests.{eq-eqb, ne-eqb}
 use Rattle.model.specs.Sheet.{bad-sheet}
-use Rattle.lookup.proofs.entries.bad_sheet.Statement.{statement}
-use Rattle.lookup.proofs.entries.bad_sheet.Tie as tie
+use Rattle.entries.proofs.bad_sheet.Statement.{statement}
+use Rattle.entries.proofs.bad_sheet.Tie as tie
 
 returns : tie.Need-returns
 unfolding bad-sheet
