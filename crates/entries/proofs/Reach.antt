@@ -23,7 +23,7 @@ not-reached : {areas : List ℕ} {k x : ℕ} → Taken areas k x → Reached are
 not-reached t r =
     let low = r .low in
     let inner = r .inner in
-    elim (t .high) [ | inl h ↦ omega arith | inr e ↦ omega arith ]
+    elim (t .high) [ inl h ↦ omega arith | inr e ↦ omega arith ]
 
 pub <-of-reached : {areas : List ℕ} {k index i : ℕ} (start step : ℕ) → index ≤ i →
     Taken areas k (entry-area start step index) → Reached areas (suc k) (entry-area start step i) → index < i

@@ -43,7 +43,14 @@ pub fn find(areas: &[u32], from: usize, area: u32) -> usize
 }
 
 // The factor at an area that takes the segment at i.
-pub fn factor_at(areas: &[u32], values: &[u32], slopes: &[i32], shape: u32, i: usize, area: u32) -> i32
+pub fn factor_at(
+    areas: &[u32],
+    values: &[u32],
+    slopes: &[i32],
+    shape: u32,
+    i: usize,
+    area: u32,
+) -> i32
     requires { ⌜ Alike (length (now areas)) (length (now values)) (length (now slopes))
         × Readable (points (now areas) (now values) (now slopes)) shape i area ⌝ }
     ensures { λ r. ⌜ r ≡ reading (points (now (areas .entry)) (now (values .entry)) (now (slopes .entry))) shape area ⌝ }

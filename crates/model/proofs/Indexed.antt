@@ -15,7 +15,7 @@ use borrow.Author.Tests.{le-leb, lt-leb, ltb-false}
 use lib.Dec.{ltb}
 use lib.ListN.{length, getD, length-map}
 use lib.Seq.{getD-append-add}
-use Rattle.model.specs.Points.{Point, Segment}
+use Rattle.model.specs.Points.{Point, Segment, segments}
 use Rattle.model.specs.Read.{last-area, outside}
 use Rattle.model.specs.Inner.{between, origin, point-at, segment-at, areas-of, Inside, Taken}
 use Rattle.model.proofs.TempTests.{or-left, or-right}
@@ -30,6 +30,13 @@ stop-in (p ∷ q ∷ ps) x = stop p q ps x
 pub last-area-at : (p : Point) (ps : List Point) → last-area p ps ≡ getD (areas-of (p ∷ ps)) (length ps) 0
 last-area-at p [] = refl
 last-area-at p (q ∷ ps) = last-area-at q ps
+
+-- a segment fewer than points
+pub segments-length : (ps : List Point) → length (segments ps) ≡ length ps - 1
+unfolding segments
+segments-length [] = refl
+segments-length (p ∷ []) = refl
+segments-length (p ∷ q ∷ ps) = ap suc (segments-length (q ∷ ps)) ∙ omega arith
 
 -- two neighbouring points, by their index
 pub segment-at-append : (before after : List Point) (p q : Point) → segment-at (before ++ p ∷ q ∷ after) (length before) ≡ between p q
@@ -49,7 +56,7 @@ taken-later : {a : ℕ} {areas : List ℕ} {k x : ℕ} → Taken (a ∷ areas) (
 taken-later t =
     record {
       reached = record { inner = (let n = t .reached .inner in omega arith); low = t .reached .low };
-      high = elim (t .high) [ | inl h ↦ inl h | inr e ↦ inr (omega arith) ];
+      high = elim (t .high) [ inl h ↦ inl h | inr e ↦ inr (omega arith) ];
     }
 
 pub data Chained (G : Segment → Type 0) : List Point → Type 0 where
@@ -74,7 +81,7 @@ module _ (G : Segment → Type 0) (ordered : (s : Segment) → G s → s .left .
   stop-in-chain (link g end) zero x t = refl
   stop-in-chain (link g end) (suc k) x t = absurd (let n = t .reached .inner in omega arith)
   stop-in-chain (link {q = q} g (link g' c)) zero x t =
-      elim (t .high) [ | inl h ↦ rw (lt-leb (q .area) x h) | inr e ↦ absurd (omega arith) ]
+      elim (t .high) [ inl h ↦ rw (lt-leb (q .area) x h) | inr e ↦ absurd (omega arith) ]
   stop-in-chain (link {q = q} g (link {ps = ps} g' c)) (suc k) x t =
       let r = t .reached in
       let least = chain-least (link g' c) k (omega (arith, length-map ps (λ p. p .area))) in

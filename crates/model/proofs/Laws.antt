@@ -78,9 +78,10 @@ segments-meet c before after p q e =
     let n : suc i < length (c .points) = subst⁻¹ (λ (ps : List Point). suc i < length ps) e (index before) in
     let s = ap (λ (ps : List Point). segment-at ps i) e ∙ segment-at-append before after p q in
     let g = subst (Good (shape c)) s (good-at c i n) in
-    let h = g .ends .ordered in
-    (record { proper = interpolant-proper (shape c) _ g (p .area) (le-refl _) (le-of-lt h); value = interpolant-left (shape c) _ g },
-    record { proper = interpolant-proper (shape c) _ g (q .area) (le-of-lt h) (le-refl _); value = interpolant-right (shape c) _ g })
+    let h = g .ends .ordered in (
+      record { proper = interpolant-proper (shape c) _ g (p .area) (le-refl _) (le-of-lt h); value = interpolant-left (shape c) _ g },
+      record { proper = interpolant-proper (shape c) _ g (q .area) (le-of-lt h) (le-refl _); value = interpolant-right (shape c) _ g },
+    )
   where
     index : (before : List Point) → suc (length before) < length (before ++ p ∷ q ∷ after)
     index [] = omega arith
@@ -220,14 +221,15 @@ module _ (v₁ v₂ v₃ v₄ s₂ s₃ : Fraction) (x₁ x₂ x₃ x₄ : ℤ)
       Proper left-chord × Proper right-chord × (left-chord ≤ℚ right-chord)
   chords h h' k m k' =
       let w = Q.positive-whole (x₂ -ℤ x₁) (Z.<-difference h) in
-      let w' = Q.positive-whole (x₄ -ℤ x₃) (Z.<-difference h') in
-      (search propers,
-      search propers,
-      Q.≤-by (search propers) (search propers) excess (search propers depth 9) chords-certificate
-      (Q.nonneg-+ (search propers depth 9) (search propers)
-      (Q.nonneg-+ (search propers depth 9) (search propers depth 9)
-      (Q.nonneg-/ (Q.nonneg-difference k') (search propers)) (Q.nonneg-/ (Q.nonneg-difference k) (search propers)))
-      (Q.nonneg-difference m)))
+      let w' = Q.positive-whole (x₄ -ℤ x₃) (Z.<-difference h') in (
+        search propers,
+        search propers,
+        Q.≤-by (search propers) (search propers) excess (search propers depth 9) chords-certificate
+            (Q.nonneg-+ (search propers depth 9) (search propers)
+            (Q.nonneg-+ (search propers depth 9) (search propers depth 9)
+            (Q.nonneg-/ (Q.nonneg-difference k') (search propers)) (Q.nonneg-/ (Q.nonneg-difference k) (search propers)))
+            (Q.nonneg-difference m)),
+      )
 
 pub convex-chords : ConvexChords
 convex-chords c e x₁ x₂ x₃ x₄ k₁ k₂ k₃ k₄ h m h' =

@@ -15,5 +15,6 @@ pub mod Indexed
 pub mod Accepted
 pub mod Outside
 pub mod Laws
+pub mod Answers
 pub mod Filling
 pub mod SheetRows

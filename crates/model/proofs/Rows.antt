@@ -70,9 +70,10 @@ limit-of-row-3 (some before) area e =
 
 gap-of-row-3 : (before area : ℕ) → bad-area (some before) area ≡ false → (before < area) × (area ≤ before + gap-most)
 unfolding bad-area
-gap-of-row-3 before area e =
-    (leb-false area before (or-right (ltb area-most area) _ (or-left _ (ltb (before + gap-most) area) e)),
-    ltb-false (before + gap-most) area (or-right (ltb area-most area || leb area before) _ e))
+gap-of-row-3 before area e = (
+  leb-false area before (or-right (ltb area-most area) _ (or-left _ (ltb (before + gap-most) area) e)),
+  ltb-false (before + gap-most) area (or-right (ltb area-most area || leb area before) _ e),
+)
 
 pub record Passed (i : ℕ) (before : Option ℕ) (p : Point) (ps : List Point) : Type 0 where
   pub area : bad-area before (p .area) ≡ false
