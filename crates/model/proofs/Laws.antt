@@ -14,7 +14,7 @@ use Prim.Native.Nat.{ℕ, zero, suc, _+_, _*_, _≤_, _<_}
 use native.Mathlib.Nat.{le-refl, le-of-lt, le-of-eq}
 use native.Mathlib.Omega.{arith}
 use lib.IntN.{ℤ, pos, negℤ, _+ℤ_, _-ℤ_, _*ℤ_}
-use lib.ListN.{length, getD, length-map, List·getD-map}
+use lib.ListN.{length, getD, length-map, length-append, List·getD-map}
 use lib.Signed.{_≤ℤ_, _<ℤ_}
 use Rattle.exact.specs.Fraction.{Fraction, Proper, whole, _+ℚ_, _-ℚ_, _*ℚ_, _/ℚ_, _≈ℚ_, _≤ℚ_, _<ℚ_}
 use Rattle.exact.specs.Rounding.{half}
@@ -34,7 +34,7 @@ use Rattle.model.proofs.Walk.{compare-areas}
 use Rattle.model.proofs.Segments.{interpolant-proper, interpolant-left, interpolant-right}
 use Rattle.model.proofs.Range.{Ranged, value-range, reading-low, reading-high}
 use Rattle.model.proofs.Relations.{values-rise, slope, Convex, tangents-support, slope-proper}
-use Rattle.model.proofs.Indexed.{Chained, chained, stop-in, segment-at-append, chained-at, low-of, high-of}
+use Rattle.model.proofs.Indexed.{Chained, chained, stop-in, point-at-append, segment-at-append, chained-at, low-of, high-of}
 use Rattle.model.proofs.Accepted.{good-ordered, count-of, chained-of, stops-inside, value-is, value-at-index}
 
 module _ (c : Curve) where
@@ -74,18 +74,12 @@ factors-are-ranged c x k =
 
 pub segments-meet : SegmentsMeet
 segments-meet c before after p q e =
-    let i = length before in
-    let n : suc i < length (c .points) = subst⁻¹ (λ (ps : List Point). suc i < length ps) e (index before) in
-    let s = ap (λ (ps : List Point). segment-at ps i) e ∙ segment-at-append before after p q in
-    let g = subst (Good (shape c)) s (good-at c i n) in
-    let h = g .ends .ordered in (
-      record { proper = interpolant-proper (shape c) _ g (p .area) (le-refl _) (le-of-lt h); value = interpolant-left (shape c) _ g },
-      record { proper = interpolant-proper (shape c) _ g (q .area) (le-of-lt h) (le-refl _); value = interpolant-right (shape c) _ g },
-    )
-  where
-    index : (before : List Point) → suc (length before) < length (before ++ p ∷ q ∷ after)
-    index [] = omega arith
-    index (b ∷ before) = let h = index before in omega arith
+    let n = ap length e ∙ length-append before (p ∷ q ∷ after) in
+    let s = ap (λ (ps : List Point). segment-at ps (length before)) e ∙ segment-at-append before after p q in
+    let g = subst (Good (shape c)) s (good-at c (length before) (omega arith)) in
+    let h = g .ends .ordered in
+    (record { proper = interpolant-proper (shape c) _ g (p .area) (le-refl _) (le-of-lt h); value = interpolant-left (shape c) _ g },
+    record { proper = interpolant-proper (shape c) _ g (q .area) (le-of-lt h) (le-refl _); value = interpolant-right (shape c) _ g })
 
 module _ (c : Curve) (i : ℕ) where
   abbrev rated : Point
@@ -132,11 +126,14 @@ rated-value c i h =
     last zero h k = absurd (let n = count-of (c .accepted) .0 in omega arith)
     last (suc k) h m = rated-right c k (omega arith)
 
-pub rated-points-read : (c : Curve) (i : ℕ) → i < length (c .points) → factor c (rated c i .area) ≡ pos (rated c i .value)
+pub rated-points-read : (c : Curve) (before after : List Point) (p : Point) → c .points ≡ before ++ p ∷ after →
+    factor c (p .area) ≡ pos (p .value)
 unfolding reading
-rated-points-read c i h =
-    let v = rated-value c i h in
-    round-≈ _ _ (v .proper) (Q.proper-whole (pos (rated c i .value))) (v .same) ∙ round-whole (pos (rated c i .value))
+rated-points-read c before after p e =
+    let n = ap length e ∙ length-append before (p ∷ after) in
+    let is = ap (λ (ps : List Point). point-at ps (length before)) e ∙ point-at-append before after p in
+    let v = rw is at (rated-value c (length before) (omega arith)) in
+    round-≈ _ _ (v .proper) (Q.proper-whole (pos (p .value))) (v .same) ∙ round-whole (pos (p .value))
 
 -- ---- rising
 

@@ -12,6 +12,7 @@ use lib.ListN.{length, getD}
 use lib.Signed.{_≤ℤ_}
 use Rattle.exact.specs.Fraction.{whole, _+ℚ_, _-ℚ_, _≤ℚ_}
 use Rattle.exact.specs.Rounding.{half}
+use Rattle.exact.proofs.Order as Z
 use Rattle.exact.proofs.Fractions.{<-weak}
 use Rattle.model.specs.Answer.{Answer, gives, refused, row, _then_}
 use Rattle.model.specs.Points.{Point}
@@ -19,7 +20,6 @@ use Rattle.model.specs.Check.{curve-rows, check-answer}
 use Rattle.model.specs.Laws.{Curve, Area, exact, factor}
 use Rattle.model.specs.Read.{outside, reading, read-answer}
 use Rattle.model.specs.Sheet.{bad-sheet, entry-area, entry-rows, sheet-answer, sheet-list}
-use Rattle.model.specs.Inner.{point-at}
 use Rattle.model.proofs.Rows.{gives-injective, refused≢gives, then-first, then-rest, row-passed}
 use Rattle.model.proofs.Answers.{on-lists-is, on-lists-gives, given, reading-given}
 use Rattle.model.proofs.Laws as laws
@@ -96,7 +96,7 @@ is-entry c start step out entries index e h =
     let f : ℕ → ℤ = λ j. reading (c .points) (c .code) (entry-area start step j) in
     record {
       area = record { within = rows-inside (c .points) start step 0 n index (then-first rows (gives n) after-8) zero-le (omega (arith, count)) };
-      same = sym (tabulate-at f 0 entries index (pos 0) h ∙ ap f (zero-add index));
+      same = sym (tabulate-at f (pos 0) 0 index entries h ∙ ap f (zero-add index));
     }
 
 -- ---- the desk reading
@@ -110,7 +110,7 @@ file-reads c bytes x k = rw (k .points, k .code)
 factor-of-number : (a : Answer ℤ) (f : ℤ) → Apart a → desk-number a ≡ f → negℤ (pos 1000000) ≤ℤ f → a ≡ gives f
 unfolding desk-number Apart
 factor-of-number (gives g) f k e h = ap gives e
-factor-of-number (refused n i) f k e h = ?
+factor-of-number (refused n i) f k e h = absurd (Z.≤-trans h (subst (λ (z : ℤ). z ≤ℤ negℤ (pos 1000001)) e k) .le)
 
 is-desk : (c : Curve) (bytes : List ℕ) (x scratch : ℕ) (f : ℤ) → FileOf c bytes → desk-answer bytes x scratch ≡ gives f → Is c x f
 unfolding desk-answer
@@ -184,4 +184,4 @@ pub convex-chords-exact : D.ConvexChords
 convex-chords-exact = convex-chords
 
 pub rated-factors : D.RatedFactors
-rated-factors c before after p e f r = sym (is r .same) ∙ ?
+rated-factors c before after p e f r = sym (is r .same) ∙ rated-points-read c before after p e
