@@ -3,29 +3,21 @@
 --   size-of-passed    rows 9 and 10: the file has its head and its points, and no more
 -- Assumes nothing.
 use mathlib.Core.Path.{_≡_, refl}
-use mathlib.Core.Bool.{Bool, true, false, not, _||_}
+use mathlib.Core.Bool.{Bool, true, false, not}
 use mathlib.Core.List.{List}
 use Prim.Native.Nat.{ℕ, _≤_}
-use native.Mathlib.Omega.{arith}
 use borrow.Author.Tests.{eqb-true, ltb-false, not-false}
-use lib.Dec.{eqb, ltb}
+use lib.Dec.{eqb}
 use lib.ListN.{length}
-use Rattle.model.specs.Answer.{Answer, gives, refused, row, _then_}
+use Rattle.model.specs.Answer.{gives, row}
+use Rattle.model.proofs.TempTests.{or-left}
+use Rattle.model.proofs.Rows.{refused≢gives, then-rest}
 use Rattle.layout.specs.Layout.{head-size, point-offset, version, count}
 use Rattle.layout.specs.Head.{wrong-mark, bad-head, bad-size, head-rows}
 
-or-left : (a b : Bool) → (a || b) ≡ false → a ≡ false
-or-left true b e = e
-or-left false b e = refl
-
-pub then-rest : {A : Type 0} {x : A} (first : Answer (Unit {0})) (rest : Answer A) → (first then rest) ≡ gives x → rest ≡ gives x
-unfolding _then_
-then-rest (gives u) rest e = e
-then-rest (refused n i) rest e = absurd (let z : _≡_ {A = ℕ} 0 1 = cc in omega arith)
-
 last-row-passed : (b : Bool) (number place : ℕ) → row b number place ≡ gives tt → b ≡ false
 unfolding row
-last-row-passed true number place e = absurd (let z : _≡_ {A = ℕ} 0 1 = cc in omega arith)
+last-row-passed true number place e = absurd (refused≢gives e)
 last-row-passed false number place e = refl
 
 module _ (bytes : List ℕ) where
