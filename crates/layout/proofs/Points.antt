@@ -2,15 +2,17 @@
 --   map-tabulate       a function of each element of a table
 --   size-of-first      the first n points are n
 --   point-is, area-is  the point at an index, and its area in the list of areas
+--   first-of, as-many  the first n entries of a list that begins with a field of the first n points
 --   on-fields          a call on the lists that the fields of some points make is a call on the points
 -- Assumes nothing.
 use mathlib.Core.Path.{_≡_, refl, sym, _∙_, ap}
-use mathlib.Core.List.{List, [], _∷_, map}
+use mathlib.Core.List.{List, [], _∷_, _++_, map}
 use Prim.Native.Nat.{ℕ, zero, suc, _+_, _<_}
 use native.Mathlib.Nat.{add-zero, zero-add}
 use native.Mathlib.Omega.{arith}
 use borrow.Author.Tests.{eq-eqb}
-use lib.ListN.{length, getD, length-map, List·getD-map}
+use lib.ListN.{length, getD, take, drop, length-map, List·getD-map}
+use lib.Seq.{take-at}
 use Rattle.model.specs.Answer.{Answer, row, _then_}
 use Rattle.model.specs.Points.{Point, points}
 use Rattle.model.specs.Check.{lengths-differ, on-lists}
@@ -42,6 +44,17 @@ module _ (bytes : List ℕ) (n : ℕ) where
 
   pub area-is : (i : ℕ) → i < n → getD (areas-of (first-points bytes n)) i 0 ≡ record-at bytes i .area
   area-is i h = List·getD-map (λ p. p .area) (first-points bytes n) i origin ∙ ap (λ p. p .area) (point-is i h)
+
+  module _ {A : Type 0} (field : Point → A) (found : List A) {filled : List A}
+      (e : filled ≡ map field (first-points bytes n) ++ drop n found) where
+    size-of-field : length (map field (first-points bytes n)) ≡ n
+    size-of-field = length-map (first-points bytes n) field ∙ size-of-first
+
+    pub first-of : take n filled ≡ map field (first-points bytes n)
+    first-of = ap (take n) e ∙ take-at _ (drop n found) n size-of-field
+
+    pub as-many : n ≡ length (take n filled)
+    as-many = sym (ap length first-of ∙ size-of-field)
 
 points-of-fields : (ps : List Point) → points (areas-of ps) (map (λ p. p .value) ps) (map (λ p. p .slope) ps) ≡ ps
 unfolding points
