@@ -1,8 +1,8 @@
 -- The points of a file.
 --   map-tabulate       a function of each element of a table
---   size-of-first      the first n points are n
+--   size-of-first      the first n points are n; size-of-field, and so is the list of one of their fields
 --   point-is, area-is  the point at an index, and its area in the list of areas
---   first-of, as-many  the first n entries of a list that begins with a field of the first n points
+--   first-of, as-many  the first n entries of a list that begins with a field of each of the first n points
 --   on-fields          a call on the lists that the fields of some points make is a call on the points
 -- Assumes nothing.
 use mathlib.Core.Path.{_≡_, refl, sym, _∙_, ap}
@@ -11,7 +11,7 @@ use Prim.Native.Nat.{ℕ, zero, suc, _+_, _<_}
 use native.Mathlib.Nat.{add-zero, zero-add}
 use native.Mathlib.Omega.{arith}
 use borrow.Author.Tests.{eq-eqb}
-use lib.ListN.{length, getD, take, drop, length-map, List·getD-map}
+use lib.ListN.{length, getD, take, length-map, List·getD-map}
 use lib.Seq.{take-at}
 use Rattle.model.specs.Answer.{Answer, row, _then_}
 use Rattle.model.specs.Points.{Point, points}
@@ -45,16 +45,16 @@ module _ (bytes : List ℕ) (n : ℕ) where
   pub area-is : (i : ℕ) → i < n → getD (areas-of (first-points bytes n)) i 0 ≡ record-at bytes i .area
   area-is i h = List·getD-map (λ p. p .area) (first-points bytes n) i origin ∙ ap (λ p. p .area) (point-is i h)
 
-  module _ {A : Type 0} (field : Point → A) (found : List A) {filled : List A}
-      (e : filled ≡ map field (first-points bytes n) ++ drop n found) where
-    size-of-field : length (map field (first-points bytes n)) ≡ n
+  module _ {A : Type 0} (field : Point → A) where
+    pub size-of-field : length (map field (first-points bytes n)) ≡ n
     size-of-field = length-map (first-points bytes n) field ∙ size-of-first
 
-    pub first-of : take n filled ≡ map field (first-points bytes n)
-    first-of = ap (take n) e ∙ take-at _ (drop n found) n size-of-field
+    pub first-of : (rest : List A) {l : List A} → l ≡ map field (first-points bytes n) ++ rest →
+        take n l ≡ map field (first-points bytes n)
+    first-of rest e = ap (take n) e ∙ take-at _ rest n size-of-field
 
-    pub as-many : n ≡ length (take n filled)
-    as-many = sym (ap length first-of ∙ size-of-field)
+    pub as-many : (rest : List A) {l : List A} → l ≡ map field (first-points bytes n) ++ rest → n ≡ length (take n l)
+    as-many rest e = sym (ap length (first-of rest e) ∙ size-of-field)
 
 points-of-fields : (ps : List Point) → points (areas-of ps) (map (λ p. p .value) ps) (map (λ p. p .slope) ps) ≡ ps
 unfolding points

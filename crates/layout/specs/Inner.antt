@@ -1,4 +1,4 @@
--- What contracts of inner functions cite. Nothing here need be believed: the calls' contracts cite the definitions of document 01.
+-- What contracts of inner functions cite. Nothing here need be believed: the calls' contracts cite document 01's definitions.
 --   Holds         n points are in a file of so many bytes
 -- Assumes nothing.
 use Prim.Native.Nat.{ℕ, _≤_}

@@ -1,4 +1,4 @@
--- What contracts of inner functions cite. Nothing here need be believed: the calls' contracts cite the definitions of document 01.
+-- What contracts of inner functions cite. Nothing here need be believed: the calls' contracts cite document 01's definitions.
 --   CurvePoints   as many points as a curve has are in a file of so many bytes
 --   Room          n points are in a file, and there is room for them in three lists; the other numbers are lengths
 --   Begins        the point at i of n begins a segment, and its area is not above the area read

@@ -14,7 +14,8 @@ use Rattle.model.specs.Inner.{Limits}
 use Rattle.model.proofs.Rows.{Passed, passed, neighbours}
 use Rattle.point.specs.Inner.{earlier, point-of}
 use Rattle.point.specs.declared.Point.{Point}
-use Rattle.rows.proofs.Faults.{no-fault, passes, limits-of-no-fault, points-from, point-turn, point-end, segments-from, segment-turn, segment-end}
+use Rattle.rows.proofs.Faults.{no-fault, passes, limits-of-no-fault}
+use Rattle.rows.proofs.Faults.{points-from, point-turn, point-end, segments-from, segment-turn, segment-end}
 use Rattle.layout.specs.Layout.{record-at, first-points}
 use Rattle.layout.proofs.Points.{size-of-first, point-is}
 use Rattle.records.proofs.Placed.{accepted-of}
@@ -26,8 +27,10 @@ record Passing (bytes : List ℕ) (n code last : ℕ) (p : Point) (left : ℕ) :
   pub last-is : last + 1 ≡ n
   pub here : point-of p ≡ record-at bytes left
   pub limits : Limits (point-of p)
-  pub points-pass : points-from (first-points bytes n) (some (p .area)) (left + 1) ≡ points-from (first-points bytes n) none 0
-  pub segments-pass : segments-from (first-points bytes n) (shape-of code) left ≡ segments-from (first-points bytes n) (shape-of code) 0
+  pub points-pass :
+      points-from (first-points bytes n) (some (p .area)) (left + 1) ≡ points-from (first-points bytes n) none 0
+  pub segments-pass :
+      segments-from (first-points bytes n) (shape-of code) left ≡ segments-from (first-points bytes n) (shape-of code) 0
 
 abbrev Inv-loop : tie.InvT-loop
 Inv-loop bytes n shape p₀ last left₀ p left = Passing bytes n shape last p left

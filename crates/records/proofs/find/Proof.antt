@@ -1,4 +1,4 @@
--- `records::find` meets its contract. The loop's invariant: the point at i begins a segment, and its area is not above the area read.
+-- `records::find` meets its contract. The loop's invariant: the point at i begins a segment, and is not beyond the area read.
 -- Assumes nothing.
 use mathlib.Core.Logic.{inl, inr}
 use Prim.Native.Nat.{_-_}

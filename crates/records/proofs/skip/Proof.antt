@@ -1,4 +1,4 @@
--- `records::skip` meets its contract. The loop's invariant: the point at i begins a segment, and its area is not above the area read.
+-- `records::skip` meets its contract. The loop's invariant: the point at i begins a segment, and is not beyond the area read.
 -- Assumes nothing.
 use Prim.Native.Nat.{_-_}
 use native.Mathlib.Omega.{arith}
