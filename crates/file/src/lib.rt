@@ -27,7 +27,8 @@ pub enum Opened {
 
 pub fn open(bytes: &[u8], areas: &mut [u32], values: &mut [u32], slopes: &mut [i32]) -> Opened
     ensures answer { λ r. ⌜ opened-answer r
-        ≡ open-answer (now (bytes .entry)) (length (now (areas .entry))) (length (now (values .entry))) (length (now (slopes .entry))) ⌝ }
+        ≡ open-answer (now (bytes .entry))
+        (length (now (areas .entry))) (length (now (values .entry))) (length (now (slopes .entry))) ⌝ }
     ensures areas { λ r. ⌜ now (areas .exit)
         ≡ open-list (opened-answer r) (map (λ p. p .area) (points-of (now (bytes .entry)))) (now (areas .entry)) ⌝ }
     ensures values { λ r. ⌜ now (values .exit)

@@ -1,5 +1,5 @@
--- `file::open` meets its contract: rows 9 and 10, row 11, a fault of the points, or the points written; a refusal leaves the lists as
--- they were.
+-- `file::open` meets its contract: rows 9 and 10, row 11, a fault of the points, or the points written; a refusal leaves the lists
+-- as they were.
 -- Assumes nothing.
 use mathlib.Core.Path.{_≡_, refl, sym, _∙_}
 use mathlib.Core.Bool.{false}
@@ -54,7 +54,8 @@ module _ (c : tie.Else1) where
 returns-2 : tie.Need-returns-2
 unfolding open-answer open-list opened-answer row _then_
 returns-2 c =
-    (rw (head-passed (c .before .before .before), sym (c .before .short-list .ensures) ∙ c .if2 .taken) refl, (refl, (refl, refl)))
+    let short = sym (c .before .short-list .ensures) ∙ c .if2 .taken in
+    (rw (head-passed (c .before .before .before), short) refl, (refl, (refl, refl)))
 
 module _ (c : tie.Else2) where
   abbrev input : List ℕ
@@ -94,11 +95,13 @@ unfolding open-list opened-answer _then_
 returns-4 c =
     let a = accepted (written c) in
     let r = roomy a in
-    let n = count (input r) in (
-      sym (tried r (sym (a .before .before .curve-fault .ensures) ∙ no-fault _ (a .if3 .left))),
-      rw (size-of-field (input r) n (λ p. p .area), size-of-field (input r) n (λ p. p .value), size-of-field (input r) n (λ p. p .slope))
-          (written c .decode .ensures),
-    )
+    let n = count (input r) in
+    (sym (tried r (sym (a .before .before .curve-fault .ensures) ∙ no-fault _ (a .if3 .left))),
+    rw (
+      size-of-field (input r) n (λ p. p .area),
+      size-of-field (input r) n (λ p. p .value),
+      size-of-field (input r) n (λ p. p .slope),
+    ) (written c .decode .ensures))
 
 pub open-spec : {M : Type 1} → statement M
 open-spec =
