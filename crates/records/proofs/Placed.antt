@@ -6,7 +6,7 @@
 --   taken-of         the segment that an area takes
 --   segment-is       the segment at an index
 -- Assumes nothing.
-use mathlib.Core.Path.{_≡_, _∙_}
+use mathlib.Core.Path.{_≡_, refl, _∙_}
 use mathlib.Core.Bool.{false, _||_}
 use mathlib.Core.List.{List}
 use mathlib.Core.Logic.{_⊎_, inl, inr}
@@ -23,7 +23,7 @@ use Rattle.model.specs.Check.{bad-count, bad-code, point-rows, segment-rows, cu
 use Rattle.model.specs.Read.{outside}
 use Rattle.model.specs.Inner.{between, segment-at, areas-of, Taken}
 use Rattle.model.proofs.Accepted.{count-of}
-use Rattle.model.proofs.Outside.{outside-at, not-before}
+use Rattle.model.proofs.Outside.{outside-of, not-before}
 use Rattle.layout.specs.Layout.{record-at, first-points}
 use Rattle.layout.specs.Inner.{Holds}
 use Rattle.layout.proofs.Points.{size-of-first, point-is, area-is}
@@ -48,21 +48,19 @@ module _ (bytes : List ℕ) (n : ℕ) where
   pub areas-size : length (areas-of (first-points bytes n)) ≡ n
   areas-size = length-map (first-points bytes n) (λ p. p .area) ∙ size-of-first bytes n
 
-  some : 0 < n → 0 < length (first-points bytes n)
-  some h = rw (size-of-first bytes n) h
-
   pub outside-is : (x : ℕ) → 0 < n →
       outside (first-points bytes n) x ≡ (ltb x (record-at bytes 0 .area) || ltb (record-at bytes (n - 1) .area) x)
-  outside-is x h =
+  outside-is x some =
       let last : n - 1 < n = omega arith in
-      rw (outside-at (first-points bytes n) x (some h), areas-size, area-is bytes n 0 h, area-is bytes n (n - 1) last)
+      let row-7 = outside-of (first-points bytes n) refl (rw areas-size some) x in
+      rw (row-7, areas-size, area-is bytes n 0 some, area-is bytes n (n - 1) last)
 
   pub begins-first : (x : ℕ) → points-least ≤ n → outside (first-points bytes n) x ≡ false → Begins bytes n 0 x
   begins-first x h e =
-      let first : 0 < n = omega arith in
+      let some : 0 < n = omega arith in
       record {
         inner = omega arith;
-        low = rw (area-is bytes n 0 first) at (not-before (first-points bytes n) x (some first) e);
+        low = rw (area-is bytes n 0 some) at (not-before (first-points bytes n) refl (rw areas-size some) x e);
       }
 
   pub taken-of : {i x : ℕ} → Begins bytes n i x → (x < record-at bytes (i + 1) .area) ⊎ (i + 2 ≡ n) →
