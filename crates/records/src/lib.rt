@@ -4,11 +4,13 @@ ghost use mathlib.Core.Bool.{true};
 ghost use mathlib.Core.List.{map, _++_};
 ghost use lib.ListN.{length, drop};
 ghost use Rattle.model.specs.Check.{curve-rows, Accepted};
-ghost use Rattle.model.specs.Read.{outside as lies-outside, reading};
+ghost use Rattle.model.specs.Read.{outside as lies-outside, reading, read-answer};
 ghost use Rattle.model.specs.Inner.{fault-answer, areas-of, Taken, Readable};
+ghost use Rattle.curve.specs.Calls.{reading-answer};
 ghost use Rattle.layout.specs.Layout.{first-points};
 ghost use Rattle.layout.specs.Inner.{Holds};
 ghost use Rattle.records.specs.Inner.{CurvePoints, Room, Begins};
+use curve::Reading;
 use layout::area_of;
 use layout::record_at;
 use rows::Fault;
@@ -143,4 +145,20 @@ fn factor_at(bytes: &[u8], n: usize, shape: u32, i: usize, area: u32) -> i32
     ensures { λ r. ⌜ r ≡ reading (first-points (now (bytes .entry)) n) shape area ⌝ }
 {
     segment::factor(shape, record_at(bytes, i), record_at(bytes, i + 1), area)
+}
+
+// Rows 1 to 7 of the file's first n points, and the factor.
+pub fn read_points(bytes: &[u8], n: usize, shape: u32, area: u32) -> Reading
+    requires { ⌜ Holds n (length (now bytes)) ⌝ }
+    ensures { λ r. ⌜ reading-answer r ≡ read-answer (first-points (now (bytes .entry)) n) shape area ⌝ }
+{
+    let fault = curve_fault(bytes, n, shape);
+    if fault.number != 0 {
+        return Reading::Refused(fault.number, fault.place);
+    }
+    if outside(bytes, n, area) {
+        return Reading::Refused(7, 0);
+    }
+    let i = find(bytes, n, area);
+    Reading::Factor(factor_at(bytes, n, shape, i, area))
 }
