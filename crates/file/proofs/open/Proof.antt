@@ -95,13 +95,14 @@ unfolding open-list opened-answer _then_
 returns-4 c =
     let a = accepted (written c) in
     let r = roomy a in
-    let n = count (input r) in
-    (sym (tried r (sym (a .before .before .curve-fault .ensures) ∙ no-fault _ (a .if3 .left))),
-    rw (
-      size-of-field (input r) n (λ p. p .area),
-      size-of-field (input r) n (λ p. p .value),
-      size-of-field (input r) n (λ p. p .slope),
-    ) (written c .decode .ensures))
+    let n = count (input r) in (
+      sym (tried r (sym (a .before .before .curve-fault .ensures) ∙ no-fault _ (a .if3 .left))),
+      rw (
+        size-of-field (input r) n (λ p. p .area),
+        size-of-field (input r) n (λ p. p .value),
+        size-of-field (input r) n (λ p. p .slope),
+      ) (written c .decode .ensures),
+    )
 
 pub open-spec : {M : Type 1} → statement M
 open-spec =
