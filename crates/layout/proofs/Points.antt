@@ -1,8 +1,8 @@
 -- The points of a file.
 --   map-tabulate       a function of each element of a table
---   size-of-first      the first n points are n; size-of-field, and so is the list of one of their fields
+--   size-of-first      the first n points are n; size-of-field, as-many, and so is the list of one of their fields
 --   point-is, area-is  the point at an index, and its area in the list of areas
---   first-of, as-many  the first n entries of a list that begins with a field of each of the first n points
+--   first-of           the first n entries of a list that begins with a field of each of the first n points
 --   on-fields          a call on the lists that the fields of some points make is a call on the points
 -- Assumes nothing.
 use mathlib.Core.Path.{_≡_, refl, sym, _∙_, ap}
@@ -53,8 +53,8 @@ module _ (bytes : List ℕ) (n : ℕ) where
         take n l ≡ map field (first-points bytes n)
     first-of rest e = ap (take n) e ∙ take-at _ rest n size-of-field
 
-    pub as-many : (rest : List A) {l : List A} → l ≡ map field (first-points bytes n) ++ rest → n ≡ length (take n l)
-    as-many rest e = sym (ap length (first-of rest e) ∙ size-of-field)
+    pub as-many : {l : List A} → l ≡ map field (first-points bytes n) → n ≡ length l
+    as-many e = sym (ap length e ∙ size-of-field)
 
 points-of-fields : (ps : List Point) → points (areas-of ps) (map (λ p. p .value) ps) (map (λ p. p .slope) ps) ≡ ps
 unfolding points

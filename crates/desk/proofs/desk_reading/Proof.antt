@@ -1,5 +1,5 @@
--- `desk::desk_reading` meets its contract: rows 9 and 10, row 11, rows 1 to 7 of the points, or the factor and the records copied;
--- a refusal leaves the scratch as it was.
+-- `desk::desk_reading` meets its contract: rows 9 and 10, row 11, rows 1 to 7 of the points, or the factor and the records copied.
+-- A refusal leaves the scratch as it was.
 -- Assumes nothing.
 use mathlib.Core.Path.{_≡_, refl, sym, _∙_, ap, subst}
 use mathlib.Core.List.{List}
@@ -83,7 +83,8 @@ module _ (c : tie.After-read-points) where
   unfolding desk-answer row _then_
   tried = rw (head-passed (headed (roomy c)), le-ltb _ _ (roomy c .if2 .left))
 
-points-refused : (c : tie.After-number) → answer (c .before .before) ≡ refused (c .number .given .0 .0) (c .number .given .0 .1 .0)
+points-refused : (c : tie.After-number) →
+    answer (c .before .before) ≡ refused (c .number .given .0 .0) (c .number .given .0 .1 .0)
 unfolding reading-answer
 points-refused c = sym (c .before .before .read-points .ensures) ∙ ap reading-answer (c .number .given .1)
 

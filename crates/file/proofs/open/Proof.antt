@@ -1,5 +1,5 @@
--- `file::open` meets its contract: rows 9 and 10, row 11, a fault of the points, or the points written; a refusal leaves the lists
--- as they were.
+-- `file::open` meets its contract: rows 9 and 10, row 11, a fault of the points, or the points written. A refusal leaves the
+-- lists as they were.
 -- Assumes nothing.
 use mathlib.Core.Path.{_≡_, refl, sym, _∙_}
 use mathlib.Core.Bool.{false}

@@ -17,4 +17,4 @@ pub print-entries-spec : {M : Type 1} → statement M
 print-entries-spec =
     tie.close
     (tie.spec Inv-loop μ-loop (search needs) (search needs) (search needs) (search needs) (search needs)
-    (search needs) (search needs) (search needs) (search needs))
+    (search needs) (search needs) (search needs) (search needs) (search needs))

@@ -1,7 +1,10 @@
 -- `records::listed_fault` meets its contract: the points of the decoded lists are those of the file.
 -- Assumes nothing.
-use mathlib.Core.Path.{_∙_}
+use mathlib.Core.Path.{_≡_}
+use mathlib.Core.List.{List, map}
 use borrow.Author.Needs.{needs}
+use lib.ListN.{take}
+use Rattle.model.specs.Points.{Point}
 use Rattle.layout.specs.Layout.{first-points}
 use Rattle.layout.proofs.Points.{first-of, as-many, on-fields}
 use Rattle.records.proofs.listed_fault.Statement.{statement}
@@ -10,30 +13,31 @@ use Rattle.records.proofs.listed_fault.Tie as tie
 abbrev decoded : tie.After-areas3 → tie.After-decode
 decoded c = c .before .before .before .before
 
-slice-aggregate-curve-fault : tie.Need-slice-aggregate-curve-fault
-slice-aggregate-curve-fault c = as-many _ _ (λ p. p .area) _ (decoded c .decode .ensures .0)
+module _ (c : tie.After-decode) where
+  abbrev start : tie.Start
+  start = c .before .before .before .before .before
 
-slice-aggregate-curve-fault-2 : tie.Need-slice-aggregate-curve-fault-2
-slice-aggregate-curve-fault-2 c = as-many _ _ (λ p. p .value) _ (decoded (c .before) .decode .ensures .1 .0)
+  abbrev ps : List Point
+  ps = first-points (start .args .bytes .now) (start .args .n)
 
-slice-aggregate-curve-fault-3 : tie.Need-slice-aggregate-curve-fault-3
-slice-aggregate-curve-fault-3 c = as-many _ _ (λ p. p .slope) _ (decoded (c .before .before) .decode .ensures .1 .1)
+  areas-are : take (start .args .n) (c .decode .last .1 .1 .0) ≡ map (λ p. p .area) ps
+  areas-are = first-of _ _ (λ p. p .area) _ (c .decode .ensures .0)
+
+  values-are : take (start .args .n) (c .decode .last .1 .1 .1 .0) ≡ map (λ p. p .value) ps
+  values-are = first-of _ _ (λ p. p .value) _ (c .decode .ensures .1 .0)
+
+  slopes-are : take (start .args .n) (c .decode .last .1 .1 .1 .1 .0) ≡ map (λ p. p .slope) ps
+  slopes-are = first-of _ _ (λ p. p .slope) _ (c .decode .ensures .1 .1)
 
 returns : tie.Need-returns
 returns c =
     let d = decoded (c .before .before .before) in
-    let e = d .decode .ensures in
-    let k = d .before .before .before .before .before .args in
-    let bytes = k .bytes .now in
-    rw (
-      first-of bytes (k .n) (λ p. p .area) _ (e .0),
-      first-of bytes (k .n) (λ p. p .value) _ (e .1 .0),
-      first-of bytes (k .n) (λ p. p .slope) _ (e .1 .1),
-      on-fields (first-points bytes (k .n)),
-    ) at (c .curve-fault .ensures)
+    rw (areas-are d, values-are d, slopes-are d, on-fields (ps d)) at (c .curve-fault .ensures)
 
 pub listed-fault-spec : {M : Type 1} → statement M
 listed-fault-spec =
     tie.close
-    (tie.spec (search needs) (search needs) (search needs) (search needs) (search needs) slice-aggregate-curve-fault
-    (search needs) slice-aggregate-curve-fault-2 (search needs) slice-aggregate-curve-fault-3 (search needs) returns)
+    (tie.spec (search needs) (search needs) (search needs) (search needs)
+    (search needs) (λ c. as-many _ _ _ (areas-are (decoded c)))
+    (search needs) (λ c. as-many _ _ _ (values-are (decoded (c .before))))
+    (search needs) (λ c. as-many _ _ _ (slopes-are (decoded (c .before .before)))) (search needs) returns)
