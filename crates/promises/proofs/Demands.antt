@@ -137,7 +137,8 @@ read-refuses-none c l x k = (factor c x, on-curve l _ ∙ reading-given (c .poin
 
 pub pair-refuses-none : D.PairRefusesNone
 unfolding pair-answer row _then_
-pair-refuses-none c l form plan k m = (_, on-curve l _ ∙ (rw (c .accepted .none-applies, k .within, m .within)))
+pair-refuses-none c l form plan k m =
+    (factors (factor c form) (factor c plan), on-curve l _ ∙ (rw (c .accepted .none-applies, k .within, m .within)))
 
 pub sheet-refuses-by-8 : D.SheetRefusesBy8
 unfolding sheet-answer row _then_

@@ -25,20 +25,20 @@ use Rattle.promises.specs.FactorRead.{Lists, FileOf, FactorRead, by-read
 use Rattle.promises.specs.Example.{records, file, one-point, opened, read-at-550, FileExample}
 
 -- the file's curve, in lists, and the file itself
-record Found : Type 0 where
+pub record Found : Type 0 where
   pub curve : Curve
   pub lists : Lists curve
   pub same : FileOf curve file
 
 -- its factor at 550, by each call; by Pair twice, by Sheet the second entry of two
-record Each (f : Found) : Type 0 where
+pub record Each (f : Found) : Type 0 where
   pub read : FactorRead (f .curve) 550 (pos 10800)
   pub form : FactorRead (f .curve) 550 (pos 10800)
   pub plan : FactorRead (f .curve) 550 (pos 10800)
   pub sheet : FactorRead (f .curve) 550 (pos 10800)
   pub desk : FactorRead (f .curve) 550 (pos 10800)
 
-computed : FileExample × (f : Found) × Each f
+pub example : FileExample × (f : Found) × Each f
 unfolding _over_ whole _+ℚ_ _-ℚ_ _*ℚ_ _/ℚ_ leℚ ltℚ eqℚ floorDiv floor round row _then_ gradient points segments shape-of
     chord p q P Q rational r-rising r-convex rising-curve convex-curve curve interpolant rises bends fits has-shape
     lengths-differ bad-count bad-code bad-area bad-value bad-slope point-rows segment-rows curve-rows on-lists
@@ -46,7 +46,7 @@ unfolding _over_ whole _+ℚ_ _-ℚ_ _*ℚ_ _/ℚ_ leℚ ltℚ eqℚ floorDiv fl
     twos-complement little-endian record-at wrong-mark bad-head bad-size head-rows factors pair-answer
     short-list open-answer open-list desk-answer desk-number point-records desk-scratch
     records file one-point opened read-at-550
-computed =
+example =
     let c : Curve = record { points = points-of file; code = 2; accepted = record { none-applies = refl } } in
     let l : Lists c = record {
       areas = 500 ∷ 600 ∷ [];
@@ -67,10 +67,4 @@ computed =
     })
 
 pub file-example : FileExample
-file-example = computed .0
-
-pub found : Found
-found = computed .1
-
-pub each : Each found
-each = computed .2
+file-example = example .0
