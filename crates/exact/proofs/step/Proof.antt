@@ -39,31 +39,14 @@ module _ {x y c k q r : ℕ} (h : Step x y c k q r) where
   small = omega (arith, quotient, scaled-size y (h .part))
 
 returns : tie.Need-returns
-returns c = record { quotient = sym (quotient (c .before .before .pre)); remainder = sym (remainder (c .before .before .pre)) }
-
-mul-n : tie.Need-mul-n
-mul-n c = omega (arith, room (c .before .pre))
-
-rem-n : tie.Need-rem-n
-rem-n c = search needs
-
-mul-n-2 : tie.Need-mul-n-2
-mul-n-2 c = omega (arith, room (c .before .pre))
-
-add-n : tie.Need-add-n
-add-n c = omega (arith, room (c .before .pre))
-
-mul-t7 : tie.Need-mul-t7
-mul-t7 c = omega (arith, small (c .before .before .pre))
-
-div-t9 : tie.Need-div-t9
-div-t9 c = search needs
-
-add-t8 : tie.Need-add-t8
-add-t8 c = omega (arith, small (c .before .before .pre))
-
-rem-t10 : tie.Need-rem-t10
-rem-t10 c = search needs
+returns c =
+    let h = c .before .before .pre in
+    record { quotient = sym (quotient h); remainder = sym (remainder h) }
 
 pub step-spec : {M : Type 1} → statement M
-step-spec = tie.close (tie.spec mul-n rem-n mul-n-2 add-n mul-t7 div-t9 add-t8 rem-t10 returns)
+step-spec =
+    tie.close
+    (tie.spec (λ c. omega (arith, room (c .before .pre))) (search needs) (λ c. omega (arith, room (c .before .pre)))
+    (λ c. omega (arith, room (c .before .pre)))
+    (λ c. omega (arith, small (c .before .before .pre))) (search needs) (λ c. omega (arith, small (c .before .before .pre)))
+    (search needs) returns)
