@@ -1,10 +1,10 @@
 -- The field tactic: equal fractions, written with +, −, ·, / over terms of the ring tactic.
 --   field ρ (search ratios depth 20 fits 9999) tt : x ≈ℚ y
---   ρ        the variables, each once; a fraction x that is one counts twice, as `x .num` and `x .den`
+--   ρ        the variables, each once, of which a fraction x is two: `x ∷ℚ ρ` is `x .num ∷ x .den ∷ ρ`
 -- `Ratio ρ x` is x written out, which `search ratios` finds; the cross products then have the same normal form.
 -- Assumes nothing.
 use mathlib.Core.Path.{_≡_, refl, sym, _∙_}
-use mathlib.Core.List.{List}
+use mathlib.Core.List.{List, _∷_}
 use lib.Dec.{T}
 use lib.IntN.{ℤ, pos, _*ℤ_}
 use Rattle.exact.specs.Fraction.{Fraction, _over_, whole, _+ℚ_, _-ℚ_, _*ℚ_, _/ℚ_, _≈ℚ_}
@@ -12,6 +12,10 @@ use Rattle.exact.proofs.Integer.{≡-of-difference}
 use Rattle.exact.proofs.Poly.{Poly, con, value, plus, times, isZero, plus-value, times-value, zero-value}
 use Rattle.exact.proofs.Ring.{Var, here, there, Term, var, num, add, sub, mul, neg}
 use Rattle.exact.proofs.Ring.{normal, normal-value, minus, minus-value}
+
+infixr 5 _∷ℚ_
+abbrev pub _∷ℚ_ : Fraction → List ℤ → List ℤ
+x ∷ℚ ρ = x .num ∷ x .den ∷ ρ
 
 pub data Ratio (ρ : List ℤ) : Fraction → Type 0 where
   atom : {x : Fraction} → Var (x .num) ρ → Var (x .den) ρ → Ratio ρ x

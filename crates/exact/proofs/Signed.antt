@@ -8,14 +8,13 @@ use native.Mathlib.Nat.{div-le-self}
 use native.Mathlib.Omega.{arith}
 use borrow.Author.Tests.{ltb-true}
 use lib.Dec.{T, ltb}
-use lib.IntN.{ℤ, pos, negsuc, negℤ, natAbs, _+ℤ_, _-ℤ_}
+use lib.IntN.{ℤ, pos, negsuc, negℤ, natAbs, one, _+ℤ_, _-ℤ_, negsuc-eq}
 use lib.Signed.{nonNeg, ltZ}
 use mir.Syntax.{Width}
 use mir.Val.{Fits, SFits, bits, hbits}
 use mir.ValLaws.{sfits-le}
 use mir.Facts.{fits-natAbs}
 use Rattle.exact.specs.Rounding.{floorDiv}
-use Rattle.exact.proofs.Integer.{negsuc-is}
 use Rattle.exact.proofs.Ring.{ring, terms}
 
 -- a number that is not negative, as a natural number of a width that has room for it
@@ -27,11 +26,13 @@ abbrev pub mirror : ℤ → ℤ
 mirror z = negsuc 0 -ℤ z
 
 pub mirror-pos : (m : ℕ) → mirror (pos m) ≡ negsuc m
-mirror-pos m = ring (pos m ∷ []) {a = negℤ (pos 1) -ℤ pos m} (search terms depth 20 fits 9999) tt ∙ sym (negsuc-is m)
+unfolding one
+mirror-pos m = ring (pos m ∷ []) {a = negℤ (pos 1) -ℤ pos m} (search terms depth 20 fits 9999) tt ∙ sym (negsuc-eq m)
 
 pub mirror-negsuc : (m : ℕ) → mirror (negsuc m) ≡ pos m
+unfolding one
 mirror-negsuc m =
-    ap mirror (negsuc-is m)
+    ap mirror (negsuc-eq m)
     ∙ ring (pos m ∷ []) {a = negℤ (pos 1) -ℤ negℤ (pos m +ℤ pos 1)} (search terms depth 20 fits 9999) tt
 
 pub sfits-mirror : {w : Width} {z : ℤ} → SFits w z → SFits w (mirror z)

@@ -2,7 +2,7 @@
 -- Assumes nothing.
 use native.Mathlib.Omega.{arith}
 use borrow.Author.Needs.{needs}
-use Rattle.exact.proofs.Size.{product-size}
+use Rattle.exact.proofs.Magnitude.{product-size}
 use Rattle.exact.proofs.mul_div.Statement.{statement}
 use Rattle.exact.proofs.mul_div.Tie as tie
 

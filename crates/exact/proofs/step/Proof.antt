@@ -8,7 +8,7 @@ use native.Mathlib.Omega.{arith}
 use borrow.Author.Needs.{needs}
 use Rattle.exact.specs.Inner.{Step}
 use Rattle.exact.proofs.Ring.{ring-ℕ, counts}
-use Rattle.exact.proofs.Size.{scaled-size}
+use Rattle.exact.proofs.Magnitude.{scaled-size}
 use Rattle.exact.proofs.step.Statement.{statement}
 use Rattle.exact.proofs.step.Tie as tie
 
