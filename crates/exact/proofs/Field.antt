@@ -1,7 +1,8 @@
 -- The field tactic: equal fractions, written with +, −, ·, / over terms of the ring tactic.
 --   field ρ (search ratios depth 20 fits 9999) tt : x ≈ℚ y
---   ρ        the variables, each once, of which a fraction x is two: `x ∷ℚ ρ` is `x .num ∷ x .den ∷ ρ`
--- `Ratio ρ x` is x written out, which `search ratios` finds; the cross products then have the same normal form.
+--   ρ    the variables, each once, of which a fraction x is two: `x ∷ℚ ρ` is `x .num ∷ x .den ∷ ρ`
+-- How it works: `search ratios` finds each side as a `Ratio`, whose numerator and denominator have normal forms; the cross
+-- products have the residue 0. How it fails: as the ring tactic does, with Ratios for Sides.
 -- Assumes nothing.
 use mathlib.Core.Path.{_≡_, refl, sym, _∙_}
 use mathlib.Core.List.{List, _∷_}
@@ -10,7 +11,7 @@ use lib.IntN.{ℤ, pos, _*ℤ_}
 use Rattle.exact.specs.Fraction.{Fraction, _over_, whole, _+ℚ_, _-ℚ_, _*ℚ_, _/ℚ_, _≈ℚ_}
 use Rattle.exact.proofs.Integer.{≡-of-difference}
 use Rattle.exact.proofs.Poly.{Poly, con, value, plus, times, isZero, plus-value, times-value, zero-value}
-use Rattle.exact.proofs.Ring.{Var, here, there, Term, var, num, add, sub, mul, neg}
+use Rattle.exact.proofs.Ring.{Var, here, there, Term, var, num, num-neg, add, sub, mul, neg, add-ℕ, mul-ℕ}
 use Rattle.exact.proofs.Ring.{normal, normal-value, minus, minus-value}
 
 infixr 5 _∷ℚ_
@@ -31,7 +32,7 @@ pub data Ratios (ρ : List ℤ) : Fraction → Fraction → Type 0 where
   ratio-sides : {x y : Fraction} → Ratio ρ x → Ratio ρ y → Ratios ρ x y
 
 pub ruleset ratios =
-    (of-whole, of-over, sum, dif, pro, quo, atom, ratio-sides, here, there, var, num, add, sub, mul, neg, tt)
+    (of-whole, of-over, sum, dif, pro, quo, atom, ratio-sides, here, there, var, num, num-neg, add, sub, mul, neg, add-ℕ, mul-ℕ, tt)
 
 -- numerator and denominator as normal forms
 pub record Parts : Type 0 where
@@ -91,13 +92,13 @@ means (quo s t) =
     let n = means t in
     record { top = simp (values, m .top, n .bottom); bottom = simp (values, m .bottom, n .top) }
 
-abbrev pub cross-gap : {ρ : List ℤ} {x y : Fraction} → Ratios ρ x y → Poly
-cross-gap (ratio-sides s t) = parts (dif s t) .top
+abbrev pub cross-residue : {ρ : List ℤ} {x y : Fraction} → Ratios ρ x y → Poly
+cross-residue (ratio-sides s t) = parts (dif s t) .top
 
-pub field : (ρ : List ℤ) {x y : Fraction} (s : Ratios ρ x y) → T (isZero (cross-gap s)) → x ≈ℚ y
+pub field : (ρ : List ℤ) {x y : Fraction} (s : Ratios ρ x y) → T (isZero (cross-residue s)) → x ≈ℚ y
 unfolding _-ℚ_
 field ρ (ratio-sides {x = x} {y = y} s t) h =
     record {
       cross = ≡-of-difference (x .num *ℤ y .den) (y .num *ℤ x .den)
-          (sym (means (dif s t) .top) ∙ zero-value (cross-gap (ratio-sides s t)) ρ h);
+          (sym (means (dif s t) .top) ∙ zero-value (cross-residue (ratio-sides s t)) ρ h);
     }

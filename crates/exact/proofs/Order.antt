@@ -53,16 +53,16 @@ pub ≤-by : {a b : ℤ} (c : ℤ) → b -ℤ a ≡ c → pos 0 ≤ℤ c → a �
     let n = pos-of-nonneg h in
     subst (λ x. a ≤ℤ x) (rw (← n .1, ← e) (ring (a ∷ b ∷ []) (search terms depth 20 fits 9999) tt)) (≤-sum a (n .0))
 
-gap : (a b : ℤ) → T (leZ a b) → pos 0 ≤ℤ (b -ℤ a)
-gap (pos zero) (pos b) t = nonneg-pos (b + 0)
-gap (pos (suc a)) (pos b) t = rw (le-ltb b (suc a) (leb→le (suc a) b t)) (nonneg-pos (b - suc a))
-gap (pos zero) (negsuc b) t = absurd t
-gap (pos (suc a)) (negsuc b) t = absurd t
-gap (negsuc a) (pos b) t = nonneg-pos (b + suc a)
-gap (negsuc a) (negsuc b) t = rw (le-ltb (suc a) (suc b) (suc-le-suc (leb→le b a t))) (nonneg-pos (suc a - suc b))
+leZ-difference : (a b : ℤ) → T (leZ a b) → pos 0 ≤ℤ (b -ℤ a)
+leZ-difference (pos zero) (pos b) t = nonneg-pos (b + 0)
+leZ-difference (pos (suc a)) (pos b) t = rw (le-ltb b (suc a) (leb→le (suc a) b t)) (nonneg-pos (b - suc a))
+leZ-difference (pos zero) (negsuc b) t = absurd t
+leZ-difference (pos (suc a)) (negsuc b) t = absurd t
+leZ-difference (negsuc a) (pos b) t = nonneg-pos (b + suc a)
+leZ-difference (negsuc a) (negsuc b) t = rw (le-ltb (suc a) (suc b) (suc-le-suc (leb→le b a t))) (nonneg-pos (suc a - suc b))
 
 pub nonneg-difference : {a b : ℤ} → a ≤ℤ b → pos 0 ≤ℤ (b -ℤ a)
-nonneg-difference {a} {b} h = gap a b (h .le)
+nonneg-difference {a} {b} h = leZ-difference a b (h .le)
 
 pub nonneg-+ : {a b : ℤ} → pos 0 ≤ℤ a → pos 0 ≤ℤ b → pos 0 ≤ℤ (a +ℤ b)
 nonneg-+ h k =

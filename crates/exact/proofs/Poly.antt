@@ -83,7 +83,8 @@ pub plus-value : (p r : Poly) (ρ : List ℤ) → value (plus p r) ρ ≡ value 
 plus-value (con c) r ρ = shift-value c r ρ
 plus-value (p ·x+ q) (con d) ρ = shift-value d (p ·x+ q) ρ ∙ +ℤ-comm d (value (p ·x+ q) ρ)
 plus-value (p ·x+ q) (p' ·x+ q') ρ =
-    rw (horner-value (plus p p') (plus q q') ρ, plus-value p p' ρ, plus-value q q' (later ρ), +-*, +-exchange)
+    rw (horner-value (plus p p') (plus q q') ρ, plus-value p p' ρ, plus-value q q' (later ρ), +-*)
+    (+-exchange (value p ρ *ℤ first ρ) (value p' ρ *ℤ first ρ) (value q (later ρ)) (value q' (later ρ)))
 
 abbrev pub scale : ℤ → Poly → Poly
 scale c (con d) = con (c *ℤ d)

@@ -1,77 +1,76 @@
 -- `exact::floor_div` meets its contract. A signed local holds bits, which are read back (`toZ-ofZ`) where it is used.
 -- Assumes nothing.
-use mathlib.Core.Path.{_≡_, subst}
-use mathlib.Core.Bool.{true, false}
-use Prim.Native.Nat.{_/_}
-use lib.IntN.{ℤ, pos, natAbs}
-use lib.Signed.{ltZ}
+use mathlib.Core.Path.{_≡_}
+use Prim.Native.Nat.{ℕ, _/_}
+use native.Mathlib.Nat.{div-le-self}
+use lib.IntN.{ℤ, pos, negsuc}
+use lib.Signed.{mag}
 use mir.Syntax.{w64}
-use mir.Val.{SFits}
-use mir.Facts.{toZ-ofZ, toZ-pos}
+use mir.Val.{SFits, toZ, ofZ}
+use mir.ValLaws.{sfits-le}
+use mir.Facts.{toZ-ofZ, toZ-pos, fits-natAbs}
 use borrow.Author.Needs.{needs}
-use Rattle.exact.proofs.Signed.{natural, mirror, sfits-mirror, sfits-quotient, below, floor-below, not-below, floor-not-below}
+use Rattle.exact.specs.Rounding.{floorDiv}
+use Rattle.exact.proofs.Signed.{mirror, mirror-pos, mirror-negsuc, sfits-mirror, negsuc-of-negative, pos-of-not-negative}
 use Rattle.exact.proofs.floor_div.Statement.{statement}
 use Rattle.exact.proofs.floor_div.Tie as tie
 
--- n below 0
-module _ (c : tie.Then1) where
+-- m is n without its sign, q its quotient; both fit as n does
+module _ (c : tie.Start) where
   abbrev n : ℤ
-  n = c .before .args .n
+  n = c .args .n
 
-  negative : ltZ n (pos 0) ≡ true
-  negative = subst (λ (z : ℤ). ltZ z (pos 0) ≡ true) (toZ-ofZ (c .before .fits .n)) (c .if1 .taken)
+  abbrev m : ℕ
+  m = mag n
 
-  mirrored : SFits w64 (mirror n)
-  mirrored = sfits-mirror (c .before .fits .n)
+  abbrev q : ℕ
+  q = m / c .args .d
 
-  quotient : SFits w64 (pos (natAbs (mirror n) / c .before .args .d))
-  quotient = sfits-quotient (c .before .args .d) (subst (SFits w64) (below n negative) mirrored)
+  read-back : toZ w64 (ofZ w64 n) ≡ n
+  read-back = toZ-ofZ (c .fits .n)
 
-sub-result : tie.Need-sub-result
-sub-result c = rw (toZ-ofZ (c .before .fits .n)) (mirrored c)
+  m-fits : SFits w64 (pos m)
+  m-fits = record { sfits = c .fits .n .sfits }
 
-cast-result : tie.Need-cast-result
-cast-result c = rw (toZ-ofZ (c .before .fits .n), toZ-ofZ (mirrored c)) (natural tt (mirrored c) (below (n c) (negative c)))
+  q-fits : SFits w64 (pos q)
+  q-fits = sfits-le (div-le-self m (c .args .d)) m-fits
 
-div-result : tie.Need-div-result
-div-result c = search needs
+  q-read-back : toZ w64 q ≡ pos q
+  q-read-back = toZ-pos w64 (q-fits .sfits)
 
-cast-result-2 : tie.Need-cast-result-2
-cast-result-2 c = rw (toZ-ofZ (c .before .fits .n), toZ-ofZ (mirrored c)) (quotient c)
+-- n below 0 is −(m + 1), and the code divides m
+module _ (c : tie.Then1) where
+  negative : n (c .before) ≡ negsuc (m (c .before))
+  negative = negsuc-of-negative (n (c .before)) (rw (read-back (c .before)) at (c .if1 .taken))
 
-sub-result-2 : tie.Need-sub-result-2
-sub-result-2 c = rw (toZ-ofZ (c .before .fits .n), toZ-ofZ (mirrored c), toZ-pos w64 (quotient c .sfits)) (sfits-mirror (quotient c))
+  mirrored : toZ w64 (ofZ w64 (mirror (toZ w64 (ofZ w64 (n (c .before)))))) ≡ pos (m (c .before))
+  mirrored = rw (read-back (c .before), negative, mirror-negsuc (m (c .before))) (toZ-ofZ (m-fits (c .before)))
 
 returns : tie.Need-returns
+unfolding floorDiv
 returns c =
-    rw (toZ-ofZ (c .before .fits .n), toZ-ofZ (mirrored c), toZ-pos w64 (quotient c .sfits), toZ-ofZ (sfits-mirror (quotient c)))
-    (floor-below (n c) (c .before .args .d) (negative c))
+    rw (mirrored c, q-read-back (c .before), toZ-ofZ (sfits-mirror (q-fits (c .before))), negative c)
+    (mirror-pos (q (c .before)))
 
--- n not below 0
-module _ (c : tie.Else1) where
-  positive : ltZ (c .before .args .n) (pos 0) ≡ false
-  positive = subst (λ (z : ℤ). ltZ z (pos 0) ≡ false) (toZ-ofZ (c .before .fits .n)) (c .if1 .left)
-
-  same : c .before .args .n ≡ pos (natAbs (c .before .args .n))
-  same = not-below (c .before .args .n) positive
-
-  whole-quotient : SFits w64 (pos (natAbs (c .before .args .n) / c .before .args .d))
-  whole-quotient = sfits-quotient (c .before .args .d) (subst (SFits w64) same (c .before .fits .n))
-
-cast-result-3 : tie.Need-cast-result-3
-cast-result-3 c = rw (toZ-ofZ (c .before .fits .n)) (natural tt (c .before .fits .n) (same c))
-
-div-result-2 : tie.Need-div-result-2
-div-result-2 c = search needs
-
-cast-result-4 : tie.Need-cast-result-4
-cast-result-4 c = rw (toZ-ofZ (c .before .fits .n)) (whole-quotient c)
+-- n not below 0 is m
+natural : (c : tie.Else1) → n (c .before) ≡ pos (m (c .before))
+natural c = pos-of-not-negative (n (c .before)) (rw (read-back (c .before)) at (c .if1 .left))
 
 returns-2 : tie.Need-returns-2
-returns-2 c =
-    rw (toZ-ofZ (c .before .fits .n), toZ-pos w64 (whole-quotient c .sfits)) (floor-not-below (c .before .args .n) (c .before .args .d) (positive c))
+unfolding floorDiv
+returns-2 c = rw (read-back (c .before), natural c) (q-read-back (c .before))
 
 pub floor-div-spec : {M : Type 1} → statement M
 floor-div-spec =
     tie.close
-    (tie.spec sub-result cast-result div-result cast-result-2 sub-result-2 returns cast-result-3 div-result-2 cast-result-4 returns-2)
+    (tie.spec
+    (λ c. rw (read-back (c .before)) (sfits-mirror (c .before .fits .n)))
+    (λ c. rw (mirrored c) (tt, fits-natAbs tt (m-fits (c .before))))
+    (search needs)
+    (λ c. rw (mirrored c) (q-fits (c .before)))
+    (λ c. rw (mirrored c, q-read-back (c .before)) (sfits-mirror (q-fits (c .before))))
+    returns
+    (λ c. rw (read-back (c .before), natural c) (tt, fits-natAbs tt (m-fits (c .before))))
+    (search needs)
+    (λ c. rw (read-back (c .before), natural c) (q-fits (c .before)))
+    returns-2)
