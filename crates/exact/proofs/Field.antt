@@ -11,8 +11,7 @@ use lib.IntN.{ℤ, pos, _*ℤ_}
 use Rattle.exact.specs.Fraction.{Fraction, _over_, whole, _+ℚ_, _-ℚ_, _*ℚ_, _/ℚ_, _≈ℚ_}
 use Rattle.exact.proofs.Integer.{≡-of-difference}
 use Rattle.exact.proofs.Poly.{Poly, con, value, plus, times, isZero, plus-value, times-value, zero-value}
-use Rattle.exact.proofs.Ring.{Var, here, there, Term, var, num, num-neg, add, sub, mul, neg, add-ℕ, mul-ℕ}
-use Rattle.exact.proofs.Ring.{normal, normal-value, minus, minus-value}
+use Rattle.exact.proofs.Ring.{Var, Term, var, terms, normal, normal-value, minus, minus-value}
 
 infixr 5 _∷ℚ_
 abbrev pub _∷ℚ_ : Fraction → List ℤ → List ℤ
@@ -31,8 +30,7 @@ pub data Ratio (ρ : List ℤ) : Fraction → Type 0 where
 pub data Ratios (ρ : List ℤ) : Fraction → Fraction → Type 0 where
   ratio-sides : {x y : Fraction} → Ratio ρ x → Ratio ρ y → Ratios ρ x y
 
-pub ruleset ratios =
-    (of-whole, of-over, sum, dif, pro, quo, atom, ratio-sides, here, there, var, num, num-neg, add, sub, mul, neg, add-ℕ, mul-ℕ, tt)
+pub ruleset ratios = (of-whole, of-over, sum, dif, pro, quo, atom, ratio-sides, terms)
 
 -- numerator and denominator as normal forms
 pub record Parts : Type 0 where

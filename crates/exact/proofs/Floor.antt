@@ -2,15 +2,15 @@
 --   Quotient n d q      q·d ≤ n < (q + 1)·d: q is n / d rounded down, and nothing else is (`quotient-unique`)
 --   floorDiv-quotient   `floorDiv` gives the quotient, and nothing else does (`floorDiv-unique`)
 --   floorDiv-nested     ⌊(x + ⌊y / w⌋) / m⌋ = ⌊(x w + y) / (w m)⌋: one rounding by two divisions
---   floor-greatest      the floor is the greatest whole number not above x
+--   floor-greatest      the floor is the greatest whole number not above x, so the next one is (`floor-next`)
 -- Assumes nothing.
 use mathlib.Core.Path.{_≡_, sym, subst₂}
 use mathlib.Core.List.{[], _∷_}
 use Prim.Native.Nat.{ℕ, _*_, _/_, _<_}
 use native.Mathlib.Nat.{div-mul-le-self, lt-mul-div-succ, mul-comm, mul-pos}
-use lib.IntN.{ℤ, pos, negsuc, negℤ, natAbs, one, _+ℤ_, _-ℤ_, _*ℤ_, *ℤ-one}
+use lib.IntN.{ℤ, pos, negsuc, natAbs, one, _+ℤ_, _-ℤ_, _*ℤ_, *ℤ-one}
 use lib.Signed.{_≤ℤ_, _<ℤ_, yes-nonNeg, pos-natAbs}
-use Rattle.exact.specs.Fraction.{Fraction, Proper, whole, _≤ℚ_}
+use Rattle.exact.specs.Fraction.{Fraction, Proper, whole, _≤ℚ_, _<ℚ_}
 use Rattle.exact.specs.Rounding.{floorDiv, floor, Greatest, FloorIsGreatest}
 use Rattle.exact.proofs.Ring.{ring, terms}
 use Rattle.exact.proofs.Order as Z
@@ -41,10 +41,10 @@ quotient-mirror {n} {q} {d} k = record {
   high = Z.<-by _ above (Z.positive-+ (Z.positive-lit tt) (Z.nonneg-difference (k .low)));
 }
   where
-    below : (negℤ (pos 1) -ℤ n) -ℤ (negℤ (pos 1) -ℤ q) *ℤ pos d ≡ (q +ℤ pos 1) *ℤ pos d -ℤ (n +ℤ pos 1)
+    below : mirror n -ℤ mirror q *ℤ pos d ≡ (q +ℤ pos 1) *ℤ pos d -ℤ (n +ℤ pos 1)
     below = ring (n ∷ q ∷ pos d ∷ []) (search terms depth 20 fits 9999) tt
 
-    above : (negℤ (pos 1) -ℤ q +ℤ pos 1) *ℤ pos d -ℤ (negℤ (pos 1) -ℤ n) ≡ pos 1 +ℤ (n -ℤ q *ℤ pos d)
+    above : (mirror q +ℤ pos 1) *ℤ pos d -ℤ mirror n ≡ pos 1 +ℤ (n -ℤ q *ℤ pos d)
     above = ring (n ∷ q ∷ pos d ∷ []) (search terms depth 20 fits 9999) tt
 
 pub floorDiv-quotient : (n : ℤ) {d : ℕ} → 0 < d → Quotient n d (floorDiv n d)
@@ -92,6 +92,10 @@ module _ (x : Fraction) (px : Proper x) where
   floor-quotient : Quotient (x .num) (natAbs (x .den)) (floor x)
   unfolding floor
   floor-quotient = floorDiv-quotient (x .num) (Z.<-of-pos-< (rw den-natural (px .above-0)))
+
+  pub floor-next : x <ℚ whole (floor x +ℤ pos 1)
+  unfolding whole one
+  floor-next = record { cross = rw (*ℤ-one (x .num)) (rw den-natural at (floor-quotient .high)) }
 
 pub floor-greatest : FloorIsGreatest
 unfolding whole one

@@ -1,7 +1,9 @@
 -- Laws of fractions.
---   Proper, NonNeg, Positive   a denominator above 0; a numerator not negative, above 0: `search propers`, `search positivity`
---   ≤-by, <-by                 the certificate: y − x is, by the field tactic, a c that is not negative (above 0)
---   ≈-.., ≤-.., <-..           the same number, and the order; `≤-of-leℚ` and the like cross from and to the tests
+--   NonNeg x, Positive x   for a proper x: it is not negative, above 0
+--   propers, positivity    what `search` goes by for `Proper`, and for all three
+--   ≤-by, <-by             the certificate: y − x is, by the field tactic, a c that is not negative (above 0)
+--   ≈-.., ≤-.., <-..       the same number, and the order
+--   ≤-of-leℚ, ..           from the tests to the comparisons, and back
 -- Assumes nothing.
 use mathlib.Core.Path.{_≡_, refl, sym, subst}
 use mathlib.Core.Bool.{true, false}
@@ -105,23 +107,11 @@ positive-difference h = record { sign = Z.positive-difference (h .cross) }
 
 pub ruleset propers = (proper-over, proper-whole, proper-+, proper--, proper-*, proper-/)
 
-pub ruleset positivity = (
-  propers,
-  signs,
-  nonneg-of-positive,
-  nonneg-over,
-  positive-over,
-  nonneg-whole,
-  positive-whole,
-  nonneg-+,
-  positive-+,
-  nonneg-*,
-  positive-*,
-  nonneg-/,
-  positive-/,
-  nonneg-difference,
-  positive-difference,
-)
+pub ruleset nonnegs = (nonneg-of-positive, nonneg-over, nonneg-whole, nonneg-+, nonneg-*, nonneg-/, nonneg-difference)
+
+pub ruleset positives = (positive-over, positive-whole, positive-+, positive-*, positive-/, positive-difference)
+
+pub ruleset positivity = (propers, signs, nonnegs, positives)
 
 -- ---- the same number
 

@@ -165,20 +165,9 @@ positive-* {a} {b} h k =
     (nonneg-* (nonneg-difference (next-of-< h)) (≤-of-< k)))
 
 -- what `search` goes by for a sign; a literal's own sign computes
-pub ruleset signs = (
-  nonneg-pos,
-  nonneg-+,
-  nonneg-*,
-  nonneg-square,
-  ≤-of-<,
-  positive-lit,
-  positive-*,
-  positive-+,
-  positive-+′,
-  nonneg-difference,
-  positive-difference,
-  tt,
-)
+pub ruleset nonnegs = (nonneg-pos, nonneg-+, nonneg-*, nonneg-square, ≤-of-<, nonneg-difference)
+
+pub ruleset signs = (nonnegs, positive-lit, positive-*, positive-+, positive-+′, positive-difference, tt)
 
 -- ---- sums, products, and cancelling a factor
 

@@ -1,20 +1,19 @@
 -- The rounding rule.
 --   rounding-..         what holds of any `Rounding`: equal fractions round alike, and whole bounds are kept
---   round-rounding      `round` is one; `round-is-half-up` says where positivity go
---   half-up-unique      and nothing else is so near
+--   round-is-half-up    `round` is at most one half off, halves up, and nothing else is (`half-up-unique`)
+--   round-rounding      `round` is a `Rounding`
 -- Assumes nothing.
 use mathlib.Core.Path.{_≡_, _∙_}
 use mathlib.Core.List.{[], _∷_}
-use mathlib.Core.Logic.{inl, inr}
 use lib.IntN.{ℤ, pos, _+ℤ_}
-use lib.Signed.{_≤ℤ_, clashℤ, ≤ℤ-refl}
-use Rattle.exact.specs.Fraction.{Fraction, Proper, whole, _+ℚ_, _-ℚ_, _≈ℚ_, _≤ℚ_, _<ℚ_}
-use Rattle.exact.specs.Rounding.{half, round, Greatest, Rounding, RoundIsRounding, HalfUp, RoundIsHalfUp}
+use lib.Signed.{_≤ℤ_}
+use Rattle.exact.specs.Fraction.{Fraction, Proper, whole, _+ℚ_, _-ℚ_, _≈ℚ_, _≤ℚ_}
+use Rattle.exact.specs.Rounding.{half, round, Rounding, RoundIsRounding, HalfUp, RoundIsHalfUp}
 use Rattle.exact.proofs.Order as Z
 use Rattle.exact.proofs.Field.{field, ratios, _∷ℚ_}
 use Rattle.exact.proofs.Fractions as Q
 use Rattle.exact.proofs.Fractions.{propers, positivity}
-use Rattle.exact.proofs.Floor.{floor-greatest, floor-keeps-order}
+use Rattle.exact.proofs.Floor.{floor-next, floor-greatest, floor-keeps-order}
 
 module _ {rnd : Fraction → ℤ} (r : Rounding rnd) where
   pub rounding-≈ : (x y : Fraction) → Proper x → Proper y → x ≈ℚ y → rnd x ≡ rnd y
@@ -31,15 +30,18 @@ module _ {rnd : Fraction → ℤ} (r : Rounding rnd) where
     pub rounding-at-whole : v ≈ℚ whole k → rnd v ≡ k
     rounding-at-whole e = rounding-≈ v (whole k) pv (Q.proper-whole k) e ∙ r .keeps-whole k
 
--- ---- positivity up
+-- ---- halves up
 
 pub proper-half : Proper half
 proper-half = search positivity
 
+-- from j to k + 1 it is as far as from j to x + ½, and from x − ½ to k
 half-up-≤ : {x : Fraction} {j k : ℤ} → Proper x → HalfUp x j → HalfUp x k → j ≤ℤ k
 half-up-≤ {x} {j} {k} px hj hk =
-    Z.≤-of-<-next (Q.<-of-whole-< j (k +ℤ pos 1)
-    (Q.<-by (search propers) (search propers) ((whole k -ℚ (x -ℚ half)) +ℚ (x +ℚ half -ℚ whole j)) (search (propers, proper-half))
+    Z.≤-of-<-next
+    (Q.<-of-whole-< j (k +ℤ pos 1)
+    (Q.<-by (search propers) (search propers)
+    ((whole k -ℚ (x -ℚ half)) +ℚ (x +ℚ half -ℚ whole j)) (search (propers, proper-half))
     (field (x ∷ℚ j ∷ k ∷ []) (search ratios depth 20 fits 9999) tt)
     (search (positivity, proper-half, hj .below, hk .above))))
 
@@ -48,20 +50,14 @@ half-up-unique px hj hk = Z.≤-antisym (half-up-≤ px hj hk) (half-up-≤ px h
 
 pub round-is-half-up : RoundIsHalfUp
 unfolding round
-round-is-half-up x px = record { above = above; below = g .not-above }
-  where
-    g : Greatest (x +ℚ half) (round x)
-    g = floor-greatest (x +ℚ half) (Q.proper-+ px proper-half)
+round-is-half-up x px = record {
+  above = Q.<-by (search positivity) (search positivity)
+      (whole (round x +ℤ pos 1) -ℚ (x +ℚ half)) (search positivity)
+      (field (x ∷ℚ round x ∷ []) (search ratios depth 20 fits 9999) tt)
+      (Q.positive-difference (floor-next (x +ℚ half) (search positivity)));
+  below = floor-greatest (x +ℚ half) (search positivity) .not-above;
+}
 
-    above : x -ℚ half <ℚ whole (round x)
-    above = elim (Q.≤-or-< (whole (round x +ℤ pos 1)) (x +ℚ half)) [
-      | inl h ↦ clashℤ (Z.<-of-next (≤ℤ-refl (round x +ℤ pos 1))) (g .greatest (round x +ℤ pos 1) h)
-      | inr h ↦ Q.<-by (search positivity) (search positivity) (whole (round x +ℤ pos 1) -ℚ (x +ℚ half)) (search positivity)
-          (field (x ∷ℚ round x ∷ []) (search ratios depth 20 fits 9999) tt)
-          (Q.positive-difference h)
-    ]
-
--- a whole number is at most one half off itself
 half-up-whole : (z : ℤ) → HalfUp (whole z) z
 half-up-whole z = record {
   above = Q.<-by (search positivity) (search positivity) half proper-half

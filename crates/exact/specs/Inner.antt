@@ -1,5 +1,5 @@
--- What contracts of inner functions cite: equality of integers as a test; the quotient of a product by long division, what it asks
--- and what holds after each digit. Nothing here need be believed.
+-- What contracts of inner functions cite: equality of integers as a test; the quotient of a product by long division, what
+-- it asks and what holds after each digit. Nothing here need be believed.
 -- Assumes nothing.
 use mathlib.Core.Path.{_≡_}
 use mathlib.Core.Bool.{Bool, _&&_}

@@ -1,6 +1,6 @@
 -- `exact::floor_div` meets its contract. A signed local holds bits, which are read back (`toZ-ofZ`) where it is used.
 -- Assumes nothing.
-use mathlib.Core.Path.{_≡_}
+use mathlib.Core.Path.{_≡_, _∙_}
 use Prim.Native.Nat.{ℕ, _/_}
 use native.Mathlib.Nat.{div-le-self}
 use lib.IntN.{ℤ, pos, negsuc}
@@ -49,8 +49,8 @@ module _ (c : tie.Then1) where
 returns : tie.Need-returns
 unfolding floorDiv
 returns c =
-    rw (mirrored c, q-read-back (c .before), toZ-ofZ (sfits-mirror (q-fits (c .before))), negative c)
-    (mirror-pos (q (c .before)))
+    rw (mirrored c, q-read-back (c .before), negative c)
+    (toZ-ofZ (sfits-mirror (q-fits (c .before))) ∙ mirror-pos (q (c .before)))
 
 -- n not below 0 is m
 natural : (c : tie.Else1) → n (c .before) ≡ pos (m (c .before))
