@@ -11,7 +11,7 @@ use native.Mathlib.Nat.{div-mul-le-self, lt-mul-div-succ, mul-comm, mul-pos}
 use lib.IntN.{ℤ, pos, negsuc, natAbs, one, _+ℤ_, _-ℤ_, _*ℤ_, *ℤ-one}
 use lib.Signed.{_≤ℤ_, _<ℤ_, yes-nonNeg, pos-natAbs}
 use Rattle.exact.specs.Fraction.{Fraction, Proper, whole, _≤ℚ_, _<ℚ_}
-use Rattle.exact.specs.Rounding.{floorDiv, floor, Greatest, FloorIsGreatest}
+use Rattle.exact.specs.Rounding.{floorDiv, floor, FloorIsGreatest}
 use Rattle.exact.proofs.Ring.{ring, terms}
 use Rattle.exact.proofs.Order as Z
 use Rattle.exact.proofs.Order.{signs}

@@ -7,9 +7,9 @@
 --   *-assoc            (a b) c = a (b c)
 --   ≡-of-difference    a − b = 0 → a = b
 -- Assumes nothing.
-use mathlib.Core.Path.{_≡_, sym, _∙_, ap, _≡⟨_⟩_, _∎}
-use Prim.Native.Nat.{ℕ, zero, suc}
-use lib.IntN.{ℤ, pos, negsuc, negℤ, one, _+ℤ_, _-ℤ_, _*ℤ_, ℤ-ind, +ℤ-idl, +ℤ-idr, +ℤ-assoc, +ℤ-comm, +ℤ-invl, +ℤ-invr}
+use mathlib.Core.Path.{_≡_, sym, _≡⟨_⟩_, _∎}
+use Prim.Native.Nat.{zero}
+use lib.IntN.{ℤ, pos, negℤ, one, _+ℤ_, _-ℤ_, _*ℤ_, ℤ-ind, +ℤ-idl, +ℤ-idr, +ℤ-assoc, +ℤ-comm, +ℤ-invl, +ℤ-invr}
 use lib.IntN.{+ℤ-one, -ℤ-one, sucℤ-+ℤ, predℤ-+ℤ, *ℤ-comm, *ℤ-one, zero-*ℤ, sucℤ-*ℤ, predℤ-*ℤ}
 
 pub +-left-comm : (a b c : ℤ) → a +ℤ (b +ℤ c) ≡ b +ℤ (a +ℤ c)
@@ -21,18 +21,20 @@ ruleset sorted = (+ℤ-assoc, +ℤ-comm, +-left-comm)
 pub +-exchange : (a b c d : ℤ) → (a +ℤ b) +ℤ (c +ℤ d) ≡ (a +ℤ c) +ℤ (b +ℤ d)
 +-exchange a b c d = simp sorted
 
--- by steps of one in a
+by-steps : (P : ℤ → Type 0) →
+    P (pos zero) →
+    ((x : ℤ) → P x → P (x +ℤ pos 1)) →
+    ((x : ℤ) → P x → P (x -ℤ pos 1)) →
+    (a : ℤ) → P a
+by-steps P z up down a = ℤ-ind P z (λ n h. up (pos n) h) (λ n h. down (negℤ (pos n)) h) a
+
 pub +-* : (a b k : ℤ) → (a +ℤ b) *ℤ k ≡ a *ℤ k +ℤ b *ℤ k
-+-* a b k = ℤ-ind (λ x. (x +ℤ b) *ℤ k ≡ x *ℤ k +ℤ b *ℤ k) base (λ n h. up (pos n) h) (λ n h. down (negℤ (pos n)) h) a
-  where
-    base : (pos zero +ℤ b) *ℤ k ≡ pos zero *ℤ k +ℤ b *ℤ k
-    base = simp (+ℤ-idl, zero-*ℤ)
-
-    up : (x : ℤ) → (x +ℤ b) *ℤ k ≡ x *ℤ k +ℤ b *ℤ k → ((x +ℤ pos 1) +ℤ b) *ℤ k ≡ (x +ℤ pos 1) *ℤ k +ℤ b *ℤ k
-    up x h = simp (+ℤ-one, sucℤ-+ℤ, sucℤ-*ℤ, h) (simp sorted)
-
-    down : (x : ℤ) → (x +ℤ b) *ℤ k ≡ x *ℤ k +ℤ b *ℤ k → ((x -ℤ pos 1) +ℤ b) *ℤ k ≡ (x -ℤ pos 1) *ℤ k +ℤ b *ℤ k
-    down x h = simp (-ℤ-one, predℤ-+ℤ, predℤ-*ℤ, h) (simp sorted)
++-* a b k =
+    by-steps (λ x. (x +ℤ b) *ℤ k ≡ x *ℤ k +ℤ b *ℤ k)
+    (simp (+ℤ-idl, zero-*ℤ))
+    (λ x h. simp (+ℤ-one, sucℤ-+ℤ, sucℤ-*ℤ, h) (simp sorted))
+    (λ x h. simp (-ℤ-one, predℤ-+ℤ, predℤ-*ℤ, h) (simp sorted))
+    a
 
 pub *-+ : (k a b : ℤ) → k *ℤ (a +ℤ b) ≡ k *ℤ a +ℤ k *ℤ b
 *-+ k a b = rw (*ℤ-comm k (a +ℤ b), *ℤ-comm k a, *ℤ-comm k b) (+-* a b k)
@@ -52,18 +54,13 @@ negation a b h =
 pub neg-* : (a b : ℤ) → negℤ a *ℤ b ≡ negℤ (a *ℤ b)
 neg-* a b = negation (a *ℤ b) (negℤ a *ℤ b) (rw (← +-* a (negℤ a) b, +ℤ-invr a) (zero-*ℤ b))
 
--- by steps of one in a
 pub *-assoc : (a b c : ℤ) → (a *ℤ b) *ℤ c ≡ a *ℤ (b *ℤ c)
-*-assoc a b c = ℤ-ind (λ x. (x *ℤ b) *ℤ c ≡ x *ℤ (b *ℤ c)) base (λ n h. up (pos n) h) (λ n h. down (negℤ (pos n)) h) a
-  where
-    base : (pos zero *ℤ b) *ℤ c ≡ pos zero *ℤ (b *ℤ c)
-    base = simp zero-*ℤ
-
-    up : (x : ℤ) → (x *ℤ b) *ℤ c ≡ x *ℤ (b *ℤ c) → ((x +ℤ pos 1) *ℤ b) *ℤ c ≡ (x +ℤ pos 1) *ℤ (b *ℤ c)
-    up x h = simp (+ℤ-one, sucℤ-*ℤ, +-*, h)
-
-    down : (x : ℤ) → (x *ℤ b) *ℤ c ≡ x *ℤ (b *ℤ c) → ((x -ℤ pos 1) *ℤ b) *ℤ c ≡ (x -ℤ pos 1) *ℤ (b *ℤ c)
-    down x h = simp (-ℤ-one, predℤ-*ℤ, +-*, neg-*, h)
+*-assoc a b c =
+    by-steps (λ x. (x *ℤ b) *ℤ c ≡ x *ℤ (b *ℤ c))
+    (simp zero-*ℤ)
+    (λ x h. simp (+ℤ-one, sucℤ-*ℤ, +-*, h))
+    (λ x h. simp (-ℤ-one, predℤ-*ℤ, +-*, neg-*, h))
+    a
 
 pub ≡-of-difference : (a b : ℤ) → a -ℤ b ≡ pos zero → a ≡ b
 ≡-of-difference a b h =

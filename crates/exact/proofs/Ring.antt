@@ -5,10 +5,10 @@
 --   {a = …} {b = …}  the sides, written after ρ where nothing else shows them
 -- How it works: `search terms` finds each side as a `Term`, whose normal form is a polynomial; the residue of both is 0.
 -- How it fails:
---   "no proof of Sides …", and then     "Every way was tried": ρ lacks a variable
---                                       "It stopped 20 lemmas deep": depth is too small
---   "the goal is not yet determined"    a side is missing, as between two calls joined by `∙`
---   at tt, "one has T …, the other Unit"    the equation is false
+--   "no proof of `Sides ..`", "Every way was tried"         ρ lacks a variable
+--   "no proof of `Sides ..`", "It stopped 20 lemmas deep"   depth is too small
+--   "the goal is not yet determined"                        a side is not shown, as between two calls joined by `∙`
+--   at tt, "one has `lib.Dec.T`", "the other `Prim.Unit`"   the equation is false
 -- Assumes nothing.
 use mathlib.Core.Path.{_≡_, refl, sym, _∙_, ap}
 use mathlib.Core.List.{List, [], _∷_, map}
@@ -19,9 +19,9 @@ use Rattle.exact.proofs.Integer.{≡-of-difference, one-*, neg-*}
 use Rattle.exact.proofs.Poly.{Poly, con, _·x+_, value, plus, scale, times, isZero}
 use Rattle.exact.proofs.Poly.{plus-value, scale-value, times-value, zero-value}
 
-pub data Var {A : Type 0} : A → List A → Type 0 where
-  here : {x : A} {ρ : List A} → Var x (x ∷ ρ)
-  there : {x y : A} {ρ : List A} → Var x ρ → Var x (y ∷ ρ)
+pub data Var : ℤ → List ℤ → Type 0 where
+  here : {x : ℤ} {ρ : List ℤ} → Var x (x ∷ ρ)
+  there : {x y : ℤ} {ρ : List ℤ} → Var x ρ → Var x (y ∷ ρ)
 
 pub data Term (ρ : List ℤ) : ℤ → Type 0 where
   var : {x : ℤ} → Var x ρ → Term ρ x
