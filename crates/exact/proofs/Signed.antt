@@ -1,7 +1,8 @@
--- Signed numbers in machine words, by their sign.
---   cast-of-natural       a number that is not negative may be cast to an unsigned one
---   mirror z              −1 − z, which exchanges `pos m` and `negsuc m`, and fits where z does
---   negsuc-of-negative    z below 0 is −(m + 1); `pos-of-not-negative`, one that is not is m
+-- Signed numbers in machine words, by their sign. A number z is natural where `z ≡ pos (natAbs z)`.
+--   cast-of-natural              a natural number may be cast to an unsigned one
+--   mirror z                     −1 − z, which exchanges `pos m` and `negsuc m`, and fits where z does
+--   natural-of-not-negative      z not below 0 is natural
+--   mirror-natural-of-negative   z below 0 has a natural mirror
 -- Assumes nothing.
 use mathlib.Core.Path.{_≡_, refl, ap}
 use mathlib.Core.Bool.{true, false, true≢false}
@@ -11,7 +12,7 @@ use native.Mathlib.Omega.{arith}
 use borrow.Author.Tests.{ltb-true, le-ltb}
 use lib.Dec.{T, ltb}
 use lib.IntN.{ℤ, pos, negsuc, negℤ, natAbs, one, _-ℤ_, negsuc-eq}
-use lib.Signed.{mag, nonNeg, ltZ}
+use lib.Signed.{nonNeg, ltZ}
 use mir.Syntax.{Width}
 use mir.Val.{Fits, SFits, bits, hbits}
 use mir.Facts.{fits-natAbs}
@@ -39,10 +40,10 @@ pub sfits-mirror : {w : Width} {z : ℤ} → SFits w z → SFits w (mirror z)
 sfits-mirror {z = pos m} f = rw (mirror-pos m) (record { sfits = f .sfits })
 sfits-mirror {z = negsuc m} f = rw (mirror-negsuc m) (record { sfits = f .sfits })
 
-pub negsuc-of-negative : (z : ℤ) → ltZ z (pos 0) ≡ true → z ≡ negsuc (mag z)
-negsuc-of-negative (pos a) e = absurd (omega (arith, ltb-true a 0 e))
-negsuc-of-negative (negsuc a) e = refl
+pub natural-of-not-negative : (z : ℤ) → ltZ z (pos 0) ≡ false → z ≡ pos (natAbs z)
+natural-of-not-negative (pos a) e = refl
+natural-of-not-negative (negsuc a) e = absurd (true≢false e)
 
-pub pos-of-not-negative : (z : ℤ) → ltZ z (pos 0) ≡ false → z ≡ pos (mag z)
-pos-of-not-negative (pos a) e = refl
-pos-of-not-negative (negsuc a) e = absurd (true≢false e)
+pub mirror-natural-of-negative : (z : ℤ) → ltZ z (pos 0) ≡ true → mirror z ≡ pos (natAbs (mirror z))
+mirror-natural-of-negative (pos a) e = absurd (omega (arith, ltb-true a 0 e))
+mirror-natural-of-negative (negsuc a) e = rw (mirror-negsuc a)
