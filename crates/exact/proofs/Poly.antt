@@ -65,23 +65,23 @@ horner-value (con c) (con d) ρ = horner-con (isNull c) c d ρ (null c)
 horner-value (con c) (p ·x+ q) ρ = refl
 horner-value (p ·x+ q) r ρ = refl
 
-abbrev pub shift : ℤ → Poly → Poly
-shift c (con d) = con (c +ℤ d)
-shift c (p ·x+ q) = p ·x+ shift c q
+abbrev pub plus-con : ℤ → Poly → Poly
+plus-con c (con d) = con (c +ℤ d)
+plus-con c (p ·x+ q) = p ·x+ plus-con c q
 
-shift-value : (c : ℤ) (p : Poly) (ρ : List ℤ) → value (shift c p) ρ ≡ c +ℤ value p ρ
-shift-value c (con d) ρ = refl
-shift-value c (p ·x+ q) ρ =
-    rw (shift-value c q (later ρ)) (+-left-comm (value p ρ *ℤ first ρ) c (value q (later ρ)))
+plus-con-value : (c : ℤ) (p : Poly) (ρ : List ℤ) → value (plus-con c p) ρ ≡ c +ℤ value p ρ
+plus-con-value c (con d) ρ = refl
+plus-con-value c (p ·x+ q) ρ =
+    rw (plus-con-value c q (later ρ)) (+-left-comm (value p ρ *ℤ first ρ) c (value q (later ρ)))
 
 abbrev pub plus : Poly → Poly → Poly
-plus (con c) r = shift c r
-plus (p ·x+ q) (con d) = shift d (p ·x+ q)
+plus (con c) r = plus-con c r
+plus (p ·x+ q) (con d) = plus-con d (p ·x+ q)
 plus (p ·x+ q) (p' ·x+ q') = horner (plus p p') (plus q q')
 
 pub plus-value : (p r : Poly) (ρ : List ℤ) → value (plus p r) ρ ≡ value p ρ +ℤ value r ρ
-plus-value (con c) r ρ = shift-value c r ρ
-plus-value (p ·x+ q) (con d) ρ = shift-value d (p ·x+ q) ρ ∙ +ℤ-comm d (value (p ·x+ q) ρ)
+plus-value (con c) r ρ = plus-con-value c r ρ
+plus-value (p ·x+ q) (con d) ρ = plus-con-value d (p ·x+ q) ρ ∙ +ℤ-comm d (value (p ·x+ q) ρ)
 plus-value (p ·x+ q) (p' ·x+ q') ρ =
     rw (horner-value (plus p p') (plus q q') ρ, plus-value p p' ρ, plus-value q q' (later ρ), +-*)
     (+-exchange (value p ρ *ℤ first ρ) (value p' ρ *ℤ first ρ) (value q (later ρ)) (value q' (later ρ)))
