@@ -1,13 +1,11 @@
--- The closed forms of the curve equal P / Q, over any common denominator S of a segment's three slopes; and denominators are above 0
--- on the whole segment.
---   Closed v x          v is the number x, and has a denominator above 0
---   In h t              t is a distance from the left end, in a segment of length h
---   Normal              a segment with its slopes over S: the left slope is e₀ / S, the chord g / S, the right slope e₁ / S
---   Climbing            and the chord is above 0, the slopes not below 0
---   Around              a segment by its slopes' distances from the chord over S, a = e₁ − g and b = g − e₀
---   Bending             and the left slope is below the chord, the right slope above it
---   A, B, rising-form   the closed form of a curve that climbs
---   W, convex-form      the closed form of a curve that bends; convex-slope, its slope
+-- The curve of a segment by closed forms, over any common denominator S of the three slopes; denominators are above 0 all along.
+--   Closed v x            v is the number x, and has a denominator above 0
+--   In h t                t is a distance from the left end of a segment of length h
+--   Normal                a segment with its slopes over S: left slope e₀ / S, chord g / S, right slope e₁ / S
+--   Climbing              and its rise is above 0, its slopes are not below 0
+--   Bending               and its slopes are on both sides of the chord: the left one b / S below it, the right one a / S above it
+--   A, B, rising-form     left + F A / B; convex-form: left + (g − b) t / S + (b t)² / (S W); convex-slope: its slope
+--   flat-value, rising-value, straight-value, bent-value   the curve in each of its cases
 -- Assumes nothing.
 use mathlib.Core.Path.{_≡_}
 use mathlib.Core.List.{[], _∷_}
@@ -25,6 +23,8 @@ use Rattle.model.specs.Interpolant as I
 pub record Closed (v x : Fraction) : Type 0 where
   pub proper : Proper v
   pub same : v ≈ℚ x
+
+-- ---- the closed forms
 
 module _ (h t : ℤ) where
   pub record In : Type 0 where
@@ -89,8 +89,7 @@ module _ {d : Fraction} {S e : ℤ} (S-positive : pos 0 <ℤ S) (p : Proper d) (
   unfolding _over_
   positive-over-S k = Q.positive-≈ {x = e over S} (search propers) p (Q.≈-sym same) k .sign
 
--- ---- P / Q over S
-
+-- the right value, P and Q by the slopes over S
 abbrev right-over : (h left S g : ℤ) → Fraction
 right-over h left S g = whole left +ℚ whole h *ℚ g over S
 
@@ -98,7 +97,8 @@ abbrev P-over : (h left t S e₀ g e₁ : ℤ) (r : Fraction) → Fraction
 P-over h left t S e₀ g e₁ r =
     let p = t over h in
     let q = (h -ℤ t) over h in
-    right-over h left S g *ℚ (p *ℚ p *ℚ p) +ℚ (r *ℚ right-over h left S g -ℚ whole h *ℚ e₁ over S) *ℚ (p *ℚ p *ℚ q)
+    let right = right-over h left S g in
+    right *ℚ (p *ℚ p *ℚ p) +ℚ (r *ℚ right -ℚ whole h *ℚ e₁ over S) *ℚ (p *ℚ p *ℚ q)
     +ℚ (r *ℚ whole left +ℚ whole h *ℚ e₀ over S) *ℚ (p *ℚ q *ℚ q) +ℚ whole left *ℚ (q *ℚ q *ℚ q)
 
 abbrev Q-over : (h t : ℤ) (r : Fraction) → Fraction
@@ -117,7 +117,42 @@ module _ {h left right : ℤ} {d₀ d₁ : Fraction} {S e₀ g e₁ : ℤ} (n : 
       Q.≈-trans {y = whole left +ℚ whole (right -ℤ left)} (search propers)
       (field (left ∷ right ∷ []) (search ratios depth 20 fits 9999) tt) (search (congruence, rise-≈))
 
-  -- the curve by r is x, where P / Q over S by an equal r' is
+  below-chord : (right -ℤ left) over h -ℚ d₀ ≈ℚ (g -ℤ e₀) over S
+  below-chord =
+      Q.≈-trans {y = g over S -ℚ e₀ over S} (search propers) (search congruence)
+      (field (g ∷ e₀ ∷ S ∷ []) (search ratios depth 20 fits 9999) tt)
+
+  above-chord : d₁ -ℚ (right -ℤ left) over h ≈ℚ (e₁ -ℤ g) over S
+  above-chord =
+      Q.≈-trans {y = e₁ over S -ℚ g over S} (search propers) (search congruence)
+      (field (g ∷ e₁ ∷ S ∷ []) (search ratios depth 20 fits 9999) tt)
+
+  pub climbing-of-normal : pos 0 <ℤ (right -ℤ left) → NonNeg d₀ → NonNeg d₁ → Climbing h left right d₀ d₁ S e₀ g e₁
+  climbing-of-normal F-positive k₀ k₁ =
+      record {
+        normal = n;
+        rise-positive = F-positive;
+        g-positive = positive-over-S (n .S-positive) (search propers) (n .chord-slope) (search positivity);
+        e₀-nonneg = nonneg-over-S (n .S-positive) (n .left-proper) (n .left-slope) k₀;
+        e₁-nonneg = nonneg-over-S (n .S-positive) (n .right-proper) (n .right-slope) k₁;
+      }
+
+  pub bending-of-normal : d₀ <ℚ (right -ℤ left) over h → (right -ℤ left) over h <ℚ d₁ →
+      Bending h left right d₀ d₁ S (e₁ -ℤ g) g (g -ℤ e₀)
+  bending-of-normal low high =
+      let left-again : g -ℤ (g -ℤ e₀) ≡ e₀ = ring (g ∷ e₀ ∷ []) (search terms depth 20 fits 9999) tt in
+      let right-again : g +ℤ (e₁ -ℤ g) ≡ e₁ = ring (g ∷ e₁ ∷ []) (search terms depth 20 fits 9999) tt in
+      record {
+        normal = rw (left-again, right-again) n;
+        left-below = low;
+        right-above = high;
+        below-chord = below-chord;
+        above-chord = above-chord;
+        a-positive = positive-over-S (n .S-positive) (search propers) above-chord (search positivity);
+        b-positive = positive-over-S (n .S-positive) (search propers) below-chord (search positivity);
+      }
+
+  -- P / Q by r is x, where it is over S, by an equal r'
   closed-over : {r r' x : Fraction} (t : ℤ) → Proper r → Proper r' → r ≈ℚ r' → Positive (Q-over h t r') →
       P-over h left t S e₀ g e₁ r' /ℚ Q-over h t r' ≈ℚ x → Closed (I.rational h left right t d₀ d₁ r) x
   unfolding I.p I.q I.P I.Q I.rational
@@ -129,39 +164,16 @@ module _ {h left right : ℤ} {d₀ d₁ : Fraction} {S e₀ g e₁ : ℤ} (n : 
         same = Q.≈-trans (Q.proper-/ (search propers depth 9) Q-positive) (search congruence depth 9 fits 9999) k;
       }
 
--- ---- the curves that are flat or straight
+  -- ---- the curve in each case
 
-closed-of-≡ : {v x : Fraction} → v ≡ x → Proper x → Closed v x
-closed-of-≡ {x = x} e p = rw e (record { proper = p; same = Q.≈-refl x })
-
-module _ {h left right : ℤ} {d₀ d₁ : Fraction} {S e₀ g e₁ : ℤ} (n : Normal h left right d₀ d₁ S e₀ g e₁) (t : ℤ) where
-  pub flat-value : right ≡ left → Closed (I.rising-curve h left right t d₀ d₁) (whole left)
+  pub flat-value : (t : ℤ) → right ≡ left → Closed (I.rising-curve h left right t d₀ d₁) (whole left)
   unfolding I.rising-curve
-  flat-value e = closed-of-≡ (rw (e, +ℤ-invr)) (search propers)
+  flat-value t e = rw (e, +ℤ-invr) (search (propers, Q.≈-refl))
 
-  pub straight-value :
-      d₀ ≈ℚ (right -ℤ left) over h →
+  pub straight-value : (t : ℤ) → d₀ ≈ℚ (right -ℤ left) over h →
       Closed (I.convex-curve h left right t d₀ d₁) (whole left +ℚ (right -ℤ left) over h *ℚ whole t)
   unfolding I.convex-curve I.chord
-  straight-value e = closed-of-≡ (rw (Q.ltℚ-no (Q.≤-of-≈ (Q.≈-sym e)))) (search propers)
-
--- ---- the curve that climbs
-
-pub climbing :
-    {h left right : ℤ} {d₀ d₁ : Fraction} {S e₀ g e₁ : ℤ} →
-    Normal h left right d₀ d₁ S e₀ g e₁ →
-    pos 0 <ℤ (right -ℤ left) →
-    NonNeg d₀ →
-    NonNeg d₁ →
-    Climbing h left right d₀ d₁ S e₀ g e₁
-climbing n F-positive k₀ k₁ =
-    record {
-      normal = n;
-      rise-positive = F-positive;
-      g-positive = positive-over-S (n .S-positive) (search propers) (n .chord-slope) (search positivity);
-      e₀-nonneg = nonneg-over-S (n .S-positive) (n .left-proper) (n .left-slope) k₀;
-      e₁-nonneg = nonneg-over-S (n .S-positive) (n .right-proper) (n .right-slope) k₁;
-    }
+  straight-value t e = rw (Q.ltℚ-no (Q.≤-of-≈ (Q.≈-sym e))) (search (propers, Q.≈-refl))
 
 module _ {h left right : ℤ} {d₀ d₁ : Fraction} {S e₀ g e₁ t : ℤ} (c : Climbing h left right d₀ d₁ S e₀ g e₁) (i : In h t) where
   twice-B :
@@ -181,7 +193,7 @@ module _ {h left right : ℤ} {d₀ d₁ : Fraction} {S e₀ g e₁ t : ℤ} (c 
   P-climbing :
       P-over h left t S e₀ g e₁ r-climbing /ℚ Q-over h t r-climbing
       ≈ℚ whole left +ℚ (whole h *ℚ g over S) *ℚ A h t e₀ g over B h t e₀ g e₁
-  P-climbing = field (e₀ ∷ g ∷ e₁ ∷ S ∷ left ∷ t ∷ h ∷ []) (search ratios depth 30 fits 9999) tt
+  P-climbing = field (e₀ ∷ g ∷ e₁ ∷ S ∷ left ∷ t ∷ h ∷ []) (search ratios depth 20 fits 9999) tt
 
   pub rising-value : Closed (I.rising-curve h left right t d₀ d₁) (rising-form h left right t e₀ g e₁)
   unfolding I.rising-curve I.r-rising I.chord
@@ -193,50 +205,15 @@ module _ {h left right : ℤ} {d₀ d₁ : Fraction} {S e₀ g e₁ t : ℤ} (c 
       (Q.positive-≈ (search positivity depth 9) (search positivity) Q-climbing (search positivity))
       (Q.≈-trans (search propers) P-climbing (search congruence)))
 
--- ---- the curve that bends
-
-module _ {h left right : ℤ} {d₀ d₁ : Fraction} {S e₀ g e₁ : ℤ} (n : Normal h left right d₀ d₁ S e₀ g e₁) where
-  below-chord : (right -ℤ left) over h -ℚ d₀ ≈ℚ (g -ℤ e₀) over S
-  below-chord =
-      Q.≈-trans {y = g over S -ℚ e₀ over S} (search propers) (search congruence)
-      (field (g ∷ e₀ ∷ S ∷ []) (search ratios depth 20 fits 9999) tt)
-
-  above-chord : d₁ -ℚ (right -ℤ left) over h ≈ℚ (e₁ -ℤ g) over S
-  above-chord =
-      Q.≈-trans {y = e₁ over S -ℚ g over S} (search propers) (search congruence)
-      (field (g ∷ e₁ ∷ S ∷ []) (search ratios depth 20 fits 9999) tt)
-
-  -- the slopes by their distances from the chord
-  left-by-b : g -ℤ (g -ℤ e₀) ≡ e₀
-  left-by-b = ring (g ∷ e₀ ∷ []) (search terms depth 20 fits 9999) tt
-
-  right-by-a : g +ℤ (e₁ -ℤ g) ≡ e₁
-  right-by-a = ring (g ∷ e₁ ∷ []) (search terms depth 20 fits 9999) tt
-
-  pub bending :
-      d₀ <ℚ (right -ℤ left) over h →
-      (right -ℤ left) over h <ℚ d₁ →
-      Bending h left right d₀ d₁ S (e₁ -ℤ g) g (g -ℤ e₀)
-  bending low high =
-      record {
-        normal = rw (left-by-b, right-by-a) n;
-        left-below = low;
-        right-above = high;
-        below-chord = below-chord;
-        above-chord = above-chord;
-        a-positive = positive-over-S (n .S-positive) (search propers) above-chord (search positivity);
-        b-positive = positive-over-S (n .S-positive) (search propers) below-chord (search positivity);
-      }
-
 module _ {h t a b : ℤ} (h-positive : pos 0 <ℤ h) (i : In h t) (a-positive : pos 0 <ℤ a) (b-positive : pos 0 <ℤ b) where
-  W-certificate : W h t a b -ℤ pos 0 ≡ h +ℤ ((a -ℤ pos 1) *ℤ (h -ℤ t) +ℤ (b -ℤ pos 1) *ℤ t)
-  W-certificate = ring (a ∷ b ∷ t ∷ h ∷ []) (search terms depth 20 fits 9999) tt
+  W-by-h : W h t a b -ℤ pos 0 ≡ h +ℤ ((a -ℤ pos 1) *ℤ (h -ℤ t) +ℤ (b -ℤ pos 1) *ℤ t)
+  W-by-h = ring (a ∷ b ∷ t ∷ h ∷ []) (search terms depth 20 fits 9999) tt
 
   blend-positive : pos 0 <ℤ W h t a b
   blend-positive =
       let a-least : pos 0 ≤ℤ (a -ℤ pos 1) = Z.≤-difference (Z.<-next a-positive) in
       let b-least : pos 0 ≤ℤ (b -ℤ pos 1) = Z.≤-difference (Z.<-next b-positive) in
-      Z.<-by _ W-certificate (search signs)
+      Z.<-by _ W-by-h (search signs)
 
 module _ {h left right : ℤ} {d₀ d₁ : Fraction} {S a g b t : ℤ} (c : Bending h left right d₀ d₁ S a g b) (i : In h t) where
   pub W-positive : pos 0 <ℤ W h t a b
@@ -248,9 +225,8 @@ module _ {h left right : ℤ} {d₀ d₁ : Fraction} {S a g b t : ℤ} (c : Bend
   Q-bending : Q-over h t r-bending ≈ℚ (W h t a b *ℤ W h t b a) over (a *ℤ b *ℤ (h *ℤ h))
   Q-bending = field (a ∷ b ∷ S ∷ t ∷ h ∷ []) (search ratios depth 20 fits 9999) tt
 
-  P-bending :
-      P-over h left t S (g -ℤ b) g (g +ℤ a) r-bending /ℚ Q-over h t r-bending ≈ℚ convex-form h left t S a g b
-  P-bending = field (a ∷ g ∷ b ∷ S ∷ left ∷ t ∷ h ∷ []) (search ratios depth 30 fits 9999) tt
+  P-bending : P-over h left t S (g -ℤ b) g (g +ℤ a) r-bending /ℚ Q-over h t r-bending ≈ℚ convex-form h left t S a g b
+  P-bending = field (a ∷ g ∷ b ∷ S ∷ left ∷ t ∷ h ∷ []) (search ratios depth 20 fits 9999) tt
 
   pub bent-value : Closed (I.convex-curve h left right t d₀ d₁) (convex-form h left t S a g b)
   unfolding I.convex-curve I.r-convex I.chord

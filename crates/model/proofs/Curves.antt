@@ -11,18 +11,18 @@ use mathlib.Core.Logic.{inl, inr}
 use mir.Facts.{and-yes, or-yes}
 use lib.Dec.{T}
 use lib.IntN.{ℤ, pos, one, _-ℤ_, zero-*ℤ, *ℤ-one}
-use lib.Signed.{_<ℤ_, ≤ℤ-refl}
+use lib.Signed.{_<ℤ_}
 use Rattle.exact.specs.Fraction.{Fraction, Proper, _over_, whole, _≈ℚ_, _≤ℚ_, _<ℚ_, leℚ, ltℚ, eqℚ}
 use Rattle.exact.proofs.Integer.{difference}
 use Rattle.exact.proofs.Order as Z
-use Rattle.exact.proofs.Order.{signs}
 use Rattle.exact.proofs.Fractions as Q
 use Rattle.exact.proofs.Fractions.{NonNeg, propers}
 use Rattle.model.specs.Interpolant as I
 use Rattle.model.specs.Shape.{rises, bends, 0ℚ}
-use Rattle.model.proofs.ClosedForm.{Closed, In, Normal, climbing, bending, convex-slope}
+use Rattle.model.proofs.ClosedForm.{Closed, In, Normal, climbing-of-normal, bending-of-normal, convex-slope}
 use Rattle.model.proofs.ClosedForm.{flat-value, rising-value, straight-value, bent-value}
-use Rattle.model.proofs.Inside.{Joins, Rises, Bends, flat-rises, climbing-rises, straight-bends, bending-bends}
+use Rattle.model.proofs.Inside.{Joins, Rises, Bends, end-left, end-right}
+use Rattle.model.proofs.Inside.{flat-rises, climbing-rises, straight-bends, bending-bends}
 
 -- ---- the tests, as facts
 
@@ -46,7 +46,8 @@ rise-kind h left right {d₀} {d₁} t =
       | inl u ↦
           let (v, k₁) = and-yes (ltℚ 0ℚ F && leℚ 0ℚ d₀) (leℚ 0ℚ d₁) u in
           let (f, k₀) = and-yes (ltℚ 0ℚ F) (leℚ 0ℚ d₀) v in
-          climbs (Z.<-cancel (Z.nonneg-pos 1) (Q.ltℚ-yes f .cross)) (nonneg-of-≤ (Q.leℚ-yes k₀)) (nonneg-of-≤ (Q.leℚ-yes k₁))
+          climbs (Z.<-cancel (Z.nonneg-pos 1) (Q.ltℚ-yes f .cross))
+          (nonneg-of-≤ (Q.leℚ-yes k₀)) (nonneg-of-≤ (Q.leℚ-yes k₁))
       | inr u ↦
           let (v, k₁) = and-yes (eqℚ F 0ℚ && eqℚ d₀ 0ℚ) (eqℚ d₁ 0ℚ) u in
           let (f, k₀) = and-yes (eqℚ F 0ℚ) (eqℚ d₀ 0ℚ) v in
@@ -69,28 +70,22 @@ bend-kind h F {d₀} {d₁} t =
     Q.≤-trans (a .proper) p (b .proper) (Q.≤-of-≈ (a .same))
     (Q.≤-trans p q (b .proper) h (Q.≤-of-≈ (Q.≈-sym (b .same))))
 
-pub end-left : {h : ℤ} → pos 0 <ℤ h → In h (pos 0)
-end-left h-positive = search signs
-
-pub end-right : {h : ℤ} → pos 0 <ℤ h → In h h
-end-right h-positive = search (signs, ≤ℤ-refl)
-
-module _ {h left right : ℤ} {v x : ℤ → Fraction} (h-positive : pos 0 <ℤ h) (closed : (t : ℤ) → In h t → Closed (v t) (x t)) where
+module _ {h left right : ℤ} {v x : ℤ → Fraction} (closed : (t : ℤ) → In h t → Closed (v t) (x t)) where
   joins-of-closed : Joins h left right x → Joins h left right v
   joins-of-closed j =
-      let l = end-left h-positive in
-      let r = end-right h-positive in
       record {
+        h-positive = j .h-positive;
         proper = λ i. closed _ i .proper;
-        at-left = Q.≈-trans (j .proper l) (closed _ l .same) (j .at-left);
-        at-right = Q.≈-trans (j .proper r) (closed _ r .same) (j .at-right);
+        at-left = Q.≈-trans (j .proper (end-left j)) (closed _ (end-left j) .same) (j .at-left);
+        at-right = Q.≈-trans (j .proper (end-right j)) (closed _ (end-right j) .same) (j .at-right);
       }
 
   rises-of-closed : Rises h left right x → Rises h left right v
   rises-of-closed r =
       record {
         joins = joins-of-closed (r .joins);
-        order = λ i i' le. ≤-of-closed (closed _ i) (closed _ i') (r .joins .proper i) (r .joins .proper i') (r .order i i' le);
+        order = λ i i' le.
+            ≤-of-closed (closed _ i) (closed _ i') (r .joins .proper i) (r .joins .proper i') (r .order i i' le);
       }
 
   bends-of-closed : {d₀ d₁ : Fraction} {σ : ℤ → Fraction} → Bends h left right d₀ d₁ x σ → Bends h left right d₀ d₁ v σ
@@ -102,7 +97,8 @@ module _ {h left right : ℤ} {v x : ℤ → Fraction} (h-positive : pos 0 <ℤ 
             let k = closed _ i in
             let p = b .joins .proper i in
             let q = b .proper i in
-            ≤-of-closed (search (propers, Q.≈-+, Q.≈-refl)) (closed _ i') (search propers) (b .joins .proper i') (b .below i i');
+            ≤-of-closed (search (propers, Q.≈-+, Q.≈-refl)) (closed _ i') (search propers) (b .joins .proper i')
+            (b .below i i');
         at-left = b .at-left;
         at-right = b .at-right;
       }
@@ -116,18 +112,19 @@ tangent h left right d₀ d₁ S a g b t =
 
 module _ {h left right : ℤ} {d₀ d₁ : Fraction} {S e₀ g e₁ : ℤ} (n : Normal h left right d₀ d₁ S e₀ g e₁) where
   pub rising-rises : Rise left right d₀ d₁ → Rises h left right (λ t. I.rising-curve h left right t d₀ d₁)
-  rising-rises (flat e) = rises-of-closed (n .h-positive) (λ t i. flat-value n t e) (flat-rises h e)
+  rising-rises (flat e) = rises-of-closed (λ t i. flat-value n t e) (flat-rises (n .h-positive) e)
   rising-rises (climbs F-positive k₀ k₁) =
-      let c = climbing n F-positive k₀ k₁ in
-      rises-of-closed (n .h-positive) (λ t i. rising-value c i) (climbing-rises c)
+      let c = climbing-of-normal n F-positive k₀ k₁ in
+      rises-of-closed (λ t i. rising-value c i) (climbing-rises c)
 
   pub convex-bends :
       Bend ((right -ℤ left) over h) d₀ d₁ →
-      Bends h left right d₀ d₁ (λ t. I.convex-curve h left right t d₀ d₁) (λ t. tangent h left right d₀ d₁ S (e₁ -ℤ g) g (g -ℤ e₀) t)
+      Bends h left right d₀ d₁ (λ t. I.convex-curve h left right t d₀ d₁)
+      (λ t. tangent h left right d₀ d₁ S (e₁ -ℤ g) g (g -ℤ e₀) t)
   unfolding tangent
   convex-bends (straight k₀ k₁) =
       rw (Q.ltℚ-no (Q.≤-of-≈ (Q.≈-sym k₀)))
-      (bends-of-closed (n .h-positive) (λ t i. straight-value n t k₀) (straight-bends (n .h-positive) k₀ k₁))
+      (bends-of-closed (λ t i. straight-value n t k₀) (straight-bends (n .h-positive) k₀ k₁))
   convex-bends (bent low high) =
-      let c = bending n low high in
-      rw (Q.ltℚ-true low, Q.ltℚ-true high) (bends-of-closed (n .h-positive) (λ t i. bent-value c i) (bending-bends c))
+      let c = bending-of-normal n low high in
+      rw (Q.ltℚ-true low, Q.ltℚ-true high) (bends-of-closed (λ t i. bent-value c i) (bending-bends c))

@@ -1,17 +1,23 @@
--- Inside one segment, by the closed forms: a curve that climbs rises, and a curve that bends lies above each of its tangents.
+-- What the closed forms do between the ends of a segment of length h, each order by one certificate of the field tactic.
+--   Joins          a curve v has denominators above 0, and the values left and right at its ends (end-left, end-right)
+--   Rises          it joins its ends, and rises
+--   Bends          it joins its ends and lies above its tangents, whose slope σ is d₀ at the left end and d₁ at the right end
+--   flat-rises, climbing-rises, straight-bends, bending-bends   the closed form in each case of the curve
 -- Assumes nothing.
 use mathlib.Core.Path.{_≡_, sym, ap}
 use mathlib.Core.List.{[], _∷_}
 use lib.IntN.{ℤ, pos, _+ℤ_, _-ℤ_, _*ℤ_}
-use lib.Signed.{_≤ℤ_, _<ℤ_}
+use lib.Signed.{_≤ℤ_, _<ℤ_, ≤ℤ-refl}
 use Rattle.exact.specs.Fraction.{Fraction, Proper, _over_, whole, _+ℚ_, _-ℚ_, _*ℚ_, _≈ℚ_, _≤ℚ_}
 use Rattle.exact.proofs.Order.{signs}
 use Rattle.exact.proofs.Field.{field, ratios}
 use Rattle.exact.proofs.Fractions as Q
 use Rattle.exact.proofs.Fractions.{propers, positivity}
-use Rattle.model.proofs.ClosedForm.{In, B, W, Climbing, Bending, rising-form, convex-form, convex-slope, right-≈, B-positive, W-positive}
+use Rattle.model.proofs.ClosedForm.{In, B, W, rising-form, convex-form, convex-slope}
+use Rattle.model.proofs.ClosedForm.{Climbing, Bending, right-≈, B-positive, W-positive}
 
 pub record Joins (h left right : ℤ) (v : ℤ → Fraction) : Type 0 where
+  pub h-positive : pos 0 <ℤ h
   pub proper : {t : ℤ} → In h t → Proper (v t)
   pub at-left : v (pos 0) ≈ℚ whole left
   pub at-right : v h ≈ℚ whole right
@@ -27,11 +33,26 @@ pub record Bends (h left right : ℤ) (d₀ d₁ : Fraction) (v σ : ℤ → Fra
   pub at-left : σ (pos 0) ≈ℚ d₀
   pub at-right : σ h ≈ℚ d₁
 
-pub flat-rises : (h : ℤ) {left right : ℤ} → right ≡ left → Rises h left right (λ t. whole left)
-flat-rises h {left} e =
+-- the ends
+module _ {h left right : ℤ} {v : ℤ → Fraction} (j : Joins h left right v) where
+  pub end-left : In h (pos 0)
+  end-left = search signs
+
+  pub end-right : In h h
+  end-right = search (signs, ≤ℤ-refl)
+
+-- ---- rising
+
+pub flat-rises : {h left right : ℤ} → pos 0 <ℤ h → right ≡ left → Rises h left right (λ t. whole left)
+flat-rises h-positive e =
     record {
-      joins = record { proper = λ i. search propers; at-left = Q.≈-refl (whole left); at-right = Q.≈-of-≡ (ap whole (sym e)) };
-      order = λ i i' k. Q.≤-of-≈ (Q.≈-refl (whole left));
+      joins = record {
+        h-positive = h-positive;
+        proper = λ i. search propers;
+        at-left = Q.≈-refl _;
+        at-right = Q.≈-of-≡ (ap whole (sym e));
+      };
+      order = λ i i' k. Q.≤-of-≈ (Q.≈-refl _);
     }
 
 module _ {h left right : ℤ} {d₀ d₁ : Fraction} {S e₀ g e₁ : ℤ} (c : Climbing h left right d₀ d₁ S e₀ g e₁) where
@@ -54,12 +75,14 @@ module _ {h left right : ℤ} {d₀ d₁ : Fraction} {S e₀ g e₁ : ℤ} (c : 
     climb-order le =
         let b = B-positive c i in
         let b' = B-positive c i' in
-        Q.≤-by (climb-proper i) (climb-proper i') _ (search positivity) climbed (Q.nonneg-over _ _ (search signs depth 12 fits 9999))
+        Q.≤-by (climb-proper i) (climb-proper i') _ (search positivity) climbed
+        (Q.nonneg-over _ _ (search signs depth 12 fits 9999))
 
   pub climbing-rises : Rises h left right climb
   climbing-rises =
       record {
         joins = record {
+          h-positive = c .normal .h-positive;
           proper = climb-proper;
           at-left = field (e₀ ∷ g ∷ e₁ ∷ right ∷ left ∷ h ∷ []) (search ratios depth 20 fits 9999) tt;
           at-right = field (e₀ ∷ g ∷ e₁ ∷ right ∷ left ∷ h ∷ []) (search ratios depth 20 fits 9999) tt;
@@ -67,15 +90,15 @@ module _ {h left right : ℤ} {d₀ d₁ : Fraction} {S e₀ g e₁ : ℤ} (c : 
         order = climb-order;
       }
 
-pub straight-bends :
-    {h left right : ℤ} {d₀ d₁ : Fraction} →
-    pos 0 <ℤ h →
-    d₀ ≈ℚ (right -ℤ left) over h →
-    (right -ℤ left) over h ≈ℚ d₁ →
+-- ---- convex
+
+pub straight-bends : {h left right : ℤ} {d₀ d₁ : Fraction} →
+    pos 0 <ℤ h → d₀ ≈ℚ (right -ℤ left) over h → (right -ℤ left) over h ≈ℚ d₁ →
     Bends h left right d₀ d₁ (λ t. whole left +ℚ (right -ℤ left) over h *ℚ whole t) (λ t. (right -ℤ left) over h)
 straight-bends {h} {left} {right} h-positive e₀ e₁ =
     record {
       joins = record {
+        h-positive = h-positive;
         proper = λ i. search propers;
         at-left = field (left ∷ right ∷ h ∷ []) (search ratios depth 20 fits 9999) tt;
         at-right = field (left ∷ right ∷ h ∷ []) (search ratios depth 20 fits 9999) tt;
@@ -101,10 +124,12 @@ module _ {h left right : ℤ} {d₀ d₁ : Fraction} {S a g b : ℤ} (c : Bendin
 
   module _ {t t' : ℤ} (i : In h t) (i' : In h t') where
     -- how far the curve at t' is above the tangent at t: a square over what is above 0
+    abbrev root : ℤ
+    root = b *ℤ (t' *ℤ W h t a b -ℤ t *ℤ W h t' a b)
+
     above-tangent :
         arc t' -ℚ (arc t +ℚ arc-slope t *ℚ whole (t' -ℤ t))
-        ≈ℚ (b *ℤ (t' *ℤ W h t a b -ℤ t *ℤ W h t' a b) *ℤ (b *ℤ (t' *ℤ W h t a b -ℤ t *ℤ W h t' a b)))
-        over (S *ℤ (W h t' a b *ℤ (W h t a b *ℤ W h t a b)))
+        ≈ℚ (root *ℤ root) over (S *ℤ (W h t' a b *ℤ (W h t a b *ℤ W h t a b)))
     above-tangent = field (a ∷ b ∷ g ∷ S ∷ left ∷ t ∷ t' ∷ h ∷ []) (search ratios depth 20 fits 9999) tt
 
     tangent-below : arc t +ℚ arc-slope t *ℚ whole (t' -ℤ t) ≤ℚ arc t'
@@ -119,6 +144,7 @@ module _ {h left right : ℤ} {d₀ d₁ : Fraction} {S a g b : ℤ} (c : Bendin
   bending-bends =
       record {
         joins = record {
+          h-positive = c .normal .h-positive;
           proper = arc-proper;
           at-left = field (a ∷ g ∷ b ∷ S ∷ left ∷ h ∷ []) (search ratios depth 20 fits 9999) tt;
           at-right = Q.≈-trans {y = whole left +ℚ whole h *ℚ g over S} (search propers)

@@ -1,8 +1,9 @@
 -- The two relations between areas that hold inside each segment and join at the points: the values rise; the tangents lie below.
---   values-rise        on a rising curve a later area has no smaller value
---   curve-slope s x    the slope of the convex curve at an area
---   Supports s x s' y  x is not after y, the tangent at each of the two is not above the curve at the other, and the slopes rise
---   tangents-support   on a convex curve any two areas are so
+--   values-rise          on a rising curve a later area has no smaller value
+--   Line, l under m      a value at an area, and a slope; the line l is not above the value of m
+--   curve-slope s x      the slope of a convex segment's curve at an area; line, its tangent there
+--   Supports s x s' y    x is not after y, the tangent at each is not above the curve at the other, and the slopes do not fall
+--   tangents-support     on a convex curve all areas are so
 -- Assumes nothing.
 use mathlib.Core.Path.{_≡_}
 use mathlib.Core.List.{List, [], _∷_}
@@ -10,15 +11,14 @@ use mathlib.Core.Logic.{inl, inr}
 use Prim.Native.Nat.{ℕ, _≤_}
 use native.Mathlib.Nat.{le-refl, le-trans, le-antisymm}
 use lib.IntN.{ℤ, pos, _-ℤ_, +ℤ-invr}
-use lib.Signed.{_≤ℤ_, _<ℤ_}
+use lib.Signed.{_<ℤ_}
 use Rattle.exact.specs.Fraction.{Fraction, Proper, whole, _+ℚ_, _-ℚ_, _*ℚ_, _≈ℚ_, _≤ℚ_}
 use Rattle.exact.proofs.Ring.{ring, terms}
 use Rattle.exact.proofs.Order as Z
-use Rattle.exact.proofs.Order.{signs}
 use Rattle.exact.proofs.Field.{field, ratios}
 use Rattle.exact.proofs.Fractions as Q
 use Rattle.exact.proofs.Fractions.{NonNeg, propers, positivity}
-use Rattle.model.specs.Points.{Point, gradient, Segment, Shape, rising, convex}
+use Rattle.model.specs.Points.{Point, Segment, Shape, rising, convex}
 use Rattle.model.specs.Interpolant.{interpolant}
 use Rattle.model.specs.Read.{last-area}
 use Rattle.model.specs.Inner.{between, Good, Inside}
@@ -30,76 +30,69 @@ distances : (s : Segment) (x y : ℕ) → distance s y -ℤ distance s x ≡ pos
 distances s x y = ring (pos (s .left .area) ∷ pos x ∷ pos y ∷ []) (search terms depth 20 fits 9999) tt
 
 -- both segments give the value of the point between them
-values-meet :
-    {shape : Shape} {p q r : Point} →
-    Good shape (between p q) →
-    Good shape (between q r) →
+values-meet : {shape : Shape} {p q r : Point} → Good shape (between p q) → Good shape (between q r) →
     interpolant shape (between p q) (q .area) ≈ℚ interpolant shape (between q r) (q .area)
 values-meet k k' = Q.≈-trans (search propers) (interpolant-right k) (Q.≈-sym (interpolant-left k'))
 
 -- ---- rising
 
-abbrev NotBelow : Segment → ℕ → Segment → ℕ → Type 0
-NotBelow s x s' y = interpolant rising s x ≤ℚ interpolant rising s' y
-
-rising-spreads : Spreads (Good rising) NotBelow
+rising-spreads : Spreads (Good rising) (λ s x s' y. interpolant rising s x ≤ℚ interpolant rising s' y)
 unfolding interpolant
 rising-spreads =
     record {
-      inside = λ {s} {x} {y} r r' h. segment-rises s (r .good) .order (distance-in r) (distance-in r')
+      inside = λ {s} {x} {y} r r' h.
+          segment-rises s (r .good) .order (distance-in r) (distance-in r')
           (Z.≤-by (pos y -ℤ pos x) (distances s x y) (Z.≤-difference (Z.pos-≤ h)));
       join = λ r r'. Q.≤-of-≈ (values-meet (r .good) (r' .good));
       trans = λ r r' r''. Q.≤-trans (interpolant-proper r) (interpolant-proper r') (interpolant-proper r'');
     }
 
-module _ {p q : Point} {ps : List Point} where
-  pub values-rise :
-      Chain (Good rising) p (q ∷ ps) →
-      (x y : ℕ) → p .area ≤ x → x ≤ y → y ≤ last-area q ps →
-      interpolant rising (stop p q ps x) x ≤ℚ interpolant rising (stop p q ps y) y
-  values-rise c x y = across (Good rising) good-ordered rising-spreads x y c
+pub values-rise : {p q : Point} {ps : List Point} → Chain (Good rising) p (q ∷ ps) →
+    (x y : ℕ) → p .area ≤ x → x ≤ y → y ≤ last-area q ps →
+    interpolant rising (stop p q ps x) x ≤ℚ interpolant rising (stop p q ps y) y
+values-rise c x y = across (Good rising) good-ordered rising-spreads x y c
 
--- ---- lines: a value at an area, and a slope
+-- ---- lines
 
-record Line : Type 0 where
+pub record Line : Type 0 where
   pub area : ℤ
   pub value : Fraction
   pub slope : Fraction
   pub value-proper : Proper value
   pub slope-proper : Proper slope
 
-abbrev height : Line → ℤ → Fraction
+abbrev pub height : Line → ℤ → Fraction
 height l x = l .value +ℚ l .slope *ℚ whole (x -ℤ l .area)
 
--- the line l is not above the value of m
 infix 4 _under_
-abbrev _under_ : Line → Line → Type 0
+abbrev pub _under_ : Line → Line → Type 0
 l under m = height l (m .area) ≤ℚ m .value
 
+-- what the field tactic goes by
+abbrev atoms : Line → List ℤ → List ℤ
+atoms l ρ = l .value .num ∷ l .value .den ∷ l .slope .num ∷ l .slope .den ∷ l .area ∷ ρ
+
+own-height : (l : Line) → height l (l .area) ≈ℚ l .value
+own-height l = field (atoms l []) (search ratios depth 20 fits 9999) tt
+
 module _ (l m n : Line) where
-  -- from l to n by way of m, with the turn at m
-  way-of-m :
+  -- from l to n by way of m, and the turn at m
+  by-way-of-m :
       n .value -ℚ height l (n .area)
-      ≈ℚ (n .value -ℚ height m (n .area)) +ℚ (m .value -ℚ height l (m .area)) +ℚ (m .slope -ℚ l .slope) *ℚ whole (n .area -ℤ m .area)
-  way-of-m =
-      field
-      (l .value .num ∷ l .value .den ∷ l .slope .num ∷ l .slope .den ∷ m .value .num ∷ m .value .den ∷ m .slope .num
-      ∷ m .slope .den ∷ n .value .num ∷ n .value .den ∷ l .area ∷ m .area ∷ n .area ∷ [])
-      (search ratios depth 30 fits 9999) tt
+      ≈ℚ (n .value -ℚ height m (n .area)) +ℚ (m .value -ℚ height l (m .area))
+      +ℚ (m .slope -ℚ l .slope) *ℚ whole (n .area -ℤ m .area)
+  by-way-of-m = field (atoms l (atoms m (atoms n []))) (search ratios depth 30 fits 9999) tt
 
   under-trans : l under m → m under n → NonNeg ((m .slope -ℚ l .slope) *ℚ whole (n .area -ℤ m .area)) → l under n
-  under-trans h k turn = Q.≤-by (search propers) (search propers) _ (search propers depth 9) way-of-m (search positivity depth 9)
+  under-trans h k turn =
+      Q.≤-by (search propers) (search propers) _ (search propers depth 9) by-way-of-m (search positivity depth 9)
 
 module _ (l m : Line) where
   -- the turn from l to m, by how far each is below the other
   turned :
       m .slope *ℚ whole (m .area -ℤ l .area) -ℚ l .slope *ℚ whole (m .area -ℤ l .area)
       ≈ℚ (m .value -ℚ height l (m .area)) +ℚ (l .value -ℚ height m (l .area))
-  turned =
-      field
-      (l .value .num ∷ l .value .den ∷ l .slope .num ∷ l .slope .den ∷ m .value .num ∷ m .value .den ∷ m .slope .num
-      ∷ m .slope .den ∷ l .area ∷ m .area ∷ [])
-      (search ratios depth 20 fits 9999) tt
+  turned = field (atoms l (atoms m [])) (search ratios depth 20 fits 9999) tt
 
   slopes-rise : l .area <ℤ m .area → l under m → m under l → l .slope ≤ℚ m .slope
   slopes-rise lt h k =
@@ -107,8 +100,8 @@ module _ (l m : Line) where
       (Q.≤-by (search propers) (search propers) _ (search propers depth 9) turned (search positivity depth 9))
 
 -- a product of two differences is that of their opposites
-mirrored : (σ τ : Fraction) (x y : ℤ) → (σ -ℚ τ) *ℚ whole (x -ℤ y) ≈ℚ (τ -ℚ σ) *ℚ whole (y -ℤ x)
-mirrored σ τ x y = field (σ .num ∷ σ .den ∷ τ .num ∷ τ .den ∷ x ∷ y ∷ []) (search ratios depth 20 fits 9999) tt
+opposites : (σ τ : Fraction) (x y : ℤ) → (σ -ℚ τ) *ℚ whole (x -ℤ y) ≈ℚ (τ -ℚ σ) *ℚ whole (y -ℤ x)
+opposites σ τ x y = field (σ .num ∷ σ .den ∷ τ .num ∷ τ .den ∷ x ∷ y ∷ []) (search ratios depth 20 fits 9999) tt
 
 -- ---- convex
 
@@ -118,8 +111,7 @@ curve-slope s x = slope-at s (distance s x)
 pub curve-slope-proper : {s : Segment} {x : ℕ} → Inside (Good convex) s x → Proper (curve-slope s x)
 curve-slope-proper {s} r = segment-bends s (r .good) .proper (distance-in r)
 
--- the tangent at x
-abbrev line : {s : Segment} {x : ℕ} → Inside (Good convex) s x → Line
+abbrev pub line : {s : Segment} {x : ℕ} → Inside (Good convex) s x → Line
 line {s} {x} r = record {
   area = pos x;
   value = interpolant convex s x;
@@ -128,38 +120,22 @@ line {s} {x} r = record {
   slope-proper = curve-slope-proper r;
 }
 
+-- the tangent at x is not above the curve at y
+abbrev pub Under : Segment → ℕ → Segment → ℕ → Type 0
+Under s x s' y = interpolant convex s x +ℚ curve-slope s x *ℚ whole (pos y -ℤ pos x) ≤ℚ interpolant convex s' y
+
 pub record Supports (s : Segment) (x : ℕ) (s' : Segment) (y : ℕ) : Type 0 where
   pub order : x ≤ y
-  pub rightwards : interpolant convex s x +ℚ curve-slope s x *ℚ whole (pos y -ℤ pos x) ≤ℚ interpolant convex s' y
-  pub leftwards : interpolant convex s' y +ℚ curve-slope s' y *ℚ whole (pos x -ℤ pos y) ≤ℚ interpolant convex s x
+  pub rightwards : Under s x s' y
+  pub leftwards : Under s' y s x
   pub slopes : curve-slope s x ≤ℚ curve-slope s' y
 
--- the tangent at x is not above the curve at y
-tangent-under : {s : Segment} {x y : ℕ} (r : Inside (Good convex) s x) (r' : Inside (Good convex) s y) → line r under line r'
+under-inside : {s : Segment} {x y : ℕ} → Inside (Good convex) s x → Inside (Good convex) s y → Under s x s y
 unfolding interpolant
-tangent-under {s} {x} {y} r r' = rw distances at (segment-bends s (r .good) .below (distance-in r) (distance-in r'))
+under-inside {s} r r' = rw distances at (segment-bends s (r .good) .below (distance-in r) (distance-in r'))
 
-supports-inside : {s : Segment} {x y : ℕ} → Inside (Good convex) s x → Inside (Good convex) s y → x ≤ y → Supports s x s y
-supports-inside {s} {x} {y} r r' h =
-    record {
-      order = h;
-      rightwards = tangent-under r r';
-      leftwards = tangent-under r' r;
-      slopes = elim (compare-areas y x) [
-        | inl (k, e) ↦ rw (le-antisymm h k) (Q.≤-of-≈ (Q.≈-refl (curve-slope s y)))
-        | inr (k, e) ↦ slopes-rise (line r) (line r') (Z.pos-< k) (tangent-under r r') (tangent-under r' r)
-      ];
-    }
-
-own-height : (l : Line) → height l (l .area) ≈ℚ l .value
-own-height l =
-    field (l .value .num ∷ l .value .den ∷ l .slope .num ∷ l .slope .den ∷ l .area ∷ []) (search ratios depth 20 fits 9999) tt
-
--- both segments have the slope of the point between them there
-slopes-meet :
-    {p q r : Point} →
-    Good convex (between p q) →
-    Good convex (between q r) →
+-- both segments have the slope of the point between them
+slopes-meet : {p q r : Point} → Good convex (between p q) → Good convex (between q r) →
     curve-slope (between p q) (q .area) ≈ℚ curve-slope (between q r) (q .area)
 slopes-meet {p} {q} {r} k k' =
     Q.≈-trans (proper-gradient q) (segment-bends (between p q) k .at-right)
@@ -168,7 +144,16 @@ slopes-meet {p} {q} {r} k k' =
 convex-spreads : Spreads (Good convex) Supports
 convex-spreads =
     record {
-      inside = supports-inside;
+      inside = λ {s} {x} {y} r r' h.
+          record {
+            order = h;
+            rightwards = under-inside r r';
+            leftwards = under-inside r' r;
+            slopes = elim (compare-areas y x) [
+              | inl (k, e) ↦ rw (le-antisymm h k) (Q.≤-of-≈ (Q.≈-refl (curve-slope s y)))
+              | inr (k, e) ↦ slopes-rise (line r) (line r') (Z.pos-< k) (under-inside r r') (under-inside r' r)
+            ];
+          };
       join = λ {q = q} r r'.
           let e = values-meet (r .good) (r' .good) in
           record {
@@ -181,18 +166,17 @@ convex-spreads =
           let l = line r in
           let m = line r' in
           let n = line r'' in
+          let same = opposites (m .slope) (n .slope) (l .area) (m .area) in
+          let turn = Q.nonneg-≈ (search propers) (search propers) same (search (positivity, Z.pos-≤)) in
           record {
             order = le-trans (h .order) (k .order);
             rightwards = under-trans l m n (h .rightwards) (k .rightwards) (search (positivity, Z.pos-≤));
-            leftwards = under-trans n m l (k .leftwards) (h .leftwards)
-                (Q.nonneg-≈ (search propers) (search propers) (mirrored (m .slope) (n .slope) (l .area) (m .area)) (search (positivity, Z.pos-≤)));
+            leftwards = under-trans n m l (k .leftwards) (h .leftwards) turn;
             slopes = Q.≤-trans (l .slope-proper) (m .slope-proper) (n .slope-proper) (h .slopes) (k .slopes);
           };
     }
 
-pub tangents-support :
-    {p q : Point} {ps : List Point} →
-    Chain (Good convex) p (q ∷ ps) →
+pub tangents-support : {p q : Point} {ps : List Point} → Chain (Good convex) p (q ∷ ps) →
     (x y : ℕ) → p .area ≤ x → x ≤ y → y ≤ last-area q ps →
     Supports (stop p q ps x) x (stop p q ps y) y
 tangents-support c x y = across (Good convex) good-ordered convex-spreads x y c

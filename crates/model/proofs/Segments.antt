@@ -1,10 +1,11 @@
--- A segment of an accepted curve: its slopes over 100 × h, and what its curve does between its two areas.
---   gap, rise, distance       h, F, and t at an area
---   S, e₀, g, e₁, a, b        the letters of ClosedForm: S = 100 h, e₀ = h D₀, g = 100 F, e₁ = h D₁; a = e₁ − g, b = g − e₀
---   curve-at, slope-at        the curve, and the slope of the convex curve, at a distance from the left end
---   segment-rises, -bends     what they do, by Curves
---   distance-in               an area inside a segment is at a distance between 0 and h
---   interpolant-proper, -left, -right   the exact value has a denominator above 0; at both ends it is the point's value
+-- A segment of an accepted curve: its slopes over 100 h, and what its curve does between its two areas.
+--   gap, rise, distance              h, F, and t at an area
+--   v₀, v₁, d₀, d₁                   the values and the slopes of its ends
+--   S, e₀, g, e₁, a, b               the letters of ClosedForm: S = 100 h, e₀ = h D₀, g = 100 F, e₁ = h D₁; a = e₁ − g, b = g − e₀
+--   curve-at, slope-at               the curve, and the slope of the convex curve, at a distance from the left end
+--   segment-rises, segment-bends     what they do between the ends
+--   distance-in                      an area inside the segment is at a distance from 0 to h
+--   interpolant-proper, -left, -right    the exact value: its denominator is above 0; at the ends it is the point's value
 -- Assumes nothing.
 use mathlib.Core.Path.{_≡_}
 use mathlib.Core.List.{[], _∷_}
@@ -25,6 +26,10 @@ use Rattle.model.proofs.ClosedForm.{In, Normal}
 use Rattle.model.proofs.Inside.{Joins, Rises, Bends}
 use Rattle.model.proofs.Curves.{rise-kind, bend-kind, rising-rises, convex-bends, tangent}
 
+pub proper-gradient : (p : Point) → Proper (gradient p)
+unfolding gradient
+proper-gradient p = search positivity
+
 module _ (s : Segment) where
   abbrev pub gap : ℤ
   gap = pos (s .right .area) -ℤ pos (s .left .area)
@@ -34,6 +39,18 @@ module _ (s : Segment) where
 
   abbrev pub distance : ℕ → ℤ
   distance x = pos x -ℤ pos (s .left .area)
+
+  abbrev pub v₀ : ℤ
+  v₀ = pos (s .left .value)
+
+  abbrev pub v₁ : ℤ
+  v₁ = pos (s .right .value)
+
+  abbrev pub d₀ : Fraction
+  d₀ = gradient (s .left)
+
+  abbrev pub d₁ : Fraction
+  d₁ = gradient (s .right)
 
   abbrev pub S : ℤ
   S = pos 100 *ℤ gap
@@ -53,75 +70,58 @@ module _ (s : Segment) where
   abbrev pub b : ℤ
   b = g -ℤ e₀
 
-  -- the values and slopes of the ends
-  abbrev pub v₀ : ℤ
-  v₀ = pos (s .left .value)
-
-  abbrev pub v₁ : ℤ
-  v₁ = pos (s .right .value)
-
-  abbrev pub d₀ : Fraction
-  d₀ = gradient (s .left)
-
-  abbrev pub d₁ : Fraction
-  d₁ = gradient (s .right)
-
   abbrev pub curve-at : Shape → ℤ → Fraction
   curve-at shape t = curve gap v₀ v₁ t d₀ d₁ shape
 
   abbrev pub slope-at : ℤ → Fraction
   slope-at t = tangent gap v₀ v₁ d₀ d₁ S a g b t
 
-pub proper-gradient : (p : Point) → Proper (gradient p)
-unfolding gradient
-proper-gradient p = search positivity
+  pub gap-positive : s .left .area < s .right .area → pos 0 <ℤ gap
+  gap-positive h = Z.<-difference (Z.pos-< h)
 
-pub gap-positive : (s : Segment) → s .left .area < s .right .area → pos 0 <ℤ gap s
-gap-positive s h = search (signs, Z.pos-<)
+  pub normal : s .left .area < s .right .area → Normal gap v₀ v₁ d₀ d₁ S e₀ g e₁
+  unfolding gradient
+  normal h =
+      let h-positive = gap-positive h in
+      record {
+        h-positive = h-positive;
+        S-positive = search signs;
+        left-proper = search positivity;
+        right-proper = search positivity;
+        left-slope = field (s .left .slope ∷ gap ∷ []) (search ratios depth 20 fits 9999) tt;
+        right-slope = field (s .right .slope ∷ gap ∷ []) (search ratios depth 20 fits 9999) tt;
+        chord-slope = field (rise ∷ gap ∷ []) (search ratios depth 20 fits 9999) tt;
+      }
 
-pub normal : (s : Segment) → s .left .area < s .right .area → Normal (gap s) (v₀ s) (v₁ s) (d₀ s) (d₁ s) (S s) (e₀ s) (g s) (e₁ s)
-unfolding gradient
-normal s h =
-    let h-positive = gap-positive s h in
-    record {
-      h-positive = h-positive;
-      S-positive = search signs;
-      left-proper = search positivity;
-      right-proper = search positivity;
-      left-slope = field (s .left .slope ∷ gap s ∷ []) (search ratios depth 20 fits 9999) tt;
-      right-slope = field (s .right .slope ∷ gap s ∷ []) (search ratios depth 20 fits 9999) tt;
-      chord-slope = field (rise s ∷ gap s ∷ []) (search ratios depth 20 fits 9999) tt;
-    }
+  pub segment-rises : Good rising s → Rises gap v₀ v₁ (curve-at rising)
+  unfolding curve has-shape fits
+  segment-rises k = rising-rises (normal (k .ends .ordered)) (rise-kind gap v₀ v₁ (k .shaped))
 
-pub segment-rises : (s : Segment) → Good rising s → Rises (gap s) (v₀ s) (v₁ s) (curve-at s rising)
-unfolding curve has-shape fits
-segment-rises s k = rising-rises (normal s (k .ends .ordered)) (rise-kind (gap s) (v₀ s) (v₁ s) (k .shaped))
+  pub segment-bends : Good convex s → Bends gap v₀ v₁ d₀ d₁ (curve-at convex) slope-at
+  unfolding curve has-shape fits
+  segment-bends k = convex-bends (normal (k .ends .ordered)) (bend-kind gap rise (k .shaped))
 
-pub segment-bends : (s : Segment) → Good convex s → Bends (gap s) (v₀ s) (v₁ s) (d₀ s) (d₁ s) (curve-at s convex) (slope-at s)
-unfolding curve has-shape fits
-segment-bends s k = convex-bends (normal s (k .ends .ordered)) (bend-kind (gap s) (rise s) (k .shaped))
-
-pub segment-joins : (shape : Shape) (s : Segment) → Good shape s → Joins (gap s) (v₀ s) (v₁ s) (curve-at s shape)
-segment-joins rising s k = segment-rises s k .joins
-segment-joins convex s k = segment-bends s k .joins
+  segment-joins : (shape : Shape) → Good shape s → Joins gap v₀ v₁ (curve-at shape)
+  segment-joins rising k = segment-rises k .joins
+  segment-joins convex k = segment-bends k .joins
 
 pub distance-in : {G : Segment → Type 0} {s : Segment} {x : ℕ} → Inside G s x → In (gap s) (distance s x)
 distance-in {s = s} {x = x} r =
-    record { low = Z.≤-difference (Z.pos-≤ (r .low)); high = rw from-right (Z.≤-difference (Z.pos-≤ (r .high))) }
+    record { low = Z.≤-difference (Z.pos-≤ (r .low)); high = rw to-right (Z.≤-difference (Z.pos-≤ (r .high))) }
   where
-    from-right : gap s -ℤ distance s x ≡ pos (s .right .area) -ℤ pos x
-    from-right = ring (pos (s .right .area) ∷ pos x ∷ pos (s .left .area) ∷ []) (search terms depth 20 fits 9999) tt
+    to-right : gap s -ℤ distance s x ≡ pos (s .right .area) -ℤ pos x
+    to-right = ring (pos (s .right .area) ∷ pos x ∷ pos (s .left .area) ∷ []) (search terms depth 20 fits 9999) tt
 
-pub interpolant-proper : {shape : Shape} {s : Segment} {x : ℕ} → Inside (Good shape) s x → Proper (interpolant shape s x)
-unfolding interpolant
-interpolant-proper {shape} {s} r = segment-joins shape s (r .good) .proper (distance-in r)
-
--- document 01: at a rated point the segments on both sides give the point's value
-module _ {shape : Shape} {s : Segment} (k : Good shape s) where
-  pub interpolant-left : interpolant shape s (s .left .area) ≈ℚ whole (v₀ s)
+module _ {shape : Shape} {s : Segment} where
+  pub interpolant-proper : {x : ℕ} → Inside (Good shape) s x → Proper (interpolant shape s x)
   unfolding interpolant
-  interpolant-left = rw +ℤ-invr (segment-joins shape s k .at-left)
+  interpolant-proper r = segment-joins s shape (r .good) .proper (distance-in r)
 
-  pub interpolant-right : interpolant shape s (s .right .area) ≈ℚ whole (v₁ s)
+  -- document 01: at a rated point the segments on both sides give the point's value
+  pub interpolant-left : Good shape s → interpolant shape s (s .left .area) ≈ℚ whole (v₀ s)
   unfolding interpolant
-  interpolant-right = segment-joins shape s k .at-right
+  interpolant-left k = rw +ℤ-invr (segment-joins s shape k .at-left)
+
+  pub interpolant-right : Good shape s → interpolant shape s (s .right .area) ≈ℚ whole (v₁ s)
+  unfolding interpolant
+  interpolant-right k = segment-joins s shape k .at-right

@@ -1,9 +1,9 @@
 -- One induction over the points of a curve: what holds inside each segment and joins at the points holds between any two areas.
 --   compare-areas    the test of two areas, by cases
 --   Chain G p ps     p, then the points ps; each neighbouring pair is a segment with G
---   stop p q ps x    where a walk from the left stops at x; on a chain the segment taken (taken-is-stop), and x is inside it
---   Spreads G R      R between two areas holds inside a segment and where two segments meet, and is transitive
---   across           then R holds between any two areas of a chain
+--   stop p q ps x    where a walk from the left stops at x; on a chain that is the segment taken, and x is inside it
+--   Spreads G R      R between areas holds inside a segment and where two segments meet, and is transitive
+--   across           so R holds between any two areas of a chain
 --   good-ordered     the areas of a good segment increase
 -- Assumes nothing.
 use mathlib.Core.Path.{_≡_, refl}
@@ -35,11 +35,9 @@ stop p q (r ∷ ps) x = cond (leb (q .area) x) (stop q r ps x) (between p q)
 
 pub record Spreads (G : Segment → Type 0) (R : Segment → ℕ → Segment → ℕ → Type 0) : Type 0 where
   pub inside : {s : Segment} {x y : ℕ} → Inside G s x → Inside G s y → x ≤ y → R s x s y
-  pub join : {p q r : Point} →
-      Inside G (between p q) (q .area) → Inside G (between q r) (q .area) →
+  pub join : {p q r : Point} → Inside G (between p q) (q .area) → Inside G (between q r) (q .area) →
       R (between p q) (q .area) (between q r) (q .area)
-  pub trans : {s s' s'' : Segment} {x y z : ℕ} →
-      Inside G s x → Inside G s' y → Inside G s'' z →
+  pub trans : {s s' s'' : Segment} {x y z : ℕ} → Inside G s x → Inside G s' y → Inside G s'' z →
       R s x s' y → R s' y s'' z → R s x s'' z
 
 module _ (G : Segment → Type 0) where
@@ -53,15 +51,14 @@ module _ (G : Segment → Type 0) where
     chain-ordered (link {p = p} {q = q} g c) = omega (arith, ordered (between p q) g, chain-ordered c)
 
     -- areas increase, so a later segment is not taken
-    stays : (x : ℕ) (s : Segment) {p : Point} {ps : List Point} → Chain p ps → x < p .area → taken x s (segments (p ∷ ps)) ≡ s
+    stays : (x : ℕ) (s : Segment) {p : Point} {ps : List Point} → Chain p ps → x < p .area →
+        taken x s (segments (p ∷ ps)) ≡ s
     unfolding taken segments
     stays x s end h = refl
     stays x s (link {p = p} {q = q} g c) h =
         rw (lt-leb (p .area) x h, taken) (stays x s c (omega (arith, ordered (between p q) g)))
 
-    pub taken-is-stop :
-        (x : ℕ) {p q : Point} {ps : List Point} →
-        Chain p (q ∷ ps) →
+    pub taken-is-stop : (x : ℕ) {p q : Point} {ps : List Point} → Chain p (q ∷ ps) →
         taken x (between p q) (segments (q ∷ ps)) ≡ stop p q ps x
     unfolding taken segments
     taken-is-stop x (link g end) = refl
@@ -72,61 +69,49 @@ module _ (G : Segment → Type 0) where
           | inr (h, e) ↦ rw (e, taken) (stays x (between p q) c (omega (arith, ordered (between q r) g')))
         ]
 
-    pub stop-inside :
-        (x : ℕ) {p q : Point} {ps : List Point} →
-        Chain p (q ∷ ps) →
-        p .area ≤ x →
-        x ≤ last-area q ps →
-        Inside G (stop p q ps x) x
+    pub stop-inside : (x : ℕ) {p q : Point} {ps : List Point} → Chain p (q ∷ ps) →
+        p .area ≤ x → x ≤ last-area q ps → Inside G (stop p q ps x) x
     stop-inside x (link g end) low high = record { good = g; low = low; high = high }
-    stop-inside x (link {q = q} {ps = _} g (link g' c)) low high =
+    stop-inside x (link {q = q} g (link g' c)) low high =
         let later = stop-inside x (link g' c) in
         elim (compare-areas (q .area) x) [
           | inl (h, e) ↦ rw e (later h high)
           | inr (h, e) ↦ rw e (record { good = g; low = low; high = le-of-lt h })
         ]
 
-    pub at-left : {p q : Point} → G (between p q) → Inside G (between p q) (p .area)
-    at-left {p} {q} g = record { good = g; low = le-refl (p .area); high = le-of-lt (ordered (between p q) g) }
+    -- the ends of a segment are inside it
+    pub inside-left : {p q : Point} → G (between p q) → Inside G (between p q) (p .area)
+    inside-left {p} {q} g = record { good = g; low = le-refl (p .area); high = le-of-lt (ordered (between p q) g) }
 
-    pub at-right : {p q : Point} → G (between p q) → Inside G (between p q) (q .area)
-    at-right {p} {q} g = record { good = g; low = le-of-lt (ordered (between p q) g); high = le-refl (q .area) }
+    pub inside-right : {p q : Point} → G (between p q) → Inside G (between p q) (q .area)
+    inside-right {p} {q} g = record { good = g; low = le-of-lt (ordered (between p q) g); high = le-refl (q .area) }
 
     module _ {R : Segment → ℕ → Segment → ℕ → Type 0} (k : Spreads G R) where
       -- from x in the first segment
-      from-first :
-          {x : ℕ} (y : ℕ) {p q : Point} {ps : List Point} →
-          Chain p (q ∷ ps) →
-          Inside G (between p q) x →
-          x ≤ y →
-          y ≤ last-area q ps →
-          R (between p q) x (stop p q ps y) y
-      from-first y (link g end) i order high =
+      across-first : {x : ℕ} (y : ℕ) {p q : Point} {ps : List Point} → Chain p (q ∷ ps) →
+          Inside G (between p q) x → x ≤ y → y ≤ last-area q ps → R (between p q) x (stop p q ps y) y
+      across-first y (link g end) i order high =
           k .inside i (record { good = g; low = le-trans (i .low) order; high = high }) order
-      from-first y (link {q = q} g (link g' c)) i order high =
-          let later = from-first y (link g' c) in
-          let m = at-right g in
-          let m' = at-left g' in
+      across-first y (link {q = q} g (link g' c)) i order high =
+          let later = across-first y (link g' c) in
+          let m = inside-right g in
+          let m' = inside-left g' in
           elim (compare-areas (q .area) y) [
             | inl (h, e) ↦
                 let j = stop-inside y (link g' c) h high in
                 rw e (k .trans i m j (k .inside i m (i .high)) (k .trans m m' j (k .join m m') (later m' h high)))
-            | inr (h, e) ↦ rw e (k .inside i (record { good = g; low = le-trans (i .low) order; high = le-of-lt h }) order)
+            | inr (h, e) ↦
+                rw e (k .inside i (record { good = g; low = le-trans (i .low) order; high = le-of-lt h }) order)
           ]
 
-      pub across :
-          (x y : ℕ) {p q : Point} {ps : List Point} →
-          Chain p (q ∷ ps) →
-          p .area ≤ x →
-          x ≤ y →
-          y ≤ last-area q ps →
-          R (stop p q ps x) x (stop p q ps y) y
+      pub across : (x y : ℕ) {p q : Point} {ps : List Point} → Chain p (q ∷ ps) →
+          p .area ≤ x → x ≤ y → y ≤ last-area q ps → R (stop p q ps x) x (stop p q ps y) y
       across x y (link g end) low order high =
-          from-first y (link g end) (record { good = g; low = low; high = le-trans order high }) order high
+          across-first y (link g end) (record { good = g; low = low; high = le-trans order high }) order high
       across x y (link {q = q} g (link g' c)) low order high =
           let later = across x y (link g' c) in
           elim (compare-areas (q .area) x) [
             | inl (h, e) ↦ rw (e, le-leb (q .area) y (le-trans h order)) (later h order high)
             | inr (h, e) ↦
-                rw e (from-first y (link g (link g' c)) (record { good = g; low = low; high = le-of-lt h }) order high)
+                rw e (across-first y (link g (link g' c)) (record { good = g; low = low; high = le-of-lt h }) order high)
           ]
