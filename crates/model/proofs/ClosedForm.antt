@@ -1,11 +1,13 @@
--- The curve of a segment by closed forms, over any common denominator S of the three slopes; denominators are above 0 all along.
---   Closed v x            v is the number x, and has a denominator above 0
---   In h t                t is a distance from the left end of a segment of length h
---   Normal                a segment with its slopes over S: left slope e₀ / S, chord g / S, right slope e₁ / S
---   Climbing              and its rise is above 0, its slopes are not below 0
---   Bending               and its slopes are on both sides of the chord: the left one b / S below it, the right one a / S above it
---   A, B, rising-form     left + F A / B; convex-form: left + (g − b) t / S + (b t)² / (S W); convex-slope: its slope
---   flat-value, rising-value, straight-value, bent-value   the curve in each of its cases
+-- The curve of a segment by closed forms, over any common denominator S of the three slopes; denominators are above 0 throughout.
+--   Closed v x           v is the number x, and has a denominator above 0
+--   In h t               t is a distance from the left end of a segment of length h
+--   Normal               a segment with its slopes over S: left slope e₀ / S, chord g / S, right slope e₁ / S
+--   Climbing             and its rise is above 0, its slopes are not below 0
+--   Bending              and its slopes are on both sides of the chord: left slope (g − b) / S, right slope (g + a) / S
+--   A, B, rising-form    left + F A / B
+--   W, convex-form       left + (g − b) t / S + (b t)² / (S W); convex-slope is its slope
+--   flat-value, rising-value, straight-value, bent-value    the curve is its closed form, case by case
+--   congruence           equal fractions put into a fraction, for `search`
 -- Assumes nothing.
 use mathlib.Core.Path.{_≡_}
 use mathlib.Core.List.{[], _∷_}
@@ -89,6 +91,11 @@ module _ {d : Fraction} {S e : ℤ} (S-positive : pos 0 <ℤ S) (p : Proper d) (
   unfolding _over_
   positive-over-S k = Q.positive-≈ {x = e over S} (search propers) p (Q.≈-sym same) k .sign
 
+difference-over-S : {x y : Fraction} {S : ℤ} (m n : ℤ) → pos 0 <ℤ S →
+    x ≈ℚ m over S → y ≈ℚ n over S → x -ℚ y ≈ℚ (m -ℤ n) over S
+difference-over-S {S = S} m n S-positive e f =
+    Q.≈-trans (search propers) (Q.≈-- e f) (field (m ∷ n ∷ S ∷ []) (search ratios depth 20 fits 9999) tt)
+
 -- the right value, P and Q by the slopes over S
 abbrev right-over : (h left S g : ℤ) → Fraction
 right-over h left S g = whole left +ℚ whole h *ℚ g over S
@@ -104,7 +111,7 @@ P-over h left t S e₀ g e₁ r =
 abbrev Q-over : (h t : ℤ) (r : Fraction) → Fraction
 Q-over h t r = whole (pos 1) +ℚ (r -ℚ whole (pos 3)) *ℚ (t over h *ℚ (h -ℤ t) over h)
 
-ruleset congruence = (Q.≈-+, Q.≈--, Q.≈-*, Q.≈-/, Q.≈-refl)
+pub ruleset congruence = (Q.≈-+, Q.≈--, Q.≈-*, Q.≈-/, Q.≈-refl)
 
 module _ {h left right : ℤ} {d₀ d₁ : Fraction} {S e₀ g e₁ : ℤ} (n : Normal h left right d₀ d₁ S e₀ g e₁) where
   rise-≈ : whole (right -ℤ left) ≈ℚ whole h *ℚ g over S
@@ -118,14 +125,10 @@ module _ {h left right : ℤ} {d₀ d₁ : Fraction} {S e₀ g e₁ : ℤ} (n : 
       (field (left ∷ right ∷ []) (search ratios depth 20 fits 9999) tt) (search (congruence, rise-≈))
 
   below-chord : (right -ℤ left) over h -ℚ d₀ ≈ℚ (g -ℤ e₀) over S
-  below-chord =
-      Q.≈-trans {y = g over S -ℚ e₀ over S} (search propers) (search congruence)
-      (field (g ∷ e₀ ∷ S ∷ []) (search ratios depth 20 fits 9999) tt)
+  below-chord = difference-over-S g e₀ (n .S-positive) (n .chord-slope) (n .left-slope)
 
   above-chord : d₁ -ℚ (right -ℤ left) over h ≈ℚ (e₁ -ℤ g) over S
-  above-chord =
-      Q.≈-trans {y = e₁ over S -ℚ g over S} (search propers) (search congruence)
-      (field (g ∷ e₁ ∷ S ∷ []) (search ratios depth 20 fits 9999) tt)
+  above-chord = difference-over-S e₁ g (n .S-positive) (n .right-slope) (n .chord-slope)
 
   pub climbing-of-normal : pos 0 <ℤ (right -ℤ left) → NonNeg d₀ → NonNeg d₁ → Climbing h left right d₀ d₁ S e₀ g e₁
   climbing-of-normal F-positive k₀ k₁ =

@@ -1,9 +1,9 @@
 -- What the curve of a segment does, from the test of its shape, so that nothing above looks at a formula again.
---   Rise, rise-kind    the test of a rising segment, as facts: it climbs or is flat
---   Bend, bend-kind    the test of a convex segment, as facts: it is bent or straight
---   rising-rises       the rising curve joins its ends and rises
---   tangent            the slope of the convex curve, by the cases of the curve
---   convex-bends       the convex curve joins its ends and lies above its tangents
+--   Rise, rise-kind       the test of a rising segment, as facts: it climbs or is flat
+--   Bend, bend-kind       the test of a convex segment, as facts: it is bent or straight
+--   rising-rises          the rising curve joins its ends and rises
+--   convex-curve-slope    the slope of the convex curve, by the cases of the curve
+--   convex-bends          the convex curve joins its ends and lies above its tangents
 -- Assumes nothing.
 use mathlib.Core.Path.{_≡_}
 use mathlib.Core.Bool.{cond, _&&_}
@@ -105,8 +105,8 @@ module _ {h left right : ℤ} {v x : ℤ → Fraction} (closed : (t : ℤ) → I
 
 -- ---- the curves
 
-unfoldable pub tangent : (h left right : ℤ) (d₀ d₁ : Fraction) (S a g b t : ℤ) → Fraction
-tangent h left right d₀ d₁ S a g b t =
+unfoldable pub convex-curve-slope : (h left right : ℤ) (d₀ d₁ : Fraction) (S a g b t : ℤ) → Fraction
+convex-curve-slope h left right d₀ d₁ S a g b t =
     let c = (right -ℤ left) over h in
     cond (ltℚ d₀ c && ltℚ c d₁) (convex-slope h t S a g b) c
 
@@ -120,8 +120,8 @@ module _ {h left right : ℤ} {d₀ d₁ : Fraction} {S e₀ g e₁ : ℤ} (n : 
   pub convex-bends :
       Bend ((right -ℤ left) over h) d₀ d₁ →
       Bends h left right d₀ d₁ (λ t. I.convex-curve h left right t d₀ d₁)
-      (λ t. tangent h left right d₀ d₁ S (e₁ -ℤ g) g (g -ℤ e₀) t)
-  unfolding tangent
+      (λ t. convex-curve-slope h left right d₀ d₁ S (e₁ -ℤ g) g (g -ℤ e₀) t)
+  unfolding convex-curve-slope
   convex-bends (straight k₀ k₁) =
       rw (Q.ltℚ-no (Q.≤-of-≈ (Q.≈-sym k₀)))
       (bends-of-closed (λ t i. straight-value n t k₀) (straight-bends (n .h-positive) k₀ k₁))

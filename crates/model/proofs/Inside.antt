@@ -56,38 +56,38 @@ flat-rises h-positive e =
     }
 
 module _ {h left right : ℤ} {d₀ d₁ : Fraction} {S e₀ g e₁ : ℤ} (c : Climbing h left right d₀ d₁ S e₀ g e₁) where
-  abbrev climb : ℤ → Fraction
-  climb t = rising-form h left right t e₀ g e₁
+  abbrev rising-at : ℤ → Fraction
+  rising-at t = rising-form h left right t e₀ g e₁
 
-  climb-proper : {t : ℤ} → In h t → Proper (climb t)
-  climb-proper i = search (propers, B-positive c i)
+  rising-at-proper : {t : ℤ} → In h t → Proper (rising-at t)
+  rising-at-proper i = search (propers, B-positive c i)
 
   module _ {t t' : ℤ} (i : In h t) (i' : In h t') where
     -- how much the curve rises from t to t': every factor is above 0 or not negative
     climbed :
-        climb t' -ℚ climb t
+        rising-at t' -ℚ rising-at t
         ≈ℚ ((right -ℤ left) *ℤ (h *ℤ (t' -ℤ t))
         *ℤ (g *ℤ (e₁ *ℤ (t *ℤ t') +ℤ g *ℤ (t' *ℤ (h -ℤ t) +ℤ t *ℤ (h -ℤ t')) +ℤ e₀ *ℤ ((h -ℤ t) *ℤ (h -ℤ t')))))
         over (B h t e₀ g e₁ *ℤ B h t' e₀ g e₁)
     climbed = field (e₀ ∷ g ∷ e₁ ∷ right ∷ left ∷ t ∷ t' ∷ h ∷ []) (search ratios depth 20 fits 9999) tt
 
-    climb-order : t ≤ℤ t' → climb t ≤ℚ climb t'
-    climb-order le =
+    rising-at-order : t ≤ℤ t' → rising-at t ≤ℚ rising-at t'
+    rising-at-order le =
         let b = B-positive c i in
         let b' = B-positive c i' in
-        Q.≤-by (climb-proper i) (climb-proper i') _ (search positivity) climbed
+        Q.≤-by (rising-at-proper i) (rising-at-proper i') _ (search positivity) climbed
         (Q.nonneg-over _ _ (search signs depth 12 fits 9999))
 
-  pub climbing-rises : Rises h left right climb
+  pub climbing-rises : Rises h left right rising-at
   climbing-rises =
       record {
         joins = record {
           h-positive = c .normal .h-positive;
-          proper = climb-proper;
+          proper = rising-at-proper;
           at-left = field (e₀ ∷ g ∷ e₁ ∷ right ∷ left ∷ h ∷ []) (search ratios depth 20 fits 9999) tt;
           at-right = field (e₀ ∷ g ∷ e₁ ∷ right ∷ left ∷ h ∷ []) (search ratios depth 20 fits 9999) tt;
         };
-        order = climb-order;
+        order = rising-at-order;
       }
 
 -- ---- convex
@@ -110,17 +110,17 @@ straight-bends {h} {left} {right} h-positive e₀ e₁ =
     }
 
 module _ {h left right : ℤ} {d₀ d₁ : Fraction} {S a g b : ℤ} (c : Bending h left right d₀ d₁ S a g b) where
-  abbrev arc : ℤ → Fraction
-  arc t = convex-form h left t S a g b
+  abbrev convex-at : ℤ → Fraction
+  convex-at t = convex-form h left t S a g b
 
-  abbrev arc-slope : ℤ → Fraction
-  arc-slope t = convex-slope h t S a g b
+  abbrev convex-slope-at : ℤ → Fraction
+  convex-slope-at t = convex-slope h t S a g b
 
-  arc-proper : {t : ℤ} → In h t → Proper (arc t)
-  arc-proper i = let w = W-positive c i in search (propers, signs) depth 9
+  convex-at-proper : {t : ℤ} → In h t → Proper (convex-at t)
+  convex-at-proper i = let w = W-positive c i in search (propers, signs) depth 9
 
-  arc-slope-proper : {t : ℤ} → In h t → Proper (arc-slope t)
-  arc-slope-proper i = let w = W-positive c i in search (propers, signs) depth 9
+  convex-slope-at-proper : {t : ℤ} → In h t → Proper (convex-slope-at t)
+  convex-slope-at-proper i = let w = W-positive c i in search (propers, signs) depth 9
 
   module _ {t t' : ℤ} (i : In h t) (i' : In h t') where
     -- how far the curve at t' is above the tangent at t: a square over what is above 0
@@ -128,29 +128,29 @@ module _ {h left right : ℤ} {d₀ d₁ : Fraction} {S a g b : ℤ} (c : Bendin
     root = b *ℤ (t' *ℤ W h t a b -ℤ t *ℤ W h t' a b)
 
     above-tangent :
-        arc t' -ℚ (arc t +ℚ arc-slope t *ℚ whole (t' -ℤ t))
+        convex-at t' -ℚ (convex-at t +ℚ convex-slope-at t *ℚ whole (t' -ℤ t))
         ≈ℚ (root *ℤ root) over (S *ℤ (W h t' a b *ℤ (W h t a b *ℤ W h t a b)))
     above-tangent = field (a ∷ b ∷ g ∷ S ∷ left ∷ t ∷ t' ∷ h ∷ []) (search ratios depth 20 fits 9999) tt
 
-    tangent-below : arc t +ℚ arc-slope t *ℚ whole (t' -ℤ t) ≤ℚ arc t'
+    tangent-below : convex-at t +ℚ convex-slope-at t *ℚ whole (t' -ℤ t) ≤ℚ convex-at t'
     tangent-below =
         let w = W-positive c i in
         let w' = W-positive c i' in
-        let p = arc-proper i in
-        let q = arc-slope-proper i in
-        Q.≤-by (search propers) (arc-proper i') _ (search positivity) above-tangent (search positivity)
+        let p = convex-at-proper i in
+        let q = convex-slope-at-proper i in
+        Q.≤-by (search propers) (convex-at-proper i') _ (search positivity) above-tangent (search positivity)
 
-  pub bending-bends : Bends h left right d₀ d₁ arc arc-slope
+  pub bending-bends : Bends h left right d₀ d₁ convex-at convex-slope-at
   bending-bends =
       record {
         joins = record {
           h-positive = c .normal .h-positive;
-          proper = arc-proper;
+          proper = convex-at-proper;
           at-left = field (a ∷ g ∷ b ∷ S ∷ left ∷ h ∷ []) (search ratios depth 20 fits 9999) tt;
           at-right = Q.≈-trans {y = whole left +ℚ whole h *ℚ g over S} (search propers)
               (field (a ∷ g ∷ b ∷ S ∷ left ∷ h ∷ []) (search ratios depth 20 fits 9999) tt) (Q.≈-sym (right-≈ (c .normal)));
         };
-        proper = arc-slope-proper;
+        proper = convex-slope-at-proper;
         below = tangent-below;
         at-left = Q.≈-trans {y = (g -ℤ b) over S} (search propers)
             (field (a ∷ g ∷ b ∷ S ∷ h ∷ []) (search ratios depth 20 fits 9999) tt) (Q.≈-sym (c .normal .left-slope));

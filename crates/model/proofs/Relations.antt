@@ -1,6 +1,6 @@
 -- The two relations between areas that hold inside each segment and join at the points: the values rise; the tangents lie below.
 --   values-rise          on a rising curve a later area has no smaller value
---   Line, l under m      a value at an area, and a slope; the line l is not above the value of m
+--   Line, l under m      a line through a value at an area; the line l is not above the value of m
 --   curve-slope s x      the slope of a convex segment's curve at an area; line, its tangent there
 --   Supports s x s' y    x is not after y, the tangent at each is not above the curve at the other, and the slopes do not fall
 --   tangents-support     on a convex curve all areas are so
@@ -26,8 +26,8 @@ use Rattle.model.proofs.Segments.{distance, slope-at, segment-rises, se
 use Rattle.model.proofs.Segments.{interpolant-proper, interpolant-left, interpolant-right}
 use Rattle.model.proofs.Walk.{Chain, stop, Spreads, across, compare-areas, good-ordered}
 
-distances : (s : Segment) (x y : ℕ) → distance s y -ℤ distance s x ≡ pos y -ℤ pos x
-distances s x y = ring (pos (s .left .area) ∷ pos x ∷ pos y ∷ []) (search terms depth 20 fits 9999) tt
+distance-between : (s : Segment) (x y : ℕ) → distance s y -ℤ distance s x ≡ pos y -ℤ pos x
+distance-between s x y = ring (pos (s .left .area) ∷ pos x ∷ pos y ∷ []) (search terms depth 20 fits 9999) tt
 
 -- both segments give the value of the point between them
 values-meet : {shape : Shape} {p q r : Point} → Good shape (between p q) → Good shape (between q r) →
@@ -42,7 +42,7 @@ rising-spreads =
     record {
       inside = λ {s} {x} {y} r r' h.
           segment-rises s (r .good) .order (distance-in r) (distance-in r')
-          (Z.≤-by (pos y -ℤ pos x) (distances s x y) (Z.≤-difference (Z.pos-≤ h)));
+          (Z.≤-by (pos y -ℤ pos x) (distance-between s x y) (Z.≤-difference (Z.pos-≤ h)));
       join = λ r r'. Q.≤-of-≈ (values-meet (r .good) (r' .good));
       trans = λ r r' r''. Q.≤-trans (interpolant-proper r) (interpolant-proper r') (interpolant-proper r'');
     }
@@ -52,51 +52,50 @@ pub values-rise : {p q : Point} {ps : List Point} → Chain (Good rising) p (q �
     interpolant rising (stop p q ps x) x ≤ℚ interpolant rising (stop p q ps y) y
 values-rise c x y = across (Good rising) good-ordered rising-spreads x y c
 
--- ---- lines
+-- ---- lines: a value v at x, and a slope σ
 
 pub record Line : Type 0 where
-  pub area : ℤ
-  pub value : Fraction
-  pub slope : Fraction
-  pub value-proper : Proper value
-  pub slope-proper : Proper slope
+  pub x : ℤ
+  pub v : Fraction
+  pub σ : Fraction
+  pub v-proper : Proper v
+  pub σ-proper : Proper σ
 
 abbrev pub height : Line → ℤ → Fraction
-height l x = l .value +ℚ l .slope *ℚ whole (x -ℤ l .area)
+height l y = l .v +ℚ l .σ *ℚ whole (y -ℤ l .x)
 
 infix 4 _under_
 abbrev pub _under_ : Line → Line → Type 0
-l under m = height l (m .area) ≤ℚ m .value
+l under m = height l (m .x) ≤ℚ m .v
 
 -- what the field tactic goes by
 abbrev atoms : Line → List ℤ → List ℤ
-atoms l ρ = l .value .num ∷ l .value .den ∷ l .slope .num ∷ l .slope .den ∷ l .area ∷ ρ
+atoms l ρ = l .v .num ∷ l .v .den ∷ l .σ .num ∷ l .σ .den ∷ l .x ∷ ρ
 
-own-height : (l : Line) → height l (l .area) ≈ℚ l .value
+own-height : (l : Line) → height l (l .x) ≈ℚ l .v
 own-height l = field (atoms l []) (search ratios depth 20 fits 9999) tt
 
 module _ (l m n : Line) where
   -- from l to n by way of m, and the turn at m
   by-way-of-m :
-      n .value -ℚ height l (n .area)
-      ≈ℚ (n .value -ℚ height m (n .area)) +ℚ (m .value -ℚ height l (m .area))
-      +ℚ (m .slope -ℚ l .slope) *ℚ whole (n .area -ℤ m .area)
+      n .v -ℚ height l (n .x)
+      ≈ℚ (n .v -ℚ height m (n .x)) +ℚ (m .v -ℚ height l (m .x)) +ℚ (m .σ -ℚ l .σ) *ℚ whole (n .x -ℤ m .x)
   by-way-of-m = field (atoms l (atoms m (atoms n []))) (search ratios depth 30 fits 9999) tt
 
-  under-trans : l under m → m under n → NonNeg ((m .slope -ℚ l .slope) *ℚ whole (n .area -ℤ m .area)) → l under n
+  under-trans : l under m → m under n → NonNeg ((m .σ -ℚ l .σ) *ℚ whole (n .x -ℤ m .x)) → l under n
   under-trans h k turn =
       Q.≤-by (search propers) (search propers) _ (search propers depth 9) by-way-of-m (search positivity depth 9)
 
 module _ (l m : Line) where
   -- the turn from l to m, by how far each is below the other
   turned :
-      m .slope *ℚ whole (m .area -ℤ l .area) -ℚ l .slope *ℚ whole (m .area -ℤ l .area)
-      ≈ℚ (m .value -ℚ height l (m .area)) +ℚ (l .value -ℚ height m (l .area))
+      m .σ *ℚ whole (m .x -ℤ l .x) -ℚ l .σ *ℚ whole (m .x -ℤ l .x)
+      ≈ℚ (m .v -ℚ height l (m .x)) +ℚ (l .v -ℚ height m (l .x))
   turned = field (atoms l (atoms m [])) (search ratios depth 20 fits 9999) tt
 
-  slopes-rise : l .area <ℤ m .area → l under m → m under l → l .slope ≤ℚ m .slope
+  slopes-rise : l .x <ℤ m .x → l under m → m under l → l .σ ≤ℚ m .σ
   slopes-rise lt h k =
-      Q.≤-cancel {k = whole (m .area -ℤ l .area)} (search propers) (search propers) (search propers) (search positivity)
+      Q.≤-cancel {k = whole (m .x -ℤ l .x)} (search propers) (search propers) (search propers) (search positivity)
       (Q.≤-by (search propers) (search propers) _ (search propers depth 9) turned (search positivity depth 9))
 
 -- a product of two differences is that of their opposites
@@ -113,11 +112,11 @@ curve-slope-proper {s} r = segment-bends s (r .good) .proper (distance-in r)
 
 abbrev pub line : {s : Segment} {x : ℕ} → Inside (Good convex) s x → Line
 line {s} {x} r = record {
-  area = pos x;
-  value = interpolant convex s x;
-  slope = curve-slope s x;
-  value-proper = interpolant-proper r;
-  slope-proper = curve-slope-proper r;
+  x = pos x;
+  v = interpolant convex s x;
+  σ = curve-slope s x;
+  v-proper = interpolant-proper r;
+  σ-proper = curve-slope-proper r;
 }
 
 -- the tangent at x is not above the curve at y
@@ -132,7 +131,7 @@ pub record Supports (s : Segment) (x : ℕ) (s' : Segment) (y : ℕ) : Type 0 wh
 
 under-inside : {s : Segment} {x y : ℕ} → Inside (Good convex) s x → Inside (Good convex) s y → Under s x s y
 unfolding interpolant
-under-inside {s} r r' = rw distances at (segment-bends s (r .good) .below (distance-in r) (distance-in r'))
+under-inside {s} r r' = rw distance-between at (segment-bends s (r .good) .below (distance-in r) (distance-in r'))
 
 -- both segments have the slope of the point between them
 slopes-meet : {p q r : Point} → Good convex (between p q) → Good convex (between q r) →
@@ -166,13 +165,13 @@ convex-spreads =
           let l = line r in
           let m = line r' in
           let n = line r'' in
-          let same = opposites (m .slope) (n .slope) (l .area) (m .area) in
+          let same = opposites (m .σ) (n .σ) (l .x) (m .x) in
           let turn = Q.nonneg-≈ (search propers) (search propers) same (search (positivity, Z.pos-≤)) in
           record {
             order = le-trans (h .order) (k .order);
             rightwards = under-trans l m n (h .rightwards) (k .rightwards) (search (positivity, Z.pos-≤));
             leftwards = under-trans n m l (k .leftwards) (h .leftwards) turn;
-            slopes = Q.≤-trans (l .slope-proper) (m .slope-proper) (n .slope-proper) (h .slopes) (k .slopes);
+            slopes = Q.≤-trans (l .σ-proper) (m .σ-proper) (n .σ-proper) (h .slopes) (k .slopes);
           };
     }
 

@@ -1,11 +1,11 @@
 -- A segment of an accepted curve: its slopes over 100 h, and what its curve does between its two areas.
 --   gap, rise, distance              h, F, and t at an area
---   v₀, v₁, d₀, d₁                   the values and the slopes of its ends
---   S, e₀, g, e₁, a, b               the letters of ClosedForm: S = 100 h, e₀ = h D₀, g = 100 F, e₁ = h D₁; a = e₁ − g, b = g − e₀
+--   v₀, v₁, d₀, d₁                   the values and the slopes of the ends
+--   S, e₀, g, e₁, a, b               as in ClosedForm: S = 100 h, e₀ = h D₀, g = 100 F, e₁ = h D₁, a = e₁ − g, b = g − e₀
 --   curve-at, slope-at               the curve, and the slope of the convex curve, at a distance from the left end
 --   segment-rises, segment-bends     what they do between the ends
 --   distance-in                      an area inside the segment is at a distance from 0 to h
---   interpolant-proper, -left, -right    the exact value: its denominator is above 0; at the ends it is the point's value
+--   interpolant-proper, -left, -right    the exact value has a denominator above 0, and is the point's value at both ends
 -- Assumes nothing.
 use mathlib.Core.Path.{_≡_}
 use mathlib.Core.List.{[], _∷_}
@@ -24,7 +24,7 @@ use Rattle.model.specs.Shape.{fits, has-shape}
 use Rattle.model.specs.Inner.{Good, Inside}
 use Rattle.model.proofs.ClosedForm.{In, Normal}
 use Rattle.model.proofs.Inside.{Joins, Rises, Bends}
-use Rattle.model.proofs.Curves.{rise-kind, bend-kind, rising-rises, convex-bends, tangent}
+use Rattle.model.proofs.Curves.{rise-kind, bend-kind, rising-rises, convex-bends, convex-curve-slope}
 
 pub proper-gradient : (p : Point) → Proper (gradient p)
 unfolding gradient
@@ -74,7 +74,7 @@ module _ (s : Segment) where
   curve-at shape t = curve gap v₀ v₁ t d₀ d₁ shape
 
   abbrev pub slope-at : ℤ → Fraction
-  slope-at t = tangent gap v₀ v₁ d₀ d₁ S a g b t
+  slope-at t = convex-curve-slope gap v₀ v₁ d₀ d₁ S a g b t
 
   pub gap-positive : s .left .area < s .right .area → pos 0 <ℤ gap
   gap-positive h = Z.<-difference (Z.pos-< h)

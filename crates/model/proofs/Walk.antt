@@ -51,12 +51,12 @@ module _ (G : Segment → Type 0) where
     chain-ordered (link {p = p} {q = q} g c) = omega (arith, ordered (between p q) g, chain-ordered c)
 
     -- areas increase, so a later segment is not taken
-    stays : (x : ℕ) (s : Segment) {p : Point} {ps : List Point} → Chain p ps → x < p .area →
+    taken-before : (x : ℕ) (s : Segment) {p : Point} {ps : List Point} → Chain p ps → x < p .area →
         taken x s (segments (p ∷ ps)) ≡ s
     unfolding taken segments
-    stays x s end h = refl
-    stays x s (link {p = p} {q = q} g c) h =
-        rw (lt-leb (p .area) x h, taken) (stays x s c (omega (arith, ordered (between p q) g)))
+    taken-before x s end h = refl
+    taken-before x s (link {p = p} {q = q} g c) h =
+        rw (lt-leb (p .area) x h, taken) (taken-before x s c (omega (arith, ordered (between p q) g)))
 
     pub taken-is-stop : (x : ℕ) {p q : Point} {ps : List Point} → Chain p (q ∷ ps) →
         taken x (between p q) (segments (q ∷ ps)) ≡ stop p q ps x
@@ -66,7 +66,7 @@ module _ (G : Segment → Type 0) where
         let later = taken-is-stop x (link g' c) in
         elim (compare-areas (q .area) x) [
           | inl (h, e) ↦ rw (e, taken) later
-          | inr (h, e) ↦ rw (e, taken) (stays x (between p q) c (omega (arith, ordered (between q r) g')))
+          | inr (h, e) ↦ rw (e, taken) (taken-before x (between p q) c (omega (arith, ordered (between q r) g')))
         ]
 
     pub stop-inside : (x : ℕ) {p q : Point} {ps : List Point} → Chain p (q ∷ ps) →
