@@ -1,6 +1,6 @@
--- Every exact value of an accepted curve is from −200,000 to 200,000. A rising curve is between its ends, which are at most value-most.
--- A convex curve is not above its larger end, and not below its left tangent: that falls by at most slope-most / 100 for each tenth,
--- over at most gap-most tenths.
+-- Every exact value of an accepted curve is from −200,000 to 200,000. A rising curve is between its ends, at most value-most each.
+-- A convex curve is not above its larger end, and not below its left tangent, which falls by at most slope-most / 100 for each of at
+-- most gap-most tenths.
 --   Ranged, value-range            that range, and that an exact value is in it
 --   ReadingRange, reading-range    so is a reading, by any rounding that keeps order and whole numbers
 -- Assumes nothing.
