@@ -32,7 +32,7 @@ distance-between s x y = ring (pos (s .left .area) ∷ pos x ∷ pos y ∷ []) (
 -- both segments give the value of the point between them
 values-meet : {shape : Shape} {p q r : Point} → Good shape (between p q) → Good shape (between q r) →
     interpolant shape (between p q) (q .area) ≈ℚ interpolant shape (between q r) (q .area)
-values-meet k k' = Q.≈-trans (search propers) (interpolant-right k) (Q.≈-sym (interpolant-left k'))
+values-meet k k' = Q.≈-trans (search propers) (interpolant-right k .same) (Q.≈-sym (interpolant-left k' .same))
 
 -- ---- rising
 

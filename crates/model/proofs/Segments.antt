@@ -12,7 +12,7 @@ use mathlib.Core.List.{[], _∷_}
 use Prim.Native.Nat.{ℕ, _<_}
 use lib.IntN.{ℤ, pos, _-ℤ_, _*ℤ_, +ℤ-invr}
 use lib.Signed.{_<ℤ_}
-use Rattle.exact.specs.Fraction.{Fraction, Proper, _over_, whole, _≈ℚ_}
+use Rattle.exact.specs.Fraction.{Fraction, Proper, whole}
 use Rattle.exact.proofs.Ring.{ring, terms}
 use Rattle.exact.proofs.Order as Z
 use Rattle.exact.proofs.Order.{signs}
@@ -22,8 +22,8 @@ use Rattle.model.specs.Points.{Point, gradient, Segment, Shape, rising, 
 use Rattle.model.specs.Interpolant.{curve, interpolant}
 use Rattle.model.specs.Shape.{fits, has-shape}
 use Rattle.model.specs.Inner.{Good, Inside}
-use Rattle.model.proofs.ClosedForm.{In, Normal}
-use Rattle.model.proofs.Inside.{Joins, Rises, Bends}
+use Rattle.model.proofs.ClosedForm.{Closed, In, Normal}
+use Rattle.model.proofs.Inside.{Joins, Rises, Bends, end-left, end-right}
 use Rattle.model.proofs.Curves.{rise-kind, bend-kind, rising-rises, convex-bends, convex-curve-slope}
 
 pub proper-gradient : (p : Point) → Proper (gradient p)
@@ -118,10 +118,14 @@ module _ {shape : Shape} {s : Segment} where
   interpolant-proper r = segment-joins s shape (r .good) .proper (distance-in r)
 
   -- document 01: at a rated point the segments on both sides give the point's value
-  pub interpolant-left : Good shape s → interpolant shape s (s .left .area) ≈ℚ whole (v₀ s)
+  pub interpolant-left : Good shape s → Closed (interpolant shape s (s .left .area)) (whole (v₀ s))
   unfolding interpolant
-  interpolant-left k = rw +ℤ-invr (segment-joins s shape k .at-left)
+  interpolant-left k =
+      let j = segment-joins s shape k in
+      rw +ℤ-invr (record { proper = j .proper (end-left j); same = j .at-left })
 
-  pub interpolant-right : Good shape s → interpolant shape s (s .right .area) ≈ℚ whole (v₁ s)
+  pub interpolant-right : Good shape s → Closed (interpolant shape s (s .right .area)) (whole (v₁ s))
   unfolding interpolant
-  interpolant-right k = segment-joins s shape k .at-right
+  interpolant-right k =
+      let j = segment-joins s shape k in
+      record { proper = j .proper (end-right j); same = j .at-right }

@@ -80,10 +80,10 @@ module _ (G : Segment → Type 0) where
         ]
 
     -- the ends of a segment are inside it
-    pub inside-left : {p q : Point} → G (between p q) → Inside G (between p q) (p .area)
+    inside-left : {p q : Point} → G (between p q) → Inside G (between p q) (p .area)
     inside-left {p} {q} g = record { good = g; low = le-refl (p .area); high = le-of-lt (ordered (between p q) g) }
 
-    pub inside-right : {p q : Point} → G (between p q) → Inside G (between p q) (q .area)
+    inside-right : {p q : Point} → G (between p q) → Inside G (between p q) (q .area)
     inside-right {p} {q} g = record { good = g; low = le-of-lt (ordered (between p q) g); high = le-refl (q .area) }
 
     module _ {R : Segment → ℕ → Segment → ℕ → Type 0} (k : Spreads G R) where
