@@ -14,7 +14,7 @@ use Rattle.exact.proofs.Field.{field, ratios}
 use Rattle.exact.proofs.Fractions as Q
 use Rattle.exact.proofs.Fractions.{propers}
 use Rattle.exact.proofs.Floor.{quotient, floorDiv-is, floorDiv-nested, round-≈}
-use Rattle.segment.specs.Steps.{part}
+use Rattle.segment.specs.Inner.{part}
 use Rattle.model.proofs.ClosedForm.{Closed, A, B, W}
 use Rattle.model.proofs.Inside.{rising-form, convex-form}
 

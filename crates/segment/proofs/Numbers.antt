@@ -20,8 +20,8 @@ use Rattle.model.specs.Shape.{fits, has-shape}
 use Rattle.model.proofs.ClosedForm.{B, B-positive, W-positive, g-positive, a-positive, b-positive}
 use Rattle.model.proofs.Inside.{In}
 use Rattle.model.proofs.Curves.{Bend, bent, straight, bend-kind, over-S, flat-value, rising-value, bent-value, straight-value}
-use Rattle.model.specs.Facts.{Good}
-use Rattle.segment.specs.Steps.{part, raised-reading}
+use Rattle.model.specs.Inner.{Good}
+use Rattle.segment.specs.Inner.{part, raised-reading}
 use Rattle.model.proofs.Segments.{gap, rise, distance, S, g, e₀, e₁, a, b, normal, around, proper-gradient, gap-positive, S-positive, within}
 use Rattle.segment.proofs.Machine.{rising-numbers, B-is, rising-machine, convex-numbers, W-is, convex-machine, straight-machine}
 
@@ -39,8 +39,8 @@ module _ (s : Segment) (t u : ℕ) (to : s .right .area ≡ s .left .area + t + 
   pub segment-rising : (D₀ D₁ F : ℕ) → Good rising s → 0 < F → s .left .slope ≡ pos D₀ → s .right .slope ≡ pos D₁ → rise s ≡ pos F → (0 < part t u (100 * F) ((t + u) * D₀) + part u t (100 * F) ((t + u) * D₁)) × (round (I.interpolant rising s (s .left .area + t)) ≡ pos (rising-numbers (s .left .value) F t u (100 * F) ((t + u) * D₀) ((t + u) * D₁)))
   unfolding I.interpolant I.curve gradient
   segment-rising D₀ D₁ F k F-pos eD₀ eD₁ eF =
-      let hp = gap-positive s (k .ordered) in
-      let Sp = S-positive s (k .ordered) in
+      let hp = gap-positive s (k .ends .ordered) in
+      let Sp = S-positive s (k .ends .ordered) in
       let i = in-segment in
       let nonneg : (p : Point) (D : ℕ) → p .slope ≡ pos D → NonNeg (gradient p) = λ p D e. Q.nonneg-over (p .slope) (pos 100) (subst⁻¹ (λ (z : ℤ). pos 0 ≤ℤ z) e (Z.nonneg-pos D)) in
       let climb : pos 0 <ℤ rise s = subst⁻¹ (λ (z : ℤ). pos 0 <ℤ z) eF (Z.pos-< F-pos) in
@@ -60,7 +60,7 @@ module _ (s : Segment) (t u : ℕ) (to : s .right .area ≡ s .left .area + t + 
   pub segment-flat : Good rising s → s .right .value ≡ s .left .value → round (I.interpolant rising s (s .left .area + t)) ≡ pos (s .left .value)
   unfolding I.interpolant I.curve
   segment-flat k e =
-      let v = flat-value (normal s) (S-positive s (k .ordered)) (gap-positive s (k .ordered)) (proper-gradient (s .left)) (proper-gradient (s .right)) (distance s (s .left .area + t)) (ap pos e) in
+      let v = flat-value (normal s) (S-positive s (k .ends .ordered)) (gap-positive s (k .ends .ordered)) (proper-gradient (s .left)) (proper-gradient (s .right)) (distance s (s .left .area + t)) (ap pos e) in
       round-≈ _ _ (v .proper) (Q.proper-whole (pos (s .left .value))) (v .same) ∙ round-whole (pos (s .left .value))
 
   -- convex, with the raised slope and the slopes' distances from the chord as natural numbers
@@ -69,10 +69,10 @@ module _ (s : Segment) (t u : ℕ) (to : s .right .area ≡ s .left .area + t + 
     S-is = ap (λ (z : ℤ). pos 100 *ℤ z) gap-is
 
     hp : pos 0 <ℤ gap s
-    hp = gap-positive s (k .ordered)
+    hp = gap-positive s (k .ends .ordered)
 
     Sp : pos 0 <ℤ S s
-    Sp = S-positive s (k .ordered)
+    Sp = S-positive s (k .ends .ordered)
 
     h-above : 0 < t + u
     h-above = Z.<-pos (subst (λ (z : ℤ). pos 0 <ℤ z) gap-is hp)

@@ -16,18 +16,19 @@ use Rattle.exact.proofs.Order as Z
 use Rattle.exact.proofs.Fractions as Q
 use Rattle.exact.proofs.Fractions.{NonNeg}
 use Rattle.exact.proofs.Magnitude.{size-between, size-+, size--, size-*, size-difference, fits-size}
-use Rattle.model.specs.Points.{Point, gradient, Segment, Shape, rising, convex}
+use Rattle.model.specs.Points.{slope-most, Point, gradient, Segment, Shape, rising, convex}
 use Rattle.model.specs.Interpolant.{interpolant}
 use Rattle.model.specs.Shape.{fits, has-shape}
-use Rattle.model.specs.Facts.{Inside}
-use Rattle.segment.specs.Steps.{Ends, RisingInput, rising-reading, ConvexInput, raised-reading}
+use Rattle.model.specs.Inner.{Limits, Neighbours, Good, Inside}
+use Rattle.segment.specs.Inner.{Ends, RisingInput, rising-reading, ConvexInput, raised-reading}
 use Rattle.model.proofs.Curves.{Rise, climbs, flat, Bend, bent, straight, rise-kind, bend-kind}
 use Rattle.model.proofs.Segments.{gap, rise, g, e₀, e₁, a, b, interpolant-proper}
+use Rattle.segment.proofs.EndSlopes.{slope-size, e₀-size, e₁-size, g-size}
 use Rattle.segment.proofs.Numbers.{gap-is, segment-rising, segment-flat, segment-convex}
 use Rattle.model.proofs.Range.{value-range, reading-low, reading-high}
 
 -- the reading fits an i32
-pub reading-fits : {shape : Shape} {s : Segment} {x : ℕ} → Inside shape s x → SFits w32 (round (interpolant shape s x))
+pub reading-fits : {shape : Shape} {s : Segment} {x : ℕ} → Inside (Good shape) s x → SFits w32 (round (interpolant shape s x))
 reading-fits {shape} {s} {x} i =
     let v = interpolant shape s x in
     let p = interpolant-proper shape s (i .good) x (i .low) (i .high) in
@@ -36,7 +37,7 @@ reading-fits {shape} {s} {x} i =
     fits-size w32 (round v) (omega arith)
 
 -- t and u
-module _ {shape : Shape} {s : Segment} {x : ℕ} (i : Inside shape s x) where
+module _ {shape : Shape} {s : Segment} {x : ℕ} (i : Inside (Good shape) s x) where
   abbrev t : ℕ
   t = x - s .left .area
 
@@ -60,12 +61,9 @@ module _ {shape : Shape} {s : Segment} {x : ℕ} (i : Inside shape s x) where
   ends =
       let h = i .low in
       let k = i .high in
-      let m = i .good .near in
-      let n = i .good .ordered in
+      let m = i .good .ends .near in
+      let n = i .good .ends .ordered in
       record { most = omega arith; least = omega arith }
-
-slope-size : (D : ℤ) → negsuc 9999 ≤ℤ D → D ≤ℤ pos 10000 → natAbs D ≤ 10000
-slope-size D low high = size-between D low high
 
 -- ---- rising, where the value changes
 
@@ -80,7 +78,7 @@ nonneg-slope : (p : Point) → NonNeg (gradient p) → p .slope ≡ pos (natAbs 
 unfolding gradient _over_
 nonneg-slope p k = sym (pos-natAbs (p .slope) (yes-nonNeg (k .sign)))
 
-rising-facts : {s : Segment} {x : ℕ} → Inside rising s x → pos 0 <ℤ rise s → NonNeg (gradient (s .left)) → NonNeg (gradient (s .right)) → Rising s x
+rising-facts : {s : Segment} {x : ℕ} → Inside (Good rising) s x → pos 0 <ℤ rise s → NonNeg (gradient (s .left)) → NonNeg (gradient (s .right)) → Rising s x
 rising-facts {s} {x} i climb k₀ k₁ =
     let up : s .left .value < s .right .value = Z.<-pos (Z.<-by (rise s) refl climb) in
     let eD₀ = nonneg-slope (s .left) k₀ in
@@ -94,10 +92,10 @@ rising-facts {s} {x} i climb k₀ k₁ =
       right-slope = eD₁;
       climbing = record {
         ends = ends i;
-        left-value = i .good .left-value;
-        rise = (let n = i .good .right-value in omega arith);
-        left-slope = slope-size (s .left .slope) (i .good .left-slope-low) (i .good .left-slope-high);
-        right-slope = slope-size (s .right .slope) (i .good .right-slope-low) (i .good .right-slope-high);
+        left-value = i .good .ends .left .value;
+        rise = (let n = i .good .ends .right .value in omega arith);
+        left-slope = slope-size (i .good .ends .left);
+        right-slope = slope-size (i .good .ends .right);
         above-0 = r .0;
       };
       reading = ap (λ (y : ℕ). round (interpolant rising s y)) (sym (reach i)) ∙ r .1;
@@ -106,7 +104,7 @@ rising-facts {s} {x} i climb k₀ k₁ =
     split : s .left .value < s .right .value → s .right .value ≡ s .left .value + (s .right .value - s .left .value)
     split h = omega arith
 
-pub rising-inside : {s : Segment} {x : ℕ} → Inside rising s x → (s .right .value ≡ s .left .value → ⊥) → Rising s x
+pub rising-inside : {s : Segment} {x : ℕ} → Inside (Good rising) s x → (s .right .value ≡ s .left .value → ⊥) → Rising s x
 unfolding has-shape fits
 rising-inside {s} {x} i differ = decide (rise-kind (gap s) (pos (s .left .value)) (pos (s .right .value)) (i .good .shaped))
   where
@@ -114,7 +112,7 @@ rising-inside {s} {x} i differ = decide (rise-kind (gap s) (pos (s .left .value)
     decide (climbs f k₀ k₁) = rising-facts i f k₀ k₁
     decide (flat e) = absurd (differ (Z.pos-injective e))
 
-pub flat-inside : {s : Segment} {x : ℕ} → Inside rising s x → s .right .value ≡ s .left .value → round (interpolant rising s x) ≡ pos (s .left .value)
+pub flat-inside : {s : Segment} {x : ℕ} → Inside (Good rising) s x → s .right .value ≡ s .left .value → round (interpolant rising s x) ≡ pos (s .left .value)
 flat-inside {s} {x} i e =
     ap (λ (y : ℕ). round (interpolant rising s y)) (sym (reach i)) ∙ segment-flat s (x - s .left .area) (s .right .area - x) (span i) (i .good) e
 
@@ -138,32 +136,12 @@ unfolding gradient _over_
 right-not-below s h =
     subst (λ (z : ℤ). pos 0 ≤ℤ z) (ring (rise s ∷ gap s ∷ s .right .slope ∷ []) {a = s .right .slope *ℤ gap s -ℤ rise s *ℤ pos 100} {b = a s} (search terms depth 20 fits 9999) tt) (Z.≤-difference (h .cross))
 
-module _ {s : Segment} {x : ℕ} (i : Inside convex s x) where
-  over-gap : (D : ℤ) → natAbs D ≤ 10000 → natAbs (gap s *ℤ D) ≤ 20000000
-  over-gap D k =
-      let h = gap-is s (x - s .left .area) (s .right .area - x) (span i) in
-      let n = ap natAbs h in
-      let m = ends i .most in
-      let e = size-* (gap s) D in
-      omega (arith, mul-le-mul {n₁ = natAbs (gap s)} {m₁ = natAbs D} {n₂ = 2000} {m₂ = 10000} (omega arith) k)
-
-  pub e₀-size : natAbs (e₀ s) ≤ 20000000
-  e₀-size = over-gap (s .left .slope) (slope-size (s .left .slope) (i .good .left-slope-low) (i .good .left-slope-high))
-
-  pub e₁-size : natAbs (e₁ s) ≤ 20000000
-  e₁-size = over-gap (s .right .slope) (slope-size (s .right .slope) (i .good .right-slope-low) (i .good .right-slope-high))
-
-  pub g-size : natAbs (g s) ≤ 20000000
-  g-size =
-      let n = size-difference (i .good .right-value) (i .good .left-value) in
-      let e = size-* (pos 100) (rise s) in
-      omega arith
-
+module _ {s : Segment} {x : ℕ} (i : Inside (Good convex) s x) where
   convex-facts : gradient (s .left) ≤ℚ rise s over gap s → rise s over gap s ≤ℚ gradient (s .right) → Convex s x
   convex-facts low high =
       let t = x - s .left .area in
       let u = s .right .area - x in
-      let low-slope : pos 0 ≤ℤ (s .left .slope +ℤ pos 10000) = Z.≤-+ (i .good .left-slope-low) (≤ℤ-refl (pos 10000)) in
+      let low-slope : pos 0 ≤ℤ (s .left .slope +ℤ pos 10000) = Z.≤-+ (i .good .ends .left .slope-low) (≤ℤ-refl (pos 10000)) in
       let raised-is = sym (pos-natAbs (s .left .slope +ℤ pos 10000) (yes-nonNeg low-slope)) in
       let right-is = sym (pos-natAbs (a s) (yes-nonNeg (right-not-below s high))) in
       let left-is = sym (pos-natAbs (b s) (yes-nonNeg (left-not-above s low))) in
@@ -174,17 +152,17 @@ module _ {s : Segment} {x : ℕ} (i : Inside convex s x) where
         bending = record {
           from-left = (let n = i .high in omega arith);
           from-right = (let n = i .low in omega arith);
-          short = (let n = i .good .near in omega arith);
-          least = (let n = i .good .ordered in omega arith);
-          left-value = i .good .left-value;
-          raised-slope = omega (arith, size-+ (s .left .slope) (pos 10000), slope-size (s .left .slope) (i .good .left-slope-low) (i .good .left-slope-high));
-          right-over = omega (arith, size-- (e₁ s) (g s), e₁-size, g-size);
-          left-over = omega (arith, size-- (g s) (e₀ s), e₀-size, g-size);
+          short = (let n = i .good .ends .near in omega arith);
+          least = (let n = i .good .ends .ordered in omega arith);
+          left-value = i .good .ends .left .value;
+          raised-slope = omega (arith, size-+ (s .left .slope) (pos 10000), slope-size (i .good .ends .left));
+          right-over = omega (arith, size-- (e₁ s) (g s), e₁-size (i .good .ends), g-size (i .good .ends));
+          left-over = omega (arith, size-- (g s) (e₀ s), e₀-size (i .good .ends), g-size (i .good .ends));
         };
         reading = ap (λ (y : ℕ). round (interpolant convex s y) +ℤ pos (100 * t)) (sym (reach i)) ∙ segment-convex s t u (span i) (natAbs (s .left .slope +ℤ pos 10000)) (natAbs (a s)) (natAbs (b s)) (i .good) raised-is right-is left-is ∙ ap (λ (h : ℕ). pos (raised-reading t u h (s .left .value) (natAbs (s .left .slope +ℤ pos 10000)) (natAbs (a s)) (natAbs (b s)))) (whole i);
       }
 
-pub convex-inside : {s : Segment} {x : ℕ} → Inside convex s x → Convex s x
+pub convex-inside : {s : Segment} {x : ℕ} → Inside (Good convex) s x → Convex s x
 unfolding has-shape fits
 convex-inside {s} {x} i = decide (bend-kind (gap s) (rise s) (i .good .shaped))
   where

@@ -5,7 +5,7 @@ use native.Mathlib.Nat.{mul-le-mul, mul-le-mul-left, mul-le-mul-right, le-mul-of
 use lib.Ieee.Nearest.{div-mono}
 use native.Mathlib.Omega.{arith}
 use Rattle.exact.proofs.Size.{scaled-size}
-use Rattle.segment.specs.Steps.{part, whole-part, Weights, RisingInput, rising-reading, ConvexInput, raised-reading}
+use Rattle.segment.specs.Inner.{part, whole-part, Weights, RisingInput, rising-reading, ConvexInput, raised-reading}
 
 -- a sum weighted by the distances from the two ends
 pub blend-size : {t u g e : ℕ} → Weights t u g e → g * t + e * u ≤ 40000000000

@@ -1,15 +1,25 @@
 -- The shape of a segment by comparisons of whole numbers.
+--   climbing-test   shape 1 where the value rises: no slope is below 0
+--   level-test      where it stays: both slopes are 0
+--   falling-test    where it falls: no
+--   convex-test     shape 2, of the three slopes over one denominator
 -- Assumes nothing.
-use mathlib.Core.Path.{_≡_, refl}
+use mathlib.Core.Path.{_≡_, refl, _∙_, ap}
 use mathlib.Core.Bool.{Bool, true, false, cond, _&&_, _||_, or-false, and-false, and-assoc}
-use lib.IntN.{ℤ, pos, _*ℤ_, one, *ℤ-one, *ℤ-comm}
+use Prim.Native.Nat.{_<_}
+use lib.IntN.{ℤ, pos, _*ℤ_, one, *ℤ-one, *ℤ-comm, +ℤ-invr}
+use native.Mathlib.Omega.{arith}
+use lib.Dec.{T}
 use lib.Signed.{leZ, ltZ}
 use Rattle.exact.specs.Fraction.{_over_, whole, leℚ, ltℚ, eqℚ}
+use Rattle.exact.specs.Inner.{eqZ}
+use Rattle.exact.proofs.Bits.{le-is, same-test}
+use Rattle.exact.proofs.Fractions.{T-true}
+use Rattle.exact.proofs.Order as Z
 use Rattle.model.specs.Points.{gradient, Segment, rising, convex}
 use Rattle.model.specs.Shape.{rises, bends, fits, has-shape}
+use Rattle.model.proofs.Curves.{climbs, flat, rise-kind}
 use Rattle.model.proofs.Segments.{gap, rise, e₀, g, e₁}
-use Rattle.segment.specs.Steps.{eqZ, rises-by, bends-by}
-use Rattle.exact.proofs.Bits.{le-is}
 
 apart : (a b : ℤ) → ltZ a b ≡ true → (eqZ a b ≡ false) × (eqZ b a ≡ false)
 apart a b e = (rw (le-is b a, e) (and-false (leZ a b)), rw (le-is b a, e))
@@ -23,14 +33,35 @@ unfolding one
 times-one = *ℤ-one
 
 module _ (s : Segment) where
-  pub rising-test : has-shape rising s ≡ rises-by (rise s) (s .left .slope) (s .right .slope)
-  unfolding has-shape fits rises gradient rises-by leℚ ltℚ eqℚ whole _over_
+  rising-test : has-shape rising s ≡ cond (ltZ (pos 0) (rise s)) (leZ (pos 0) (s .left .slope) && leZ (pos 0) (s .right .slope)) (eqZ (rise s) (pos 0) && eqZ (s .left .slope) (pos 0) && eqZ (s .right .slope) (pos 0))
+  unfolding has-shape fits rises gradient leℚ ltℚ eqℚ whole _over_
   rising-test =
       rw (times-one (rise s), times-one (s .left .slope), times-one (s .right .slope), and-assoc (ltZ (pos 0) (rise s)))
       (first-or (ltZ (pos 0) (rise s)) _ _ (λ e. rw (apart (pos 0) (rise s) e .1)))
 
-  pub convex-test : has-shape convex s ≡ bends-by (e₀ s) (g s) (e₁ s)
-  unfolding has-shape fits bends gradient bends-by leℚ ltℚ eqℚ _over_
+  pub climbing-test : s .left .value < s .right .value → has-shape rising s ≡ (leZ (pos 0) (s .left .slope) && leZ (pos 0) (s .right .slope))
+  climbing-test h =
+      let up : ltZ (pos 0) (rise s) ≡ true = T-true _ (Z.<-difference (Z.pos-< h) .lt) in
+      rising-test ∙ rw up
+
+  pub level-test : s .left .value ≡ s .right .value → has-shape rising s ≡ (eqZ (s .left .slope) (pos 0) && eqZ (s .right .slope) (pos 0))
+  level-test e =
+      let z : rise s ≡ pos 0 = rw e (+ℤ-invr (pos (s .right .value))) in
+      rising-test ∙ rw z
+
+  pub falling-test : s .right .value < s .left .value → has-shape rising s ≡ false
+  unfolding has-shape fits
+  falling-test h = same-test _ false falls absurd
+    where
+      falls : T (has-shape rising s) → ⊥
+      falls t =
+          elim (rise-kind (gap s) (pos (s .left .value)) (pos (s .right .value)) t) [
+            | climbs up k₀ k₁ ↦ let k : s .left .value < s .right .value = Z.<-pos (Z.<-by (rise s) refl up) in omega arith
+            | flat e ↦ let k : s .right .value ≡ s .left .value = Z.pos-injective e in omega arith
+          ]
+
+  pub convex-test : has-shape convex s ≡ cond (ltZ (e₀ s) (g s)) (ltZ (g s) (e₁ s)) (eqZ (e₀ s) (g s) && eqZ (g s) (e₁ s))
+  unfolding has-shape fits bends gradient leℚ ltℚ eqℚ _over_
   convex-test =
       rw (*ℤ-comm (s .left .slope) (gap s), *ℤ-comm (rise s) (pos 100), *ℤ-comm (s .right .slope) (gap s))
       (first-or (ltZ (e₀ s) (g s)) _ _ (λ e. rw (apart (e₀ s) (g s) e .0)))

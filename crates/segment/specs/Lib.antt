@@ -1,2 +1,2 @@
--- One segment in plain numbers.
-pub mod Steps
+-- What contracts cite.
+pub mod Inner

@@ -1,19 +1,20 @@
 // One segment: its reading, by one division other than by constants, and its shape.
 ghost use mathlib.Core.Path.{_≡_};
-ghost use Prim.Native.Nat.{_/_, _^_, _<_};
-ghost use lib.IntN.{pos, natAbs, _-ℤ_, _*ℤ_};
-ghost use Rattle.segment.specs.Steps as steps;
-ghost use Rattle.model.specs.Facts.{point-of, between, Inside};
-ghost use Rattle.segment.specs.Steps.{Weights, RisingInput, rising-reading, ConvexInput, raised-reading, Normal, rises-by, bends-by};
+ghost use Prim.Native.Nat.{_/_};
+ghost use Rattle.segment.specs.Inner as inner;
+ghost use Rattle.segment.specs.Inner.{Weights, RisingInput, rising-reading, ConvexInput, raised-reading, SlopesOver};
 ghost use Rattle.exact.specs.Rounding.{round};
 ghost use Rattle.model.specs.Points.{Shape, shape-of};
 ghost use Rattle.model.specs.Interpolant.{interpolant};
 ghost use Rattle.model.specs.Shape.{has-shape};
+ghost use Rattle.model.specs.Inner.{Neighbours, Good, Inside};
+ghost use Rattle.point.specs.Inner.{segment-of};
+use point::Point;
 
 // t (g t + e u)
 fn part(t: u64, u: u64, g: u64, e: u64) -> u64
     requires { ⌜ Weights t u g e ⌝ }
-    ensures { λ r. ⌜ r ≡ steps.part t u g e ⌝ }
+    ensures { λ r. ⌜ r ≡ inner.part t u g e ⌝ }
 {
     t * (g * t + e * u)
 }
@@ -55,67 +56,60 @@ fn raised(t: u64, u: u64, h: u64, left: u64, d: u64, a: u64, b: u64) -> u64
     tangent + exact::mul_div(w, w, divisor) / h
 }
 
-// a - b
-fn difference(a: u32, b: u32) -> i64
-    ensures { λ r. ⌜ r ≡ pos a -ℤ pos b ⌝ }
-{
-    (a as i64) - (b as i64)
-}
-
-// h d, for a difference h
-fn scaled(h: i64, d: i32) -> i64
-    requires { ⌜ natAbs h < 2 ^ 32 ⌝ }
-    ensures { λ r. ⌜ r ≡ h *ℤ d ⌝ }
-{
-    h * (d as i64)
-}
-
 // The slopes of a segment over the denominator 100 h: left end, chord, right end.
 struct Slopes {
-    left: i64,
-    chord: i64,
-    right: i64,
+    left: i32,
+    chord: i32,
+    right: i32,
 }
 
-fn slopes_of(x0: u32, y0: u32, d0: i32, x1: u32, y1: u32, d1: i32) -> Slopes
-    ensures { λ r. ⌜ Normal x0 y0 d0 x1 y1 d1 (r .left) (r .chord) (r .right) ⌝ }
+fn slopes_of(p: Point, q: Point) -> Slopes
+    requires { ⌜ Neighbours (segment-of p q) ⌝ }
+    ensures { λ r. ⌜ SlopesOver (segment-of p q) r ⌝ }
 {
-    let h = difference(x1, x0);
+    let h = (q.area - p.area) as i32;
     Slopes {
-        left: scaled(h, d0),
-        chord: scaled(difference(y1, y0), 100),
-        right: scaled(h, d1),
+        left: h * p.slope,
+        chord: 100 * ((q.value as i32) - (p.value as i32)),
+        right: h * q.slope,
     }
 }
 
 // The factor at an area of a rising segment. u is h - t, so that t + u is the same for every area.
-fn rising_factor(x0: u32, y0: u32, d0: i32, x1: u32, y1: u32, d1: i32, area: u32) -> i32
-    requires { ⌜ Inside Shape.rising (between (point-of x0 y0 d0) (point-of x1 y1 d1)) area ⌝ }
-    ensures { λ r. ⌜ r ≡ round (interpolant Shape.rising (between (point-of x0 y0 d0) (point-of x1 y1 d1)) area) ⌝ }
+fn rising_factor(p: Point, q: Point, area: u32) -> i32
+    requires { ⌜ Inside (Good Shape.rising) (segment-of p q) area ⌝ }
+    ensures { λ r. ⌜ r ≡ round (interpolant Shape.rising (segment-of p q) area) ⌝ }
 {
-    if y1 == y0 {
-        return y0 as i32;
+    if q.value == p.value {
+        return p.value as i32;
     }
-    let t = (area - x0) as u64;
-    let u = (x1 - x0) as u64 - t;
-    rising(t, u, y0 as u64, (y1 - y0) as u64, d0 as u64, d1 as u64) as i32
+    let t = (area - p.area) as u64;
+    let u = (q.area - p.area) as u64 - t;
+    rising(
+        t,
+        u,
+        p.value as u64,
+        (q.value - p.value) as u64,
+        p.slope as u64,
+        q.slope as u64,
+    ) as i32
 }
 
 // The factor at an area of a convex segment.
-fn convex_factor(x0: u32, y0: u32, d0: i32, x1: u32, y1: u32, d1: i32, area: u32) -> i32
-    requires { ⌜ Inside Shape.convex (between (point-of x0 y0 d0) (point-of x1 y1 d1)) area ⌝ }
-    ensures { λ r. ⌜ r ≡ round (interpolant Shape.convex (between (point-of x0 y0 d0) (point-of x1 y1 d1)) area) ⌝ }
+fn convex_factor(p: Point, q: Point, area: u32) -> i32
+    requires { ⌜ Inside (Good Shape.convex) (segment-of p q) area ⌝ }
+    ensures { λ r. ⌜ r ≡ round (interpolant Shape.convex (segment-of p q) area) ⌝ }
 {
-    let t = (area - x0) as u64;
-    let u = (x1 - area) as u64;
-    let h = (x1 - x0) as u64;
-    let e = slopes_of(x0, y0, d0, x1, y1, d1);
-    let d = (d0 + 10000) as u64;
+    let t = (area - p.area) as u64;
+    let u = (q.area - area) as u64;
+    let h = (q.area - p.area) as u64;
+    let e = slopes_of(p, q);
+    let d = (p.slope + 10000) as u64;
     let r = raised(
         t,
         u,
         h,
-        y0 as u64,
+        p.value as u64,
         d,
         (e.right - e.chord) as u64,
         (e.chord - e.left) as u64,
@@ -124,55 +118,58 @@ fn convex_factor(x0: u32, y0: u32, d0: i32, x1: u32, y1: u32, d1: i32, area: u32
 }
 
 // The factor at an area of a segment that has its shape.
-pub fn factor(shape: u32, x0: u32, y0: u32, d0: i32, x1: u32, y1: u32, d1: i32, area: u32) -> i32
-    requires { ⌜ Inside (shape-of shape) (between (point-of x0 y0 d0) (point-of x1 y1 d1)) area ⌝ }
-    ensures { λ r. ⌜ r ≡ round (interpolant (shape-of shape) (between (point-of x0 y0 d0) (point-of x1 y1 d1)) area) ⌝ }
+pub fn factor(shape: u32, p: Point, q: Point, area: u32) -> i32
+    requires { ⌜ Inside (Good (shape-of shape)) (segment-of p q) area ⌝ }
+    ensures { λ r. ⌜ r ≡ round (interpolant (shape-of shape) (segment-of p q) area) ⌝ }
 {
     if shape == 1 {
-        return rising_factor(x0, y0, d0, x1, y1, d1, area);
+        return rising_factor(p, q, area);
     }
-    convex_factor(x0, y0, d0, x1, y1, d1, area)
+    convex_factor(p, q, area)
 }
 
-// Shape 1, of the rise f between the values.
-fn rises(f: i64, d0: i32, d1: i32) -> bool
-    ensures { λ r. ⌜ r ≡ rises-by f d0 d1 ⌝ }
+// Shape 1.
+fn rises(p: Point, q: Point) -> bool
+    requires { ⌜ Neighbours (segment-of p q) ⌝ }
+    ensures { λ r. ⌜ r ≡ has-shape Shape.rising (segment-of p q) ⌝ }
 {
-    if f > 0 {
-        if d0 < 0 {
+    if p.value < q.value {
+        if p.slope < 0 {
             return false;
         }
-        return d1 >= 0;
+        return q.slope >= 0;
     }
-    if f != 0 {
+    if p.value != q.value {
         return false;
     }
-    if d0 != 0 {
+    if p.slope != 0 {
         return false;
     }
-    d1 == 0
+    q.slope == 0
 }
 
-// Shape 2, of the slopes and the chord over one denominator.
-fn bends(left: i64, chord: i64, right: i64) -> bool
-    ensures { λ r. ⌜ r ≡ bends-by left chord right ⌝ }
+// Shape 2.
+fn bends(p: Point, q: Point) -> bool
+    requires { ⌜ Neighbours (segment-of p q) ⌝ }
+    ensures { λ r. ⌜ r ≡ has-shape Shape.convex (segment-of p q) ⌝ }
 {
-    if left < chord {
-        return chord < right;
+    let e = slopes_of(p, q);
+    if e.left < e.chord {
+        return e.chord < e.right;
     }
-    if left != chord {
+    if e.left != e.chord {
         return false;
     }
-    chord == right
+    e.chord == e.right
 }
 
 // Row 6 is passed: the segment between two points has its shape.
-pub fn has_shape(shape: u32, x0: u32, y0: u32, d0: i32, x1: u32, y1: u32, d1: i32) -> bool
-    ensures { λ r. ⌜ r ≡ has-shape (shape-of shape) (between (point-of x0 y0 d0) (point-of x1 y1 d1)) ⌝ }
+pub fn has_shape(shape: u32, p: Point, q: Point) -> bool
+    requires { ⌜ Neighbours (segment-of p q) ⌝ }
+    ensures { λ r. ⌜ r ≡ has-shape (shape-of shape) (segment-of p q) ⌝ }
 {
     if shape == 1 {
-        return rises(difference(y1, y0), d0, d1);
+        return rises(p, q);
     }
-    let e = slopes_of(x0, y0, d0, x1, y1, d1);
-    bends(e.left, e.chord, e.right)
+    bends(p, q)
 }

@@ -14,100 +14,85 @@ use Rattle.model.specs.Interpolant.{interpolant}
 use Rattle.exact.proofs.Ring.{ring, terms}
 use Rattle.exact.proofs.Magnitude.{fits-size, size--, size-difference}
 use Rattle.model.specs.Points.{Segment, convex}
-use Rattle.model.specs.Facts.{point-of, between}
-use Rattle.segment.specs.Steps.{raised-reading}
+use Rattle.point.specs.Inner.{segment-of}
+use Rattle.model.specs.Inner.{Neighbours}
+use Rattle.segment.specs.Inner.{raised-reading}
 use Rattle.exact.proofs.Signed.{natural}
 use Rattle.model.proofs.Segments.{e₀, e₁, g, a, b}
-use Rattle.segment.proofs.EndSlopes.{left-slope, chord-slope, right-slope}
+use Rattle.segment.proofs.EndSlopes.{slope-read, e₀-size, e₁-size, g-size, left-is, chord-is, right-is}
 use Rattle.segment.proofs.Machine.{lowered}
 use Rattle.segment.proofs.Sizes.{raised-size}
-use Rattle.segment.proofs.Plain.{Convex, convex-inside, e₀-size, e₁-size, g-size, reading-fits}
+use Rattle.segment.proofs.Plain.{Convex, convex-inside, reading-fits}
 use Rattle.segment.proofs.convex_factor.Statement.{statement}
 use Rattle.segment.proofs.convex_factor.Tie as tie
 
 -- the segment, and what is known of the area in it
 abbrev at : tie.Start → Segment
-at c = between (point-of (c .args .x0) (c .args .y0) (c .args .d0)) (point-of (c .args .x1) (c .args .y1) (c .args .d1))
+at c = segment-of (c .args .p) (c .args .q)
 
 facts : (c : tie.Start) → Convex (at c) (c .args .area)
 facts c = convex-inside (c .pre)
 
--- the three slopes, read back
-module _ (c : tie.After-slopes-of) where
-  left-is : toZ w64 (ofZ w64 (c .slopes-of .result .left)) ≡ e₀ (at (c .before))
-  left-is = left-slope (c .before .fits .d0) (c .before .fits .d1) (c .slopes-of .ensures) (search needs)
+module _ (c : tie.Start) where
+  abbrev ends : Neighbours (at c)
+  ends = c .pre .good .ends
 
-  chord-is : toZ w64 (ofZ w64 (c .slopes-of .result .chord)) ≡ g (at (c .before))
-  chord-is = chord-slope (c .before .fits .d0) (c .before .fits .d1) (c .slopes-of .ensures) (search needs)
+  -- a = e₁ − g and b = g − e₀
+  a-fits : SFits w32 (a (at c))
+  a-fits = fits-size w32 (a (at c)) (omega (arith, size-- (e₁ (at c)) (g (at c)), e₁-size ends, g-size ends))
 
-  right-is : toZ w64 (ofZ w64 (c .slopes-of .result .right)) ≡ e₁ (at (c .before))
-  right-is = right-slope (c .before .fits .d0) (c .before .fits .d1) (c .slopes-of .ensures) (search needs)
+  b-fits : SFits w32 (b (at c))
+  b-fits = fits-size w32 (b (at c)) (omega (arith, size-- (g (at c)) (e₀ (at c)), e₀-size ends, g-size ends))
 
--- a = e₁ − g and b = g − e₀
-a-fits : (c : tie.Start) → SFits w64 (a (at c))
-a-fits c = fits-size w64 (a (at c)) (omega (arith, size-- (e₁ (at c)) (g (at c)), e₁-size (c .pre), g-size (c .pre)))
+  -- the left slope, raised
+  d-fits : SFits w32 (c .args .p .slope +ℤ pos 10000)
+  d-fits = fits-size w32 (c .args .p .slope +ℤ pos 10000) (omega (arith, facts c .bending .raised-slope))
 
-b-fits : (c : tie.Start) → SFits w64 (b (at c))
-b-fits c = fits-size w64 (b (at c)) (omega (arith, size-- (g (at c)) (e₀ (at c)), e₀-size (c .pre), g-size (c .pre)))
-
--- the left slope, raised
-d-fits : (c : tie.Start) → SFits w32 (c .args .d0 +ℤ pos 10000)
-d-fits c = fits-size w32 (c .args .d0 +ℤ pos 10000) (omega (arith, facts c .bending .raised-slope))
-
-sub-t : tie.Need-sub-t
-sub-t c = search needs
-
-cast-t : tie.Need-cast-t
-cast-t c = search needs
-
-sub-u : tie.Need-sub-u
-sub-u c = search needs
-
-cast-u : tie.Need-cast-u
-cast-u c = search needs
-
-sub-h : tie.Need-sub-h
-sub-h c = search needs
-
-cast-h : tie.Need-cast-h
-cast-h c = search needs
-
-slopes-of-requires : tie.Need-slopes-of-requires
-slopes-of-requires c κs = search needs
+abbrev entry : tie.After-slopes-of → tie.Start
+entry c = c .before .before .before .before .before
 
 add-d : tie.Need-add-d
-add-d c = rw (toZ-ofZ (c .before .fits .d0)) (d-fits (c .before))
+add-d c =
+    let s = entry (c .before .before) in
+    rw (slope-read (ends s .left)) (d-fits s)
 
 cast-d : tie.Need-cast-d
 cast-d c =
-    let s = c .before in
-    rw (toZ-ofZ (s .fits .d0), toZ-ofZ (d-fits s)) (natural tt (d-fits s) (facts s .raised-slope))
+    let s = entry (c .before .before) in
+    rw (slope-read (ends s .left), toZ-ofZ (d-fits s)) (natural tt (d-fits s) (facts s .raised-slope))
+
+abbrev at-a : tie.After-struct-told2 → tie.After-slopes-of
+at-a c = c .before .before .before .before .before
+
+a-is : (c : tie.After-slopes-of) → toZ w32 (ofZ w32 (c .slopes-of .result .right)) -ℤ toZ w32 (ofZ w32 (c .slopes-of .result .chord)) ≡ a (at (entry c))
+a-is c = let n = ends (entry c) in let k = c .slopes-of .ensures in rw (right-is n k, chord-is n k)
+
+b-is : (c : tie.After-slopes-of) → toZ w32 (ofZ w32 (c .slopes-of .result .chord)) -ℤ toZ w32 (ofZ w32 (c .slopes-of .result .left)) ≡ b (at (entry c))
+b-is c = let n = ends (entry c) in let k = c .slopes-of .ensures in rw (chord-is n k, left-is n k)
 
 sub-raised : tie.Need-sub-raised
-sub-raised c =
-    let sc = c .before .before in
-    rw (right-is sc, chord-is sc) (a-fits (sc .before))
-
-cast-raised : tie.Need-cast-raised
-cast-raised c =
-    let sc = c .before .before in
-    rw (right-is sc, chord-is sc, toZ-ofZ (a-fits (sc .before))) (natural tt (a-fits (sc .before)) (facts (sc .before) .right-over))
-
-sub-raised-2 : tie.Need-sub-raised-2
-sub-raised-2 c =
-    let sc = c .before .before .before .before in
-    rw (chord-is sc, left-is sc) (b-fits (sc .before))
+sub-raised c = rw (a-is (at-a c)) (a-fits (entry (at-a c)))
 
 cast-raised-2 : tie.Need-cast-raised-2
 cast-raised-2 c =
-    let sc = c .before .before .before .before in
-    rw (chord-is sc, left-is sc, toZ-ofZ (b-fits (sc .before))) (natural tt (b-fits (sc .before)) (facts (sc .before) .left-over))
+    let s = entry (at-a c) in
+    rw (a-is (at-a c), toZ-ofZ (a-fits s)) (natural tt (a-fits s) (facts s .right-over))
+
+abbrev at-b : tie.After-struct-told3 → tie.After-slopes-of
+at-b c = at-a (c .before .before)
+
+sub-raised-2 : tie.Need-sub-raised-2
+sub-raised-2 c = rw (b-is (at-b c)) (b-fits (entry (at-b c)))
+
+cast-raised-3 : tie.Need-cast-raised-3
+cast-raised-3 c =
+    let s = entry (at-b c) in
+    rw (b-is (at-b c), toZ-ofZ (b-fits s)) (natural tt (b-fits s) (facts s .left-over))
 
 raised-requires : tie.Need-raised-requires
 raised-requires c κs =
-    let sc = c .before .before .before .before in
-    let s = sc .before in
-    rw (right-is sc, chord-is sc, left-is sc, toZ-ofZ (a-fits s), toZ-ofZ (b-fits s), toZ-ofZ (s .fits .d0), toZ-ofZ (d-fits s)) (facts s .bending)
+    let s = entry (at-b c) in
+    rw (a-is (at-b c), b-is (at-b c), toZ-ofZ (a-fits s), toZ-ofZ (b-fits s), slope-read (ends s .left), toZ-ofZ (d-fits s)) (facts s .bending)
 
 wide : {n : ℕ} → n ≤ 100000000000 → toZ w64 n ≡ pos n
 wide h = toZ-pos w64 (omega arith)
@@ -115,16 +100,15 @@ wide h = toZ-pos w64 (omega arith)
 -- the result of `raised`
 module _ (c : tie.After-raised) where
   abbrev start : tie.Start
-  start = c .before .before .before .before .before .before
+  start = entry (at-b (c .before))
 
   abbrev t : ℕ
-  t = start .args .area - start .args .x0
+  t = start .args .area - start .args .p .area
 
-  raised-is : c .raised .result / 100 ≡ raised-reading t (start .args .x1 - start .args .area) (start .args .x1 - start .args .x0) (start .args .y0) (natAbs (start .args .d0 +ℤ pos 10000)) (natAbs (a (at start))) (natAbs (b (at start)))
+  raised-is : c .raised .result / 100 ≡ raised-reading t (start .args .q .area - start .args .area) (start .args .q .area - start .args .p .area) (start .args .p .value) (natAbs (start .args .p .slope +ℤ pos 10000)) (natAbs (a (at start))) (natAbs (b (at start)))
   raised-is =
-      let sc = c .before .before .before .before .before in
-      let s = sc .before in
-      rw (right-is sc, chord-is sc, left-is sc, toZ-ofZ (a-fits s), toZ-ofZ (b-fits s), toZ-ofZ (s .fits .d0), toZ-ofZ (d-fits s)) at (c .raised .ensures)
+      let k = at-b (c .before) in
+      rw (a-is k, b-is k, toZ-ofZ (a-fits start), toZ-ofZ (b-fits start), slope-read (ends start .left), toZ-ofZ (d-fits start)) at (c .raised .ensures)
 
   small : c .raised .result ≤ 100000000000
   small = omega (arith, raised-is, raised-size (facts start .bending))
@@ -151,9 +135,6 @@ cast-floor-div-2 c = record { sfits = omega (arith, raise-small c) }
 sub-floor-div : tie.Need-sub-floor-div
 sub-floor-div c = rw (lowered-is c) (lowered-fits c)
 
-floor-div-requires : tie.Need-floor-div-requires
-floor-div-requires c κs = search needs
-
 -- the result is the reading
 module _ (c : tie.After-floor-div) where
   abbrev reads : ℤ
@@ -178,4 +159,4 @@ returns c = rw (read c, toZ-ofZ (read-fits c))
 pub convex-factor-spec : {M : Type 1} → statement M
 convex-factor-spec =
     tie.close
-    (tie.spec sub-t cast-t sub-u cast-u sub-h cast-h slopes-of-requires add-d cast-d sub-raised cast-raised sub-raised-2 cast-raised-2 raised-requires cast-floor-div mul-floor-div cast-floor-div-2 sub-floor-div floor-div-requires cast-result returns)
+    (tie.spec (search needs) (search needs) (search needs) (search needs) (search needs) (search needs) (λ c κs. ends (c .before .before .before .before)) add-d cast-d (search needs) sub-raised cast-raised-2 sub-raised-2 cast-raised-3 raised-requires cast-floor-div mul-floor-div cast-floor-div-2 sub-floor-div (search needs) cast-result returns)

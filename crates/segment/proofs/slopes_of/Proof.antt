@@ -1,60 +1,45 @@
--- `segment::slopes_of` meets its contract. A signed result holds bits, which are read back (`toZ-ofZ`).
+-- `segment::slopes_of` meets its contract.
 -- Assumes nothing.
 use borrow.Author.Needs.{needs}
-use mathlib.Core.Path.{_≡_, _∙_, ap, ap₂}
-use Prim.Native.Nat.{ℕ, _^_, _<_}
-use native.Mathlib.Omega.{arith}
-use lib.IntN.{ℤ, pos, natAbs, _-ℤ_, _*ℤ_}
-use lib.Signed.{mag}
-use mir.Syntax.{w32, w64}
-use mir.Val.{Fits, toZ, ofZ}
 use mir.Facts.{toZ-ofZ}
-use Rattle.exact.proofs.Magnitude.{size-difference}
+use Rattle.model.specs.Inner.{Neighbours}
+use Rattle.point.specs.Inner.{segment-of}
+use Rattle.segment.proofs.EndSlopes.{slope-read, gap-read, rise-read, rise-fits, e₀-fits, g-fits, e₁-fits}
 use Rattle.segment.proofs.slopes_of.Statement.{statement}
 use Rattle.segment.proofs.slopes_of.Tie as tie
 
--- a result that is a difference
-back : (r : ℤ) {z : ℤ} → mag r < 2 ^ 63 → r ≡ z → toZ w64 (ofZ w64 r) ≡ z
-back r ok e = toZ-ofZ (record { sfits = ok }) ∙ e
+abbrev near : (c : tie.After-struct-told) → Neighbours (segment-of (c .before .before .before .before .args .p) (c .before .before .before .before .args .q))
+near c = c .before .before .before .before .pre
 
-small : {a b : ℕ} → Fits w32 a → Fits w32 b → natAbs (pos a -ℤ pos b) < 2 ^ 32
-small {a} {b} f g =
-    let h = f .fits in
-    let k = g .fits in
-    let n = size-difference {a = a} {b = b} {n = 4294967295} (omega arith) (omega arith) in
-    omega arith
+mul-t5 : tie.Need-mul-t5
+mul-t5 c =
+    let n = near c in
+    rw (gap-read n, slope-read (n .left)) (e₀-fits n)
 
-h-is : (c : tie.After-difference) → toZ w64 (ofZ w64 (c .difference .result)) ≡ pos (c .before .args .x1) -ℤ pos (c .before .args .x0)
-h-is c = back (c .difference .result) (c .difference .ok) (c .difference .ensures)
+sub-t8 : tie.Need-sub-t8
+sub-t8 c =
+    let n = near (c .before .before) in
+    rw (rise-read n) (rise-fits n)
 
-rise-is : (c : tie.After-difference2) → toZ w64 (ofZ w64 (c .difference2 .result)) ≡ pos (c .before .before .before .args .y1) -ℤ pos (c .before .before .before .args .y0)
-rise-is c = back (c .difference2 .result) (c .difference2 .ok) (c .difference2 .ensures)
+mul-t9 : tie.Need-mul-t9
+mul-t9 c =
+    let n = near (c .before .before) in
+    rw (rise-read n, toZ-ofZ (rise-fits n)) (g-fits n)
 
-difference-requires : tie.Need-difference-requires
-difference-requires c κs = search needs
-
-scaled-requires : tie.Need-scaled-requires
-scaled-requires c κs = rw (h-is c) (small (c .before .fits .x1) (c .before .fits .x0))
-
-difference-requires-2 : tie.Need-difference-requires-2
-difference-requires-2 c κs = search needs
-
-scaled-requires-2 : tie.Need-scaled-requires-2
-scaled-requires-2 c κs = rw (rise-is c) (small (c .before .before .before .fits .y1) (c .before .before .before .fits .y0))
-
-scaled-requires-3 : tie.Need-scaled-requires-3
-scaled-requires-3 c κs = scaled-requires (c .before .before .before) κs
+mul-t10 : tie.Need-mul-t10
+mul-t10 c =
+    let n = near (c .before .before .before .before) in
+    rw (gap-read n, slope-read (n .right)) (e₁-fits n)
 
 returns : tie.Need-returns
 returns c =
-    let at-h = c .before .before .before .before in
-    let s = at-h .before in
+    let n = near (c .before .before .before .before) in
     record {
-      left = back (c .before .before .before .scaled .result) (c .before .before .before .scaled .ok) (c .before .before .before .scaled .ensures ∙ ap₂ (λ (x y : ℤ). x *ℤ y) (h-is at-h) (toZ-ofZ (s .fits .d0)));
-      chord = back (c .before .scaled2 .result) (c .before .scaled2 .ok) (c .before .scaled2 .ensures ∙ ap (λ (x : ℤ). x *ℤ pos 100) (rise-is (c .before .before)));
-      right = back (c .scaled3 .result) (c .scaled3 .ok) (c .scaled3 .ensures ∙ ap₂ (λ (x y : ℤ). x *ℤ y) (h-is at-h) (toZ-ofZ (s .fits .d1)));
+      left = rw (gap-read n, slope-read (n .left)) (toZ-ofZ (e₀-fits n));
+      chord = rw (rise-read n, toZ-ofZ (rise-fits n)) (toZ-ofZ (g-fits n));
+      right = rw (gap-read n, slope-read (n .right)) (toZ-ofZ (e₁-fits n));
     }
 
 pub slopes-of-spec : {M : Type 1} → statement M
 slopes-of-spec =
-    tie.close (tie.spec difference-requires scaled-requires difference-requires-2 scaled-requires-2 scaled-requires-3 returns)
+    tie.close (tie.spec (search needs) (search needs) mul-t5 (search needs) (search needs) sub-t8 mul-t9 mul-t10 returns)

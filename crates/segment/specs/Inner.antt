@@ -2,23 +2,10 @@
 -- document 01.
 -- Assumes nothing.
 use mathlib.Core.Path.{_≡_}
-use mathlib.Core.Bool.{Bool, cond, _&&_}
 use Prim.Native.Nat.{ℕ, _+_, _*_, _/_, _≤_, _<_}
 use lib.IntN.{ℤ, pos, _*ℤ_, _-ℤ_}
-use lib.Signed.{leZ, ltZ}
-
--- equality, as a test
-abbrev pub eqZ : ℤ → ℤ → Bool
-eqZ a b = leZ a b && leZ b a
-
--- shape 1, of F and the slope figures
-unfoldable pub rises-by : ℤ → ℤ → ℤ → Bool
-rises-by F D₀ D₁ =
-    cond (ltZ (pos 0) F) (leZ (pos 0) D₀ && leZ (pos 0) D₁) (eqZ F (pos 0) && eqZ D₀ (pos 0) && eqZ D₁ (pos 0))
-
--- shape 2, of h × left slope figure, 100 × F and h × right slope figure
-unfoldable pub bends-by : ℤ → ℤ → ℤ → Bool
-bends-by left chord right = cond (ltZ left chord) (ltZ chord right) (eqZ left chord && eqZ chord right)
+use Rattle.model.specs.Points.{Segment}
+use Rattle.segment.specs.declared.Slopes.{Slopes}
 
 -- the distances t and u of an area from the ends of a segment
 pub record Ends (t u : ℕ) : Type 0 where
@@ -65,7 +52,7 @@ pub record ConvexInput (t u h left D a b : ℕ) : Type 0 where
   pub left-over : b ≤ 40000000
 
 -- the slopes of a segment over the denominator 100 h
-pub record Normal (x₀ y₀ : ℕ) (d₀ : ℤ) (x₁ y₁ : ℕ) (d₁ e₀ g e₁ : ℤ) : Type 0 where
-  pub left : e₀ ≡ (pos x₁ -ℤ pos x₀) *ℤ d₀
-  pub chord : g ≡ (pos y₁ -ℤ pos y₀) *ℤ pos 100
-  pub right : e₁ ≡ (pos x₁ -ℤ pos x₀) *ℤ d₁
+pub record SlopesOver (s : Segment) (e : Slopes) : Type 0 where
+  pub left : e .left ≡ (pos (s .right .area) -ℤ pos (s .left .area)) *ℤ s .left .slope
+  pub chord : e .chord ≡ pos 100 *ℤ (pos (s .right .value) -ℤ pos (s .left .value))
+  pub right : e .right ≡ (pos (s .right .area) -ℤ pos (s .left .area)) *ℤ s .right .slope
