@@ -2,7 +2,7 @@
 ghost use mathlib.Core.Path.{_≡_};
 ghost use Prim.Native.Nat.{_/_};
 ghost use Rattle.segment.specs.Inner as inner;
-ghost use Rattle.segment.specs.Inner.{Weights, RisingInput, rising-reading, ConvexInput, raised-reading, SlopesOver};
+ghost use Rattle.segment.specs.Inner.{SlopesOver, Weights, RisingInput, rising-reading, ConvexInput};
 ghost use Rattle.exact.specs.Rounding.{round};
 ghost use Rattle.model.specs.Points.{Shape, shape-of};
 ghost use Rattle.model.specs.Interpolant.{interpolant};
@@ -10,6 +10,7 @@ ghost use Rattle.model.specs.Shape.{has-shape};
 ghost use Rattle.model.specs.Inner.{Neighbours, Good, Inside};
 ghost use Rattle.point.specs.Inner.{segment-of};
 use point::Point;
+use point::SLOPE_MOST;
 
 // t (g t + e u)
 fn part(t: u64, u: u64, g: u64, e: u64) -> u64
@@ -36,7 +37,7 @@ fn rising(t: u64, u: u64, left: u64, rise: u64, d0: u64, d1: u64) -> u64
 // W = a u + w the curve is w w / (W h) hundredths above its left tangent.
 fn raised(t: u64, u: u64, h: u64, left: u64, d: u64, a: u64, b: u64) -> u64
     requires { ⌜ ConvexInput t u h left d a b ⌝ }
-    ensures { λ r. ⌜ r / 100 ≡ raised-reading t u h left d a b ⌝ }
+    ensures { λ r. ⌜ r / 100 ≡ inner.raised t u h left d a b / 100 ⌝ }
 {
     let tangent = 50 * (2 * left + 1) + d * t;
     let w = b * t;
@@ -104,7 +105,7 @@ fn convex_factor(p: Point, q: Point, area: u32) -> i32
     let u = (q.area - area) as u64;
     let h = (q.area - p.area) as u64;
     let e = slopes_of(p, q);
-    let d = (p.slope + 10000) as u64;
+    let d = (p.slope + SLOPE_MOST) as u64;
     let r = raised(
         t,
         u,
@@ -114,7 +115,7 @@ fn convex_factor(p: Point, q: Point, area: u32) -> i32
         (e.right - e.chord) as u64,
         (e.chord - e.left) as u64,
     );
-    exact::floor_div((r as i64) - ((10000 * t) as i64), 100) as i32
+    exact::floor_div((r as i64) - ((SLOPE_MOST as u64 * t) as i64), 100) as i32
 }
 
 // The factor at an area of a segment that has its shape.

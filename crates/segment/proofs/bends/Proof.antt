@@ -14,7 +14,7 @@ use Rattle.model.specs.Inner.{Neighbours}
 use Rattle.point.specs.Inner.{segment-of}
 use Rattle.segment.specs.Inner.{SlopesOver}
 use Rattle.segment.specs.declared.Slopes.{Slopes}
-use Rattle.segment.proofs.EndSlopes.{e₀-fits, g-fits, e₁-fits}
+use Rattle.segment.proofs.Figures.{e₀-fits, g-fits, e₁-fits}
 use Rattle.segment.proofs.Tests.{convex-test}
 use Rattle.segment.proofs.bends.Statement.{statement}
 use Rattle.segment.proofs.bends.Tie as tie

@@ -1,55 +1,59 @@
 -- `segment::convex_factor` meets its contract.
 -- Assumes nothing.
 use borrow.Author.Needs.{needs}
-use mathlib.Core.Path.{_≡_, sym, _∙_, ap, ap₂}
-use mathlib.Core.List.{[], _∷_}
-use Prim.Native.Nat.{ℕ, _*_, _/_, _-_, _≤_}
+use mathlib.Core.Path.{_≡_, _∙_, ap₂}
+use Prim.Native.Nat.{ℕ, _*_, _/_, _≤_, _^_}
 use native.Mathlib.Omega.{arith}
-use lib.IntN.{ℤ, pos, natAbs, _+ℤ_, _-ℤ_}
+use lib.IntN.{ℤ, pos, _+ℤ_, _-ℤ_}
 use mir.Syntax.{w32, w64}
 use mir.Val.{SFits, toZ, ofZ}
 use mir.Facts.{toZ-ofZ, toZ-pos}
 use Rattle.exact.specs.Rounding.{round}
-use Rattle.model.specs.Interpolant.{interpolant}
-use Rattle.exact.proofs.Ring.{ring, terms}
-use Rattle.exact.proofs.Magnitude.{fits-size, size--, size-difference}
-use Rattle.model.specs.Points.{Segment, convex}
-use Rattle.point.specs.Inner.{segment-of}
-use Rattle.model.specs.Inner.{Neighbours}
-use Rattle.segment.specs.Inner.{raised-reading}
+use Rattle.exact.proofs.Magnitude.{fits-size, size-difference}
 use Rattle.exact.proofs.Signed.{natural}
-use Rattle.model.proofs.Segments.{e₀, e₁, g, a, b}
-use Rattle.segment.proofs.EndSlopes.{slope-read, e₀-size, e₁-size, g-size, left-is, chord-is, right-is}
-use Rattle.segment.proofs.Machine.{lowered}
+use Rattle.model.specs.Points.{slope-most, Segment, convex}
+use Rattle.model.specs.Interpolant.{interpolant}
+use Rattle.model.specs.Inner.{Neighbours}
+use Rattle.model.proofs.Segments.{a, b}
+use Rattle.point.specs.Inner.{segment-of}
+use Rattle.segment.proofs.Figures.{slope-read, a-fits, b-fits, left-is, chord-is, right-is, t, reading-fits}
+use Rattle.segment.proofs.ConvexReading.{Convex, convex-inside, raised-at}
 use Rattle.segment.proofs.Sizes.{raised-size}
-use Rattle.segment.proofs.Plain.{Convex, convex-inside, reading-fits}
 use Rattle.segment.proofs.convex_factor.Statement.{statement}
 use Rattle.segment.proofs.convex_factor.Tie as tie
 
 -- the segment, and what is known of the area in it
-abbrev at : tie.Start → Segment
-at c = segment-of (c .args .p) (c .args .q)
-
-facts : (c : tie.Start) → Convex (at c) (c .args .area)
-facts c = convex-inside (c .pre)
-
 module _ (c : tie.Start) where
-  abbrev ends : Neighbours (at c)
+  abbrev segment : Segment
+  segment = segment-of (c .args .p) (c .args .q)
+
+  abbrev ends : Neighbours segment
   ends = c .pre .good .ends
 
-  -- a = e₁ − g and b = g − e₀
-  a-fits : SFits w32 (a (at c))
-  a-fits = fits-size w32 (a (at c)) (omega (arith, size-- (e₁ (at c)) (g (at c)), e₁-size ends, g-size ends))
-
-  b-fits : SFits w32 (b (at c))
-  b-fits = fits-size w32 (b (at c)) (omega (arith, size-- (g (at c)) (e₀ (at c)), e₀-size ends, g-size ends))
+  facts : Convex segment (c .args .area)
+  facts = convex-inside (c .pre)
 
   -- the left slope, raised
-  d-fits : SFits w32 (c .args .p .slope +ℤ pos 10000)
-  d-fits = fits-size w32 (c .args .p .slope +ℤ pos 10000) (omega (arith, facts c .bending .raised-slope))
+  d-fits : SFits w32 (c .args .p .slope +ℤ pos slope-most)
+  d-fits = fits-size w32 (c .args .p .slope +ℤ pos slope-most) (omega (arith, facts .input .slope))
 
+-- the places
 abbrev entry : tie.After-slopes-of → tie.Start
 entry c = c .before .before .before .before .before
+
+abbrev at-above : tie.After-struct-told2 → tie.After-slopes-of
+at-above c = c .before .before .before .before .before
+
+abbrev at-below : tie.After-struct-told3 → tie.After-slopes-of
+at-below c = at-above (c .before .before)
+
+-- the distances of the end slopes from the chord
+module _ (c : tie.After-slopes-of) where
+  above-is : toZ w32 (ofZ w32 (c .slopes-of .result .right)) -ℤ toZ w32 (ofZ w32 (c .slopes-of .result .chord)) ≡ a (segment (entry c))
+  above-is = rw (right-is (ends (entry c)) (c .slopes-of .ensures), chord-is (ends (entry c)) (c .slopes-of .ensures))
+
+  below-is : toZ w32 (ofZ w32 (c .slopes-of .result .chord)) -ℤ toZ w32 (ofZ w32 (c .slopes-of .result .left)) ≡ b (segment (entry c))
+  below-is = rw (chord-is (ends (entry c)) (c .slopes-of .ensures), left-is (ends (entry c)) (c .slopes-of .ensures))
 
 add-d : tie.Need-add-d
 add-d c =
@@ -59,78 +63,71 @@ add-d c =
 cast-d : tie.Need-cast-d
 cast-d c =
     let s = entry (c .before .before) in
-    rw (slope-read (ends s .left), toZ-ofZ (d-fits s)) (natural tt (d-fits s) (facts s .raised-slope))
-
-abbrev at-a : tie.After-struct-told2 → tie.After-slopes-of
-at-a c = c .before .before .before .before .before
-
-a-is : (c : tie.After-slopes-of) → toZ w32 (ofZ w32 (c .slopes-of .result .right)) -ℤ toZ w32 (ofZ w32 (c .slopes-of .result .chord)) ≡ a (at (entry c))
-a-is c = let n = ends (entry c) in let k = c .slopes-of .ensures in rw (right-is n k, chord-is n k)
-
-b-is : (c : tie.After-slopes-of) → toZ w32 (ofZ w32 (c .slopes-of .result .chord)) -ℤ toZ w32 (ofZ w32 (c .slopes-of .result .left)) ≡ b (at (entry c))
-b-is c = let n = ends (entry c) in let k = c .slopes-of .ensures in rw (chord-is n k, left-is n k)
+    rw (slope-read (ends s .left), toZ-ofZ (d-fits s)) (natural tt (d-fits s) (facts s .slope))
 
 sub-raised : tie.Need-sub-raised
-sub-raised c = rw (a-is (at-a c)) (a-fits (entry (at-a c)))
+sub-raised c = rw (above-is (at-above c)) (a-fits (ends (entry (at-above c))))
 
 cast-raised-2 : tie.Need-cast-raised-2
 cast-raised-2 c =
-    let s = entry (at-a c) in
-    rw (a-is (at-a c), toZ-ofZ (a-fits s)) (natural tt (a-fits s) (facts s .right-over))
-
-abbrev at-b : tie.After-struct-told3 → tie.After-slopes-of
-at-b c = at-a (c .before .before)
+    let s = entry (at-above c) in
+    let f = a-fits (ends s) in
+    rw (above-is (at-above c), toZ-ofZ f) (natural tt f (facts s .above))
 
 sub-raised-2 : tie.Need-sub-raised-2
-sub-raised-2 c = rw (b-is (at-b c)) (b-fits (entry (at-b c)))
+sub-raised-2 c = rw (below-is (at-below c)) (b-fits (ends (entry (at-below c))))
 
 cast-raised-3 : tie.Need-cast-raised-3
 cast-raised-3 c =
-    let s = entry (at-b c) in
-    rw (b-is (at-b c), toZ-ofZ (b-fits s)) (natural tt (b-fits s) (facts s .left-over))
+    let s = entry (at-below c) in
+    let f = b-fits (ends s) in
+    rw (below-is (at-below c), toZ-ofZ f) (natural tt f (facts s .below))
 
 raised-requires : tie.Need-raised-requires
 raised-requires c κs =
-    let s = entry (at-b c) in
-    rw (a-is (at-b c), b-is (at-b c), toZ-ofZ (a-fits s), toZ-ofZ (b-fits s), slope-read (ends s .left), toZ-ofZ (d-fits s)) (facts s .bending)
+    let k = at-below c in
+    let s = entry k in
+    rw (above-is k, below-is k, toZ-ofZ (a-fits (ends s)), toZ-ofZ (b-fits (ends s)), slope-read (ends s .left), toZ-ofZ (d-fits s))
+    (facts s .input)
 
-wide : {n : ℕ} → n ≤ 100000000000 → toZ w64 n ≡ pos n
-wide h = toZ-pos w64 (omega arith)
-
--- the result of `raised`
+-- what is divided
 module _ (c : tie.After-raised) where
   abbrev start : tie.Start
-  start = entry (at-b (c .before))
+  start = entry (at-below (c .before))
 
-  abbrev t : ℕ
-  t = start .args .area - start .args .p .area
+  abbrev too-much : ℕ
+  too-much = slope-most * t (segment start) (start .args .area)
 
-  raised-is : c .raised .result / 100 ≡ raised-reading t (start .args .q .area - start .args .area) (start .args .q .area - start .args .p .area) (start .args .p .value) (natAbs (start .args .p .slope +ℤ pos 10000)) (natAbs (a (at start))) (natAbs (b (at start)))
+  raised-is : c .raised .result / 100 ≡ raised-at (segment start) (start .args .area) / 100
   raised-is =
-      let k = at-b (c .before) in
-      rw (a-is k, b-is k, toZ-ofZ (a-fits start), toZ-ofZ (b-fits start), slope-read (ends start .left), toZ-ofZ (d-fits start)) at (c .raised .ensures)
+      let k = at-below (c .before) in
+      let n = ends start in
+      rw (above-is k, below-is k, toZ-ofZ (a-fits n), toZ-ofZ (b-fits n), slope-read (n .left), toZ-ofZ (d-fits start))
+      at (c .raised .ensures)
 
-  small : c .raised .result ≤ 100000000000
-  small = omega (arith, raised-is, raised-size (facts start .bending))
+  raised-small : c .raised .result ≤ 2 ^ 38
+  raised-small = omega (arith, raised-is, raised-size (facts start .input))
 
-  raise-small : 10000 * t ≤ 100000000000
-  raise-small = omega (arith, facts start .bending)
+  too-much-small : too-much ≤ 2 ^ 38
+  too-much-small = omega (arith, facts start .input)
 
-  lowered-fits : SFits w64 (pos (c .raised .result) -ℤ pos (10000 * t))
-  lowered-fits = fits-size w64 _ (omega (arith, size-difference small raise-small))
+  lowered-fits : SFits w64 (pos (c .raised .result) -ℤ pos too-much)
+  lowered-fits = fits-size w64 _ (omega (arith, size-difference raised-small too-much-small))
 
-  -- what is divided
-  lowered-is : toZ w64 (c .raised .result) -ℤ toZ w64 (10000 * t) ≡ pos (c .raised .result) -ℤ pos (10000 * t)
-  lowered-is = ap₂ (λ (x y : ℤ). x -ℤ y) (wide small) (wide raise-small)
+  lowered-is : toZ w64 (c .raised .result) -ℤ toZ w64 too-much ≡ pos (c .raised .result) -ℤ pos too-much
+  lowered-is = ap₂ (λ x y. x -ℤ y) (wide raised-small) (wide too-much-small)
+    where
+      wide : {n : ℕ} → n ≤ 2 ^ 38 → toZ w64 n ≡ pos n
+      wide h = toZ-pos w64 (omega arith)
 
 cast-floor-div : tie.Need-cast-floor-div
-cast-floor-div c = record { sfits = omega (arith, small c) }
+cast-floor-div c = record { sfits = omega (arith, raised-small c) }
 
 mul-floor-div : tie.Need-mul-floor-div
-mul-floor-div c = omega (arith, raise-small c)
+mul-floor-div c = omega (arith, too-much-small c)
 
-cast-floor-div-2 : tie.Need-cast-floor-div-2
-cast-floor-div-2 c = record { sfits = omega (arith, raise-small c) }
+cast-floor-div-3 : tie.Need-cast-floor-div-3
+cast-floor-div-3 c = record { sfits = omega (arith, too-much-small c) }
 
 sub-floor-div : tie.Need-sub-floor-div
 sub-floor-div c = rw (lowered-is c) (lowered-fits c)
@@ -138,25 +135,23 @@ sub-floor-div c = rw (lowered-is c) (lowered-fits c)
 -- the result is the reading
 module _ (c : tie.After-floor-div) where
   abbrev reads : ℤ
-  reads = round (interpolant convex (at (start (c .before))) (start (c .before) .args .area))
+  reads = round (interpolant convex (segment (start (c .before))) (start (c .before) .args .area))
 
   read : toZ w64 (ofZ w64 (c .floor-div .result)) ≡ reads
   read =
-      let p = pos (100 * t (c .before)) in
-      let sum : pos (c .before .raised .result / 100) ≡ reads +ℤ p = ap pos (raised-is (c .before)) ∙ sym (facts (start (c .before)) .reading) in
-      toZ-ofZ (record { sfits = c .floor-div .ok }) ∙ (rw (lowered-is (c .before), toZ-ofZ (lowered-fits (c .before))) at (c .floor-div .ensures))
-      ∙ lowered (c .before .raised .result) (t (c .before)) ∙ rw sum (ring (reads ∷ p ∷ []) {a = reads +ℤ p -ℤ p} (search terms depth 20 fits 9999) tt)
-
-  read-fits : SFits w32 reads
-  read-fits = reading-fits (start (c .before) .pre)
+      toZ-ofZ (record { sfits = c .floor-div .ok })
+      ∙ (rw (lowered-is (c .before), toZ-ofZ (lowered-fits (c .before))) at (c .floor-div .ensures))
+      ∙ facts (start (c .before)) .reading (c .before .raised .result) (raised-is (c .before))
 
 cast-result : tie.Need-cast-result
-cast-result c = rw (read c) (read-fits c)
+cast-result c = rw (read c) (reading-fits (start (c .before) .pre))
 
 returns : tie.Need-returns
-returns c = rw (read c, toZ-ofZ (read-fits c))
+returns c = rw (read c, toZ-ofZ (reading-fits (start (c .before) .pre)))
 
 pub convex-factor-spec : {M : Type 1} → statement M
 convex-factor-spec =
     tie.close
-    (tie.spec (search needs) (search needs) (search needs) (search needs) (search needs) (search needs) (λ c κs. ends (c .before .before .before .before)) add-d cast-d (search needs) sub-raised cast-raised-2 sub-raised-2 cast-raised-3 raised-requires cast-floor-div mul-floor-div cast-floor-div-2 sub-floor-div (search needs) cast-result returns)
+    (tie.spec (search needs) (search needs) (search needs) (search needs) (search needs) (search needs)
+    (λ c κs. ends (c .before .before .before .before)) add-d cast-d (search needs) sub-raised cast-raised-2 sub-raised-2 cast-raised-3
+    raised-requires cast-floor-div (search needs) mul-floor-div cast-floor-div-3 sub-floor-div (search needs) cast-result returns)

@@ -13,7 +13,7 @@ use Rattle.exact.proofs.Bits.{zero-fits, le-is, eq-bits}
 use Rattle.model.specs.Points.{Segment, rising}
 use Rattle.model.specs.Shape.{has-shape}
 use Rattle.point.specs.Inner.{segment-of}
-use Rattle.segment.proofs.EndSlopes.{slope-fits, slope-read}
+use Rattle.segment.proofs.Figures.{slope-fits, slope-read}
 use Rattle.segment.proofs.Tests.{climbing-test, level-test, falling-test}
 use Rattle.segment.proofs.rises.Statement.{statement}
 use Rattle.segment.proofs.rises.Tie as tie

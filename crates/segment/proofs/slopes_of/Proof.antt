@@ -4,7 +4,7 @@ use borrow.Author.Needs.{needs}
 use mir.Facts.{toZ-ofZ}
 use Rattle.model.specs.Inner.{Neighbours}
 use Rattle.point.specs.Inner.{segment-of}
-use Rattle.segment.proofs.EndSlopes.{slope-read, gap-read, rise-read, rise-fits, e₀-fits, g-fits, e₁-fits}
+use Rattle.segment.proofs.Figures.{slope-read, gap-read, rise-read, rise-fits, e₀-fits, g-fits, e₁-fits}
 use Rattle.segment.proofs.slopes_of.Statement.{statement}
 use Rattle.segment.proofs.slopes_of.Tie as tie
 
