@@ -32,7 +32,7 @@ use Rattle.model.proofs.Curves.{bent, straight, bend-kind, bent-value, straight
 use Rattle.model.proofs.Segments.{gap, rise, distance, S, g, e₀, e₁, a, b, around, proper-gradient, gap-positive, S-positive, within}
 use Rattle.segment.specs.Inner.{Distances, raised, ConvexInput}
 use Rattle.segment.proofs.Figures.{slope-size, gap-is, a-size, b-size, t, u, h, from-left, from-right, from-both, whole-gap, distances}
-use Rattle.segment.proofs.Rounded.{round-twice, same-hundreds}
+use Rattle.segment.proofs.Rounded.{round-twice, lowered}
 
 module _ (s : Segment) where
   abbrev pub D : ℕ
@@ -52,8 +52,7 @@ pub record Convex (s : Segment) (x : ℕ) : Type 0 where
   pub above : a s ≡ pos (A s)
   pub below : b s ≡ pos (B s)
   pub input : ConvexInput (t s x) (u s x) (h s) (s .left .value) (D s) (A s) (B s)
-  pub reading : (r : ℕ) → r / 100 ≡ raised-at s x / 100 →
-      floorDiv (pos r -ℤ pos (10000 * t s x)) 100 ≡ round (interpolant convex s x)
+  pub reading : round (interpolant convex s x) ≡ pos (raised-at s x / 100) -ℤ pos (100 * t s x)
 
 -- ---- the end slopes and the chord
 
@@ -118,8 +117,8 @@ module _ {s : Segment} {x : ℕ} (i : Inside (Good convex) s x) where
   abbrev E : ℕ
   E = B s * t s x * (B s * t s x) / ((A s * u s x + B s * t s x) * h s)
 
-  lowered : tangent +ℤ pos E ≡ pos (raised-at s x) -ℤ pos (10000 * t s x)
-  lowered = rw slope-is at shift
+  raised-is : tangent +ℤ pos E ≡ pos (raised-at s x) -ℤ pos (10000 * t s x)
+  raised-is = rw slope-is at shift
     where
       shift : tangent +ℤ pos E ≡
           pos 50 *ℤ (pos 2 *ℤ pos (s .left .value) +ℤ pos 1) +ℤ (s .left .slope +ℤ pos slope-most) *ℤ pos (t s x) +ℤ pos E
@@ -141,7 +140,7 @@ module _ {s : Segment} {x : ℕ} (i : Inside (Good convex) s x) where
           above = a-size n;
           below = b-size n;
         };
-        reading = λ r k. same-hundreds r (raised-at s x) (t s x) k ∙ sym (e ∙ ap (λ z. floorDiv z 100) lowered);
+        reading = e ∙ ap (λ z. floorDiv z 100) raised-is ∙ lowered (raised-at s x) (t s x);
       }
 
   -- ---- the straight line

@@ -1,13 +1,13 @@
 -- A rounding by two divisions.
 --   round-twice     ⌊(x + ⌊y / w⌋) / m⌋ rounds v where v + 1/2 = (x w + y) / (w m)
---   same-hundreds   the last two digits of r do not matter to ⌊(r − 10,000 t) / 100⌋
+--   lowered         ⌊(r − 10,000 t) / 100⌋ is ⌊r / 100⌋ − 100 t
 -- Assumes nothing.
 use mathlib.Core.Path.{_≡_, sym, _∙_, ap}
 use mathlib.Core.List.{[], _∷_}
 use Prim.Native.Nat.{ℕ, _*_, _/_, _<_}
-use native.Mathlib.Nat.{mul-pos}
+use native.Mathlib.Nat.{mul-pos, div-one}
 use lib.Dec.{lit<}
-use lib.IntN.{ℤ, pos, negℤ, _+ℤ_, _-ℤ_, _*ℤ_}
+use lib.IntN.{ℤ, pos, negsuc, negℤ, _+ℤ_, _-ℤ_, _*ℤ_, +ℤ-comm}
 use lib.Signed.{_≤ℤ_}
 use Rattle.exact.specs.Fraction.{Fraction, Proper, _over_, _+ℚ_, _≈ℚ_}
 use Rattle.exact.specs.Rounding.{floorDiv, floor, half, round}
@@ -40,18 +40,19 @@ round-twice {v} {f} x y {w} {m} k pf hw hm e =
     floor-≈ (Q.proper-+ (k .proper) ph) pq (Q.≈-trans (Q.proper-+ pf ph) (Q.≈-+ (k .same) (Q.≈-refl half)) e)
     ∙ sym (floorDiv-nested x (pos y) hw hm)
 
--- r without its last two digits, and then without 10,000 t
-hundreds : (r t : ℕ) → floorDiv (pos r -ℤ pos (10000 * t)) 100 ≡ floorDiv (negℤ (pos (100 * t)) +ℤ pos (r / 100)) 1
+floorDiv-one : (z : ℤ) → floorDiv z 1 ≡ z
 unfolding floorDiv
-hundreds r t =
-    ap (λ z. floorDiv z 100) split ∙ sym (floorDiv-nested (negℤ (pos (100 * t))) (pos r) {w = 100} {m = 1} (lit< tt) (lit< tt))
-  where
-    split : pos r -ℤ pos (10000 * t) ≡ negℤ (pos (100 * t)) *ℤ pos 100 +ℤ pos r
-    split =
-        ring (pos r ∷ pos t ∷ []) {a = pos r -ℤ pos 10000 *ℤ pos t} {b = negℤ (pos 100 *ℤ pos t) *ℤ pos 100 +ℤ pos r}
-        (search terms depth 20 fits 9999) tt
+floorDiv-one (pos n) = ap pos (div-one n)
+floorDiv-one (negsuc n) = ap negsuc (div-one n)
 
-pub same-hundreds : (r n t : ℕ) → r / 100 ≡ n / 100 →
-    floorDiv (pos r -ℤ pos (10000 * t)) 100 ≡ floorDiv (pos n -ℤ pos (10000 * t)) 100
-same-hundreds r n t e =
-    hundreds r t ∙ ap (λ k. floorDiv (negℤ (pos (100 * t)) +ℤ pos k) 1) e ∙ sym (hundreds n t)
+pub lowered : (r t : ℕ) → floorDiv (pos r -ℤ pos (10000 * t)) 100 ≡ pos (r / 100) -ℤ pos (100 * t)
+unfolding floorDiv
+lowered r t =
+    ap (λ z. floorDiv z 100) split ∙ sym (floorDiv-nested less (pos r) {w = 100} {m = 1} (lit< tt) (lit< tt))
+    ∙ floorDiv-one (less +ℤ pos (r / 100)) ∙ +ℤ-comm less (pos (r / 100))
+  where
+    less : ℤ
+    less = negℤ (pos 100 *ℤ pos t)
+
+    split : pos r -ℤ pos 10000 *ℤ pos t ≡ less *ℤ pos 100 +ℤ pos r
+    split = ring (pos r ∷ pos t ∷ []) (search terms depth 20 fits 9999) tt

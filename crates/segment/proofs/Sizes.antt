@@ -26,19 +26,22 @@ module _ {t u g e : ℕ} (k : Weights t u g e) where
   pub part-size : part t u g e ≤ t * (gap-most * over-most)
   part-size = mul-le-mul-left t part-blend
 
-pub slope-size : {h d : ℕ} → h ≤ gap-most → d ≤ slope-most → h * d ≤ over-most
-slope-size k l = mul-le-mul k l
-
 module _ {t u left F D₀ D₁ : ℕ} (k : RisingInput t u left F D₀ D₁) where
+  pub left-over : (t + u) * D₀ ≤ over-most
+  left-over = mul-le-mul (k .distances .most) (k .left-slope)
+
+  pub right-over : (t + u) * D₁ ≤ over-most
+  right-over = mul-le-mul (k .distances .most) (k .right-slope)
+
   pub from-left : Weights t u (100 * F) ((t + u) * D₀)
   from-left =
-      let n = k .distances .most in
-      record { near = n; first = (let r = k .rise in omega arith); second = slope-size n (k .left-slope) }
+      let r = k .rise in
+      record { near = k .distances .most; first = omega arith; second = left-over }
 
   pub from-right : Weights u t (100 * F) ((t + u) * D₁)
   from-right =
-      let n = k .distances .most in
-      record { near = omega arith; first = (let r = k .rise in omega arith); second = slope-size n (k .right-slope) }
+      let r = k .rise in
+      record { near = (let m = k .distances .most in omega arith); first = omega arith; second = right-over }
 
   pub whole-size : whole-part t u F D₀ D₁ ≤ gap-most * (gap-most * over-most)
   whole-size =

@@ -115,7 +115,7 @@ fn convex_factor(p: Point, q: Point, area: u32) -> i32
         (e.right - e.chord) as u64,
         (e.chord - e.left) as u64,
     );
-    exact::floor_div((r as i64) - ((SLOPE_MOST as u64 * t) as i64), 100) as i32
+    (r / 100) as i32 - (100 * t) as i32
 }
 
 // The factor at an area of a segment that has its shape.

@@ -1,15 +1,15 @@
 -- `segment::convex_factor` meets its contract.
 -- Assumes nothing.
 use borrow.Author.Needs.{needs}
-use mathlib.Core.Path.{_≡_, _∙_, ap₂}
-use Prim.Native.Nat.{ℕ, _*_, _/_, _≤_, _^_}
+use mathlib.Core.Path.{_≡_, sym, _∙_, ap, ap₂}
+use Prim.Native.Nat.{_*_, _/_, _^_, _<_}
 use native.Mathlib.Omega.{arith}
-use lib.IntN.{ℤ, pos, _+ℤ_, _-ℤ_}
-use mir.Syntax.{w32, w64}
+use lib.IntN.{pos, _+ℤ_, _-ℤ_}
+use mir.Syntax.{w32}
 use mir.Val.{SFits, toZ, ofZ}
 use mir.Facts.{toZ-ofZ, toZ-pos}
 use Rattle.exact.specs.Rounding.{round}
-use Rattle.exact.proofs.Magnitude.{fits-size, size-difference}
+use Rattle.exact.proofs.Magnitude.{fits-size}
 use Rattle.exact.proofs.Signed.{natural}
 use Rattle.model.specs.Points.{slope-most, Segment, convex}
 use Rattle.model.specs.Interpolant.{interpolant}
@@ -90,13 +90,10 @@ raised-requires c κs =
     rw (above-is k, below-is k, toZ-ofZ (a-fits (ends s)), toZ-ofZ (b-fits (ends s)), slope-read (ends s .left), toZ-ofZ (d-fits s))
     (facts s .input)
 
--- what is divided
+-- the result is the reading
 module _ (c : tie.After-raised) where
   abbrev start : tie.Start
   start = entry (at-below (c .before))
-
-  abbrev too-much : ℕ
-  too-much = slope-most * t (segment start) (start .args .area)
 
   raised-is : c .raised .result / 100 ≡ raised-at (segment start) (start .args .area) / 100
   raised-is =
@@ -105,53 +102,27 @@ module _ (c : tie.After-raised) where
       rw (above-is k, below-is k, toZ-ofZ (a-fits n), toZ-ofZ (b-fits n), slope-read (n .left), toZ-ofZ (d-fits start))
       at (c .raised .ensures)
 
-  raised-small : c .raised .result ≤ 2 ^ 38
-  raised-small = omega (arith, raised-is, raised-size (facts start .input))
+  small : c .raised .result / 100 < 2 ^ 31
+  small = omega (arith, raised-is, raised-size (facts start .input))
 
-  too-much-small : too-much ≤ 2 ^ 38
-  too-much-small = omega (arith, facts start .input)
+  excess-small : 100 * t (segment start) (start .args .area) < 2 ^ 31
+  excess-small = omega (arith, facts start .input)
 
-  lowered-fits : SFits w64 (pos (c .raised .result) -ℤ pos too-much)
-  lowered-fits = fits-size w64 _ (omega (arith, size-difference raised-small too-much-small))
-
-  lowered-is : toZ w64 (c .raised .result) -ℤ toZ w64 too-much ≡ pos (c .raised .result) -ℤ pos too-much
-  lowered-is = ap₂ (λ x y. x -ℤ y) (wide raised-small) (wide too-much-small)
-    where
-      wide : {n : ℕ} → n ≤ 2 ^ 38 → toZ w64 n ≡ pos n
-      wide h = toZ-pos w64 (omega arith)
-
-cast-floor-div : tie.Need-cast-floor-div
-cast-floor-div c = record { sfits = omega (arith, raised-small c) }
-
-mul-floor-div : tie.Need-mul-floor-div
-mul-floor-div c = omega (arith, too-much-small c)
-
-cast-floor-div-3 : tie.Need-cast-floor-div-3
-cast-floor-div-3 c = record { sfits = omega (arith, too-much-small c) }
-
-sub-floor-div : tie.Need-sub-floor-div
-sub-floor-div c = rw (lowered-is c) (lowered-fits c)
-
--- the result is the reading
-module _ (c : tie.After-floor-div) where
-  abbrev reads : ℤ
-  reads = round (interpolant convex (segment (start (c .before))) (start (c .before) .args .area))
-
-  read : toZ w64 (ofZ w64 (c .floor-div .result)) ≡ reads
+  read : toZ w32 (c .raised .result / 100) -ℤ toZ w32 (100 * t (segment start) (start .args .area))
+      ≡ round (interpolant convex (segment start) (start .args .area))
   read =
-      toZ-ofZ (record { sfits = c .floor-div .ok })
-      ∙ (rw (lowered-is (c .before), toZ-ofZ (lowered-fits (c .before))) at (c .floor-div .ensures))
-      ∙ facts (start (c .before)) .reading (c .before .raised .result) (raised-is (c .before))
+      ap₂ (λ x y. x -ℤ y) (toZ-pos w32 small ∙ ap pos raised-is) (toZ-pos w32 excess-small)
+      ∙ sym (facts start .reading)
 
-cast-result : tie.Need-cast-result
-cast-result c = rw (read c) (reading-fits (start (c .before) .pre))
+sub-result : tie.Need-sub-result
+sub-result c = rw (read c) (reading-fits (start c .pre))
 
 returns : tie.Need-returns
-returns c = rw (read c, toZ-ofZ (reading-fits (start (c .before) .pre)))
+returns c = rw (read c, toZ-ofZ (reading-fits (start c .pre)))
 
 pub convex-factor-spec : {M : Type 1} → statement M
 convex-factor-spec =
     tie.close
     (tie.spec (search needs) (search needs) (search needs) (search needs) (search needs) (search needs)
     (λ c κs. ends (c .before .before .before .before)) add-d cast-d (search needs) sub-raised cast-raised-2 sub-raised-2 cast-raised-3
-    raised-requires cast-floor-div (search needs) mul-floor-div cast-floor-div-3 sub-floor-div (search needs) cast-result returns)
+    raised-requires (λ c. omega (arith, small c)) (λ c. omega (arith, excess-small c)) (λ c. omega (arith, excess-small c)) sub-result returns)
