@@ -11,6 +11,7 @@ use Prim.Native.Nat.{ℕ, _+_, _-_, _*_, _≤_}
 use native.Mathlib.Nat.{mul-le-mul}
 use native.Mathlib.Omega.{arith}
 use lib.IntN.{ℤ, pos, natAbs, _+ℤ_, _-ℤ_, _*ℤ_}
+use lib.Signed.{_≤ℤ_, yes-nonNeg, pos-natAbs}
 use mir.Syntax.{w32}
 use mir.Val.{SFits, toZ, ofZ}
 use mir.Facts.{toZ-ofZ, toZ-pos}
@@ -34,6 +35,9 @@ difference-pos {m} {n} k = rw (sum k) at (cancel n (m - n))
 
     cancel : (n d : ℕ) → pos (n + d) -ℤ pos n ≡ pos d
     cancel n d = ring (pos n ∷ pos d ∷ []) {a = pos n +ℤ pos d -ℤ pos n} (search terms depth 20 fits 9999) tt
+
+pub natural-is : {z : ℤ} → pos 0 ≤ℤ z → z ≡ pos (natAbs z)
+natural-is {z} k = sym (pos-natAbs z (yes-nonNeg k))
 
 -- ---- a point
 

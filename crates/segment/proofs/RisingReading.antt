@@ -3,19 +3,19 @@
 --   flat-inside     the reading where it does not
 --   F, D            the rise between the values, and the slope of a point, where they are not negative
 -- Assumes nothing.
-use mathlib.Core.Path.{_≡_, refl, sym, _∙_, ap}
+use mathlib.Core.Path.{_≡_, refl, _∙_, ap}
 use mathlib.Core.List.{[], _∷_}
-use mathlib.Core.Logic.{inl, inr}
-use Prim.Native.Nat.{ℕ, zero, suc, _+_, _-_, _*_, _/_, _≤_, _<_}
-use native.Mathlib.Nat.{add-assoc, mul-pos, eq-zero-or-pos, mul-add-div-right}
+use Prim.Native.Nat.{ℕ, _+_, _-_, _*_, _/_, _≤_, _<_}
+use native.Mathlib.Nat.{add-assoc, mul-add-div-right}
 use native.Mathlib.Omega.{arith}
 use lib.Dec.{lit<}
 use lib.IntN.{ℤ, pos, natAbs, _+ℤ_, _*ℤ_}
-use lib.Signed.{_<ℤ_, yes-nonNeg, pos-natAbs}
+use lib.Signed.{_<ℤ_}
 use Rattle.exact.specs.Fraction.{_over_, whole, _+ℚ_, _*ℚ_, _≈ℚ_}
 use Rattle.exact.specs.Rounding.{floorDiv, half, round}
 use Rattle.exact.proofs.Ring.{ring-ℕ, counts}
 use Rattle.exact.proofs.Order as Z
+use Rattle.exact.proofs.Order.{signs}
 use Rattle.exact.proofs.Field.{field, ratios}
 use Rattle.exact.proofs.Fractions as Q
 use Rattle.exact.proofs.Fractions.{NonNeg, propers}
@@ -25,12 +25,13 @@ use Rattle.model.specs.Interpolant as I
 use Rattle.model.specs.Interpolant.{interpolant}
 use Rattle.model.specs.Shape.{fits, has-shape}
 use Rattle.model.specs.Inner.{Good, Inside}
-use Rattle.model.proofs.ClosedForm.{Closed, A, B}
+use Rattle.model.proofs.ClosedForm.{Closed, A, B, B-positive}
 use Rattle.model.proofs.Inside.{rising-form}
 use Rattle.model.proofs.Curves.{climbs, flat, rise-kind, flat-value, rising-value}
-use Rattle.model.proofs.Segments.{gap, rise, distance, e₀, e₁, g, normal, proper-gradient, gap-positive, S-positive, within}
-use Rattle.segment.specs.Inner.{Distances, part, whole-part, RisingInput, rising-reading}
-use Rattle.segment.proofs.Figures.{difference-pos, slope-size, t, u, from-left, from-right, from-both, distances}
+use Rattle.model.proofs.Segments.{gap, rise, distance, e₀, e₁, g}
+use Rattle.model.proofs.Segments.{normal, proper-gradient, gap-positive, S-positive, within}
+use Rattle.segment.specs.Inner.{part, whole-part, RisingInput, rising-reading}
+use Rattle.segment.proofs.Figures.{difference-pos, natural-is, slope-size, t, u, from-left, from-right, from-both, distances}
 use Rattle.segment.proofs.Rounded.{round-twice}
 
 abbrev pub F : Segment → ℕ
@@ -47,19 +48,6 @@ pub record Rising (s : Segment) (x : ℕ) : Type 0 where
   pub reading : round (interpolant rising s x)
       ≡ pos (rising-reading (t s x) (u s x) (s .left .value) (F s) (D (s .left)) (D (s .right)))
 
--- ---- natural numbers
-
-part-positive : (t u G E : ℕ) → 0 < t → 0 < G → 0 < part t u G E
-part-positive t u G E k l = mul-pos k (let m = mul-pos l k in omega arith)
-
-whole-positive : {t u : ℕ} (F D₀ D₁ : ℕ) → Distances t u → 0 < F → 0 < whole-part t u F D₀ D₁
-whole-positive {t} {u} F D₀ D₁ d k =
-    let l = d .least in
-    elim (eq-zero-or-pos t) [
-      | inl z ↦ let m = part-positive u t (100 * F) ((t + u) * D₁) (omega arith) (omega arith) in omega arith
-      | inr p ↦ let m = part-positive t u (100 * F) ((t + u) * D₀) p (omega arith) in omega arith
-    ]
-
 -- B is A from the one end and A from the other
 two-parts : (t u G E₀ E₁ : ℕ) → G * (t * t + u * u) + (E₀ + E₁) * (t * u) ≡ part t u G E₀ + part u t G E₁
 two-parts t u G E₀ E₁ = ring-ℕ (t ∷ u ∷ G ∷ E₀ ∷ E₁ ∷ []) (search counts depth 20 fits 9999) tt
@@ -72,7 +60,7 @@ rising-half l f a b = field (l ∷ f ∷ a ∷ b ∷ []) (search ratios depth 20
 
 slope-is : (p : Point) → NonNeg (gradient p) → p .slope ≡ pos (D p)
 unfolding gradient _over_
-slope-is p k = sym (pos-natAbs (p .slope) (yes-nonNeg (k .sign)))
+slope-is p k = natural-is (k .sign)
 
 module _ {s : Segment} {x : ℕ}
     (i : Inside (Good rising) s x)
@@ -99,34 +87,38 @@ module _ {s : Segment} {x : ℕ}
   e₁-is : e₁ s ≡ pos ((t s x + u s x) * D (s .right))
   e₁-is = rw (from-both i, slope-is (s .right) k₁)
 
-  abbrev from-one : ℕ
-  from-one = part (t s x) (u s x) (100 * F s) ((t s x + u s x) * D (s .left))
+  abbrev part-at : ℕ
+  part-at = part (t s x) (u s x) (100 * F s) ((t s x + u s x) * D (s .left))
 
-  abbrev from-two : ℕ
-  from-two = whole-part (t s x) (u s x) (F s) (D (s .left)) (D (s .right))
+  abbrev whole-at : ℕ
+  whole-at = whole-part (t s x) (u s x) (F s) (D (s .left)) (D (s .right))
 
-  A-is : A (gap s) (distance s x) (e₀ s) (g s) ≡ pos from-one
+  A-is : A (gap s) (distance s x) (e₀ s) (g s) ≡ pos part-at
   A-is = rw (from-right i, from-left i, e₀-is, rise-is)
 
-  B-is : B (gap s) (distance s x) (e₀ s) (g s) (e₁ s) ≡ pos from-two
+  B-is : B (gap s) (distance s x) (e₀ s) (g s) (e₁ s) ≡ pos whole-at
   B-is = rw (from-right i, from-left i, e₀-is, e₁-is, rise-is) (ap pos (two-parts _ _ _ _ _))
 
-  same : Closed (interpolant rising s x) (whole (pos (s .left .value)) +ℚ whole (pos (F s)) *ℚ (pos from-one over pos from-two))
+  same : Closed (interpolant rising s x) (whole (pos (s .left .value)) +ℚ whole (pos (F s)) *ℚ (pos part-at over pos whole-at))
   same = rw (A-is, B-is, rise-is) at closed
 
-  positive : 0 < from-two
-  positive = whole-positive (F s) (D (s .left)) (D (s .right)) (distances i (i .good .ends)) (let k = up in omega arith)
+  positive : 0 < whole-at
+  positive =
+      let o = gap-positive s (i .good .ends .ordered) in
+      let in-gap = within s x (i .low) (i .high) in
+      Z.<-pos (rw B-is at (B-positive (gap s) (distance s x) {e₀ = e₀ s} {g = g s} {e₁ = e₁ s} o (in-gap .low) (in-gap .high)
+      (search signs) (rw e₀-is (Z.nonneg-pos _)) (rw e₁-is (Z.nonneg-pos _))))
 
   reading : round (interpolant rising s x)
       ≡ pos (rising-reading (t s x) (u s x) (s .left .value) (F s) (D (s .left)) (D (s .right)))
   unfolding floorDiv
   reading =
-      let b-pos : pos 0 <ℤ pos from-two = Z.pos-< positive in
-      round-twice (pos (s .left .value * from-two + from-one * F s)) from-two {w = 2} {m = from-two} same
+      let b-pos : pos 0 <ℤ pos whole-at = Z.pos-< positive in
+      round-twice (pos (s .left .value * whole-at + part-at * F s)) whole-at {w = 2} {m = whole-at} same
       (search propers) (lit< tt) positive
-      (rising-half (pos (s .left .value)) (pos (F s)) (pos from-one) (pos from-two))
-      ∙ ap pos (ap (λ n. n / from-two) (add-assoc (s .left .value * from-two) (from-one * F s) (from-two / 2))
-      ∙ mul-add-div-right positive (s .left .value) (from-one * F s + from-two / 2))
+      (rising-half (pos (s .left .value)) (pos (F s)) (pos part-at) (pos whole-at))
+      ∙ ap pos (ap (λ n. n / whole-at) (add-assoc (s .left .value * whole-at) (part-at * F s) (whole-at / 2))
+      ∙ mul-add-div-right positive (s .left .value) (part-at * F s + whole-at / 2))
 
   rising-facts : Rising s x
   rising-facts =

@@ -1,10 +1,10 @@
 -- A rounding by two divisions.
 --   round-twice     ⌊(x + ⌊y / w⌋) / m⌋ rounds v where v + 1/2 = (x w + y) / (w m)
---   lowered         ⌊(r − 10,000 t) / 100⌋ is ⌊r / 100⌋ − 100 t
+--   round-lowered   ⌊(n + ⌊y / w⌋) / 100⌋ − k does where v + 1/2 = ((n − 100 k) w + y) / (100 w)
 -- Assumes nothing.
 use mathlib.Core.Path.{_≡_, sym, _∙_, ap}
 use mathlib.Core.List.{[], _∷_}
-use Prim.Native.Nat.{ℕ, _*_, _/_, _<_}
+use Prim.Native.Nat.{ℕ, _+_, _/_, _<_}
 use native.Mathlib.Nat.{mul-pos, div-one}
 use lib.Dec.{lit<}
 use lib.IntN.{ℤ, pos, negsuc, negℤ, _+ℤ_, _-ℤ_, _*ℤ_, +ℤ-comm}
@@ -14,14 +14,15 @@ use Rattle.exact.specs.Rounding.{floorDiv, floor, half, round}
 use Rattle.exact.proofs.Ring.{ring, terms}
 use Rattle.exact.proofs.Order as Z
 use Rattle.exact.proofs.Fractions as Q
-use Rattle.exact.proofs.Fractions.{propers, positivity}
+use Rattle.exact.proofs.Fractions.{positivity}
 use Rattle.exact.proofs.Floor.{floor-greatest, floorDiv-nested}
 use Rattle.model.proofs.ClosedForm.{Closed}
 
 -- equal fractions have one floor
 floor-≤ : {x y : Fraction} → Proper x → Proper y → x ≈ℚ y → floor x ≤ℤ floor y
 floor-≤ {x} {y} px py e =
-    floor-greatest y py .greatest (floor x) (Q.≤-trans (Q.proper-whole (floor x)) px py (floor-greatest x px .not-above) (Q.≤-of-≈ e))
+    floor-greatest y py .greatest (floor x)
+    (Q.≤-trans (Q.proper-whole (floor x)) px py (floor-greatest x px .not-above) (Q.≤-of-≈ e))
 
 floor-≈ : {x y : Fraction} → Proper x → Proper y → x ≈ℚ y → floor x ≡ floor y
 floor-≈ px py e = Z.≤-antisym (floor-≤ px py e) (floor-≤ py px (Q.≈-sym e))
@@ -45,14 +46,18 @@ unfolding floorDiv
 floorDiv-one (pos n) = ap pos (div-one n)
 floorDiv-one (negsuc n) = ap negsuc (div-one n)
 
-pub lowered : (r t : ℕ) → floorDiv (pos r -ℤ pos (10000 * t)) 100 ≡ pos (r / 100) -ℤ pos (100 * t)
+-- the same in hundredths, where n is 100 k too much
+pub round-lowered : {v f : Fraction} (n k y : ℕ) {w : ℕ} →
+    Closed v f →
+    Proper f →
+    0 < w →
+    f +ℚ half ≈ℚ ((pos n -ℤ pos k *ℤ pos 100) *ℤ pos w +ℤ pos y) over (pos w *ℤ pos 100) →
+    round v ≡ pos ((n + y / w) / 100) -ℤ pos k
 unfolding floorDiv
-lowered r t =
-    ap (λ z. floorDiv z 100) split ∙ sym (floorDiv-nested less (pos r) {w = 100} {m = 1} (lit< tt) (lit< tt))
-    ∙ floorDiv-one (less +ℤ pos (r / 100)) ∙ +ℤ-comm less (pos (r / 100))
+round-lowered n k y {w} c pf hw e =
+    round-twice (pos n -ℤ pos k *ℤ pos 100) y c pf hw (lit< tt) e ∙ ap (λ z. floorDiv z 100) split
+    ∙ sym (floorDiv-nested (negℤ (pos k)) (pos (n + y / w)) {w = 100} {m = 1} (lit< tt) (lit< tt))
+    ∙ floorDiv-one (negℤ (pos k) +ℤ pos ((n + y / w) / 100)) ∙ +ℤ-comm (negℤ (pos k)) (pos ((n + y / w) / 100))
   where
-    less : ℤ
-    less = negℤ (pos 100 *ℤ pos t)
-
-    split : pos r -ℤ pos 10000 *ℤ pos t ≡ less *ℤ pos 100 +ℤ pos r
-    split = ring (pos r ∷ pos t ∷ []) (search terms depth 20 fits 9999) tt
+    split : pos n -ℤ pos k *ℤ pos 100 +ℤ pos (y / w) ≡ negℤ (pos k) *ℤ pos 100 +ℤ (pos n +ℤ pos (y / w))
+    split = ring (pos n ∷ pos k ∷ pos (y / w) ∷ []) (search terms depth 20 fits 9999) tt

@@ -10,7 +10,7 @@ use native.Mathlib.Nat.{mul-le-mul, mul-le-mul-left, mul-le-mul-right, le-mul-of
 use native.Mathlib.Omega.{arith}
 use lib.Ieee.Nearest.{div-mono}
 use Rattle.exact.proofs.Size.{scaled-size}
-use Rattle.model.specs.Points.{gap-most, value-most, slope-most}
+use Rattle.model.specs.Points.{gap-most, value-most}
 use Rattle.segment.specs.Inner.{over-most, part, Weights, whole-part, rising-reading, RisingInput, raised, ConvexInput}
 
 blend-size : (t u : ℕ) {g e m : ℕ} → t + u ≤ gap-most → g ≤ m → e ≤ m → g * t + e * u ≤ gap-most * m
@@ -51,7 +51,8 @@ module _ {t u left F D₀ D₁ : ℕ} (k : RisingInput t u left F D₀ D₁) whe
   pub share-size : part t u (100 * F) ((t + u) * D₀) * F + whole-part t u F D₀ D₁ / 2 ≤ 2 ^ 64 - 1 - value-most
   share-size =
       let n = whole-size in
-      omega (arith, mul-le-mul {n₁ = part t u (100 * F) ((t + u) * D₀)} {n₂ = gap-most * (gap-most * over-most)} (omega arith) (k .rise))
+      let A : ℕ = part t u (100 * F) ((t + u) * D₀) in
+      omega (arith, mul-le-mul {n₁ = A} {n₂ = gap-most * (gap-most * over-most)} (omega arith) (k .rise))
 
   pub rising-size : rising-reading t u left F D₀ D₁ ≤ 2 ^ 64 - 1
   rising-size =
@@ -80,8 +81,9 @@ module _ (w x y z : ℕ)
   leading-high =
       let rest : 73 * w + 961 ≤ z = omega arith in
       let square : w * w ≤ 1024 * (x * x) + 62 * w + 961 = omega (arith, mul-le-mul x-high x-high) in
-      omega
-      (arith, mul-le-mul-right z square, mul-le-mul-left (w * w) y-high, mul-le-mul-right w small, mul-le-mul-right z rest, mul-le-mul-right z y-low)
+      let k = mul-le-mul-left (w * w) y-high in
+      let l = mul-le-mul-right w small in
+      omega (arith, mul-le-mul-right z square, mul-le-mul-right z rest, mul-le-mul-right z y-low)
 
   leading : Near (w * w / z) (x * x / y)
   leading =

@@ -14,15 +14,14 @@ use lib.Signed.{leZ, ltZ}
 use mir.Syntax.{w32}
 use mir.Val.{toZ, ofZ}
 use Rattle.exact.specs.Fraction.{_over_, whole, leℚ, ltℚ, eqℚ}
-use Rattle.exact.specs.Inner.{eqZ}
 use Rattle.exact.proofs.Bits.{le-is, same-test, zero-fits, lt-bits, eq-bits}
 use Rattle.exact.proofs.Fractions.{T-true}
 use Rattle.exact.proofs.Order as Z
-use Rattle.model.specs.Points.{gradient, Point, Segment, rising, convex}
+use Rattle.model.specs.Points.{gradient, Segment, rising, convex}
 use Rattle.model.specs.Shape.{rises, bends, fits, has-shape}
 use Rattle.model.specs.Inner.{Neighbours}
 use Rattle.model.proofs.Curves.{climbs, flat, rise-kind}
-use Rattle.model.proofs.Segments.{gap, rise, e₀, g, e₁}
+use Rattle.model.proofs.Segments.{gap, rise, e₀, g}
 use Rattle.segment.specs.Inner.{SlopesOver}
 use Rattle.segment.specs.declared.Slopes.{Slopes}
 use Rattle.segment.proofs.Figures.{slope-fits, slope-read, e₀-fits, g-fits, e₁-fits}

@@ -50,15 +50,15 @@ pub record RisingInput (t u left F D₀ D₁ : ℕ) : Type 0 where
   pub right-slope : D₁ ≤ slope-most
   pub above-0 : 0 < whole-part t u F D₀ D₁
 
--- The left tangent with one half for the rounding, and above it w² / (W h), with w = b t and W = a u + b t. D is the left slope
+-- The left tangent with one half for the rounding, and above it w² / (W h), with w = b t and W = a u + b t. d is the left slope
 -- plus 10,000, so this is 10,000 t too much.
-abbrev pub raised : (t u h left D a b : ℕ) → ℕ
-raised t u h left D a b = 50 * (2 * left + 1) + D * t + b * t * (b * t) / ((a * u + b * t) * h)
+abbrev pub raised : (t u h left d a b : ℕ) → ℕ
+raised t u h left d a b = 50 * (2 * left + 1) + d * t + b * t * (b * t) / ((a * u + b * t) * h)
 
-pub record ConvexInput (t u h left D a b : ℕ) : Type 0 where
+pub record ConvexInput (t u h left d a b : ℕ) : Type 0 where
   pub distances : Distances t u
   pub whole : h ≡ t + u
   pub value : left ≤ value-most
-  pub slope : D ≤ 2 * slope-most
+  pub slope : d ≤ 2 * slope-most
   pub above : a ≤ 2 * over-most
   pub below : b ≤ 2 * over-most

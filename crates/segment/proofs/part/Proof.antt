@@ -9,4 +9,5 @@ use Rattle.segment.proofs.part.Tie as tie
 pub part-spec : {M : Type 1} → statement M
 part-spec =
     tie.close
-    (tie.spec (omega (arith, part-blend)) (omega (arith, part-blend)) (omega (arith, part-blend)) (λ c. omega (arith, part-size)) (search needs))
+    (tie.spec (omega (arith, part-blend)) (omega (arith, part-blend)) (omega (arith, part-blend)) (omega (arith, part-size))
+    (search needs))

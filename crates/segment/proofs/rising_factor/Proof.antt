@@ -20,14 +20,14 @@ use Rattle.segment.proofs.rising_factor.Tie as tie
 abbrev entry : tie.Else1 → tie.Start
 entry c = c .before .before .before
 
-abbrev at-rise : tie.After-struct-known9 → tie.Else1
-at-rise c = c .before .before .before .before .before .before
+abbrev at-rise : tie.After-struct-known8 → tie.Else1
+at-rise c = c .before .before .before .before .before
 
-abbrev at-left : tie.After-struct-told → tie.Else1
-at-left c = at-rise (c .before .before)
+abbrev at-d0 : tie.After-struct-told → tie.Else1
+at-d0 c = at-rise (c .before .before)
 
-abbrev at-right : tie.After-struct-told2 → tie.Else1
-at-right c = at-left (c .before .before)
+abbrev at-d1 : tie.After-struct-told2 → tie.Else1
+at-d1 c = at-d0 (c .before .before)
 
 abbrev segment : tie.Start → Segment
 segment c = segment-of (c .args .p) (c .args .q)
@@ -40,35 +40,32 @@ returns c =
     let i = c .before .before .before .before .pre in
     value-read (i .good .ends .left) ∙ sym (flat-inside i (c .before .if1 .taken))
 
-sub-rising : tie.Need-sub-rising
-sub-rising c = facts (at-rise c) .up
+cast-d0 : tie.Need-cast-d0
+cast-d0 c =
+    let l = entry (at-d0 c) .pre .good .ends .left in
+    rw (slope-read l) (natural tt (slope-fits l) (facts (at-d0 c) .left-slope))
 
-cast-rising-3 : tie.Need-cast-rising-3
-cast-rising-3 c =
-    let l = entry (at-left c) .pre .good .ends .left in
-    rw (slope-read l) (natural tt (slope-fits l) (facts (at-left c) .left-slope))
-
-cast-rising-4 : tie.Need-cast-rising-4
-cast-rising-4 c =
-    let r = entry (at-right c) .pre .good .ends .right in
-    rw (slope-read r) (natural tt (slope-fits r) (facts (at-right c) .right-slope))
+cast-d1 : tie.Need-cast-d1
+cast-d1 c =
+    let l = entry (at-d1 c) .pre .good .ends .right in
+    rw (slope-read l) (natural tt (slope-fits l) (facts (at-d1 c) .right-slope))
 
 rising-requires : tie.Need-rising-requires
 rising-requires c κs =
-    let i = entry (at-right c) .pre in
-    let n = i .good .ends in
-    rw (rest i, slope-read (n .left), slope-read (n .right)) (facts (at-right c) .input)
+    let k = at-d1 (c .before) in
+    let i = entry k .pre in
+    rw (rest i, slope-read (i .good .ends .left), slope-read (i .good .ends .right)) (facts k .input)
 
 -- the result is the reading
 module _ (c : tie.After-rising) where
   abbrev start : tie.Start
-  start = entry (at-right (c .before))
+  start = entry (at-d1 (c .before .before))
 
   read : pos (c .rising .result) ≡ round (interpolant rising (segment start) (start .args .area))
   read =
       let n = start .pre .good .ends in
       ap pos (rw (rest (start .pre), slope-read (n .left), slope-read (n .right)) at (c .rising .ensures))
-      ∙ sym (facts (at-right (c .before)) .reading)
+      ∙ sym (facts (at-d1 (c .before .before)) .reading)
 
   read-fits : SFits w32 (pos (c .rising .result))
   read-fits = subst⁻¹ (SFits w32) read (reading-fits (start .pre))
@@ -79,5 +76,5 @@ returns-2 c = toZ-pos w32 (read-fits c .sfits) ∙ read c
 pub rising-factor-spec : {M : Type 1} → statement M
 rising-factor-spec =
     tie.close
-    (tie.spec (search needs) returns (search needs) (search needs) (search needs) (search needs) (search needs) (search needs)
-    sub-rising (search needs) cast-rising-3 cast-rising-4 rising-requires read-fits returns-2)
+    (tie.spec (search needs) returns (search needs) (search needs) (search needs) (search needs) (search needs)
+    (λ c. facts (at-rise c) .up) (search needs) cast-d0 cast-d1 (search needs) rising-requires read-fits returns-2)
