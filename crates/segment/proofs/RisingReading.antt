@@ -1,0 +1,159 @@
+-- The reading of a rising segment, in the natural numbers that the code computes with.
+--   Rising          the arguments of `rising` and their reading, where the value changes; rising-inside
+--   flat-inside     the reading where it does not
+--   F, D            the rise between the values, and the slope of a point, where they are not negative
+-- Assumes nothing.
+use mathlib.Core.Path.{_≡_, refl, _∙_, ap}
+use mathlib.Core.List.{[], _∷_}
+use Prim.Native.Nat.{ℕ, _+_, _-_, _*_, _/_, _≤_, _<_}
+use native.Mathlib.Nat.{add-assoc, mul-add-div-right}
+use native.Mathlib.Omega.{arith}
+use lib.Dec.{lit<}
+use lib.IntN.{ℤ, pos, natAbs, _+ℤ_, _*ℤ_}
+use lib.Signed.{_<ℤ_}
+use Rattle.exact.specs.Fraction.{_over_, whole, _+ℚ_, _*ℚ_, _≈ℚ_}
+use Rattle.exact.specs.Rounding.{floorDiv, half, round}
+use Rattle.exact.proofs.Ring.{ring-ℕ, counts}
+use Rattle.exact.proofs.Order as Z
+use Rattle.exact.proofs.Order.{signs}
+use Rattle.exact.proofs.Field.{field, ratios}
+use Rattle.exact.proofs.Fractions as Q
+use Rattle.exact.proofs.Fractions.{NonNeg, propers}
+use Rattle.exact.proofs.Floor.{round-≈, round-whole}
+use Rattle.model.specs.Points.{Point, gradient, Segment, rising}
+use Rattle.model.specs.Interpolant as I
+use Rattle.model.specs.Interpolant.{interpolant}
+use Rattle.model.specs.Shape.{fits, has-shape}
+use Rattle.model.specs.Inner.{Good, Inside}
+use Rattle.model.proofs.ClosedForm.{Closed, A, B, B-positive}
+use Rattle.model.proofs.Inside.{rising-form}
+use Rattle.model.proofs.Curves.{climbs, flat, rise-kind, flat-value, rising-value}
+use Rattle.model.proofs.Segments.{gap, rise, distance, e₀, e₁, g}
+use Rattle.model.proofs.Segments.{normal, proper-gradient, gap-positive, S-positive, within}
+use Rattle.segment.specs.Inner.{part, whole-part, RisingInput, rising-reading}
+use Rattle.segment.proofs.Figures.{difference-pos, natural-is, slope-size, t, u, from-left, from-right, from-both, distances}
+use Rattle.segment.proofs.Rounded.{round-twice}
+
+abbrev pub F : Segment → ℕ
+F s = s .right .value - s .left .value
+
+abbrev pub D : Point → ℕ
+D p = natAbs (p .slope)
+
+pub record Rising (s : Segment) (x : ℕ) : Type 0 where
+  pub up : s .left .value ≤ s .right .value
+  pub left-slope : s .left .slope ≡ pos (D (s .left))
+  pub right-slope : s .right .slope ≡ pos (D (s .right))
+  pub input : RisingInput (t s x) (u s x) (s .left .value) (F s) (D (s .left)) (D (s .right))
+  pub reading : round (interpolant rising s x)
+      ≡ pos (rising-reading (t s x) (u s x) (s .left .value) (F s) (D (s .left)) (D (s .right)))
+
+-- B is A from the one end and A from the other
+two-parts : (t u G E₀ E₁ : ℕ) → G * (t * t + u * u) + (E₀ + E₁) * (t * u) ≡ part t u G E₀ + part u t G E₁
+two-parts t u G E₀ E₁ = ring-ℕ (t ∷ u ∷ G ∷ E₀ ∷ E₁ ∷ []) (search counts depth 20 fits 9999) tt
+
+-- the curve and one half, as one fraction
+rising-half : (l f a b : ℤ) → whole l +ℚ whole f *ℚ (a over b) +ℚ half ≈ℚ ((l *ℤ b +ℤ a *ℤ f) *ℤ pos 2 +ℤ b) over (pos 2 *ℤ b)
+rising-half l f a b = field (l ∷ f ∷ a ∷ b ∷ []) (search ratios depth 20 fits 9999) tt
+
+-- ---- where the value changes
+
+slope-is : (p : Point) → NonNeg (gradient p) → p .slope ≡ pos (D p)
+unfolding gradient _over_
+slope-is p k = natural-is (k .sign)
+
+module _ {s : Segment} {x : ℕ}
+    (i : Inside (Good rising) s x)
+    (climb : pos 0 <ℤ rise s)
+    (k₀ : NonNeg (gradient (s .left)))
+    (k₁ : NonNeg (gradient (s .right))) where
+  closed : Closed (interpolant rising s x)
+      (rising-form (gap s) (pos (s .left .value)) (pos (s .right .value)) (distance s x) (e₀ s) (g s) (e₁ s))
+  unfolding I.interpolant I.curve
+  closed =
+      let o = i .good .ends .ordered in
+      rising-value (normal s) (S-positive s o) (gap-positive s o) (proper-gradient (s .left)) (proper-gradient (s .right))
+      (distance s x) (within s x (i .low) (i .high)) climb k₀ k₁
+
+  up : s .left .value < s .right .value
+  up = Z.<-pos (Z.<-by (rise s) refl climb)
+
+  rise-is : rise s ≡ pos (F s)
+  rise-is = difference-pos (let k = up in omega arith)
+
+  e₀-is : e₀ s ≡ pos ((t s x + u s x) * D (s .left))
+  e₀-is = rw (from-both i, slope-is (s .left) k₀)
+
+  e₁-is : e₁ s ≡ pos ((t s x + u s x) * D (s .right))
+  e₁-is = rw (from-both i, slope-is (s .right) k₁)
+
+  abbrev part-at : ℕ
+  part-at = part (t s x) (u s x) (100 * F s) ((t s x + u s x) * D (s .left))
+
+  abbrev whole-at : ℕ
+  whole-at = whole-part (t s x) (u s x) (F s) (D (s .left)) (D (s .right))
+
+  A-is : A (gap s) (distance s x) (e₀ s) (g s) ≡ pos part-at
+  A-is = rw (from-right i, from-left i, e₀-is, rise-is)
+
+  B-is : B (gap s) (distance s x) (e₀ s) (g s) (e₁ s) ≡ pos whole-at
+  B-is = rw (from-right i, from-left i, e₀-is, e₁-is, rise-is) (ap pos (two-parts _ _ _ _ _))
+
+  same : Closed (interpolant rising s x) (whole (pos (s .left .value)) +ℚ whole (pos (F s)) *ℚ (pos part-at over pos whole-at))
+  same = rw (A-is, B-is, rise-is) at closed
+
+  positive : 0 < whole-at
+  positive =
+      let o = gap-positive s (i .good .ends .ordered) in
+      let in-gap = within s x (i .low) (i .high) in
+      Z.<-pos (rw B-is at (B-positive (gap s) (distance s x) {e₀ = e₀ s} {g = g s} {e₁ = e₁ s} o (in-gap .low) (in-gap .high)
+      (search signs) (rw e₀-is (Z.nonneg-pos _)) (rw e₁-is (Z.nonneg-pos _))))
+
+  reading : round (interpolant rising s x)
+      ≡ pos (rising-reading (t s x) (u s x) (s .left .value) (F s) (D (s .left)) (D (s .right)))
+  unfolding floorDiv
+  reading =
+      let b-pos : pos 0 <ℤ pos whole-at = Z.pos-< positive in
+      round-twice (pos (s .left .value * whole-at + part-at * F s)) whole-at {w = 2} {m = whole-at} same
+      (search propers) (lit< tt) positive
+      (rising-half (pos (s .left .value)) (pos (F s)) (pos part-at) (pos whole-at))
+      ∙ ap pos (ap (λ n. n / whole-at) (add-assoc (s .left .value * whole-at) (part-at * F s) (whole-at / 2))
+      ∙ mul-add-div-right positive (s .left .value) (part-at * F s + whole-at / 2))
+
+  rising-facts : Rising s x
+  rising-facts =
+      let n = i .good .ends in
+      let v = n .right .value in
+      record {
+        up = (let k = up in omega arith);
+        left-slope = slope-is (s .left) k₀;
+        right-slope = slope-is (s .right) k₁;
+        input = record {
+          distances = distances i n;
+          value = n .left .value;
+          rise = omega arith;
+          left-slope = slope-size (n .left);
+          right-slope = slope-size (n .right);
+          above-0 = positive;
+        };
+        reading = reading;
+      }
+
+-- ---- inside
+
+pub rising-inside : {s : Segment} {x : ℕ} → Inside (Good rising) s x → (s .right .value ≡ s .left .value → ⊥) → Rising s x
+unfolding has-shape fits
+rising-inside {s} i differ =
+    elim (rise-kind (gap s) (pos (s .left .value)) (pos (s .right .value)) (i .good .shaped)) [
+      | climbs f k₀ k₁ ↦ rising-facts i f k₀ k₁
+      | flat e ↦ absurd (differ (Z.pos-injective e))
+    ]
+
+pub flat-inside : {s : Segment} {x : ℕ} → Inside (Good rising) s x → s .right .value ≡ s .left .value →
+    round (interpolant rising s x) ≡ pos (s .left .value)
+unfolding I.interpolant I.curve
+flat-inside {s} {x} i e =
+    let o = i .good .ends .ordered in
+    let v = flat-value (normal s) (S-positive s o) (gap-positive s o) (proper-gradient (s .left)) (proper-gradient (s .right))
+    (distance s x) (ap pos e) in
+    round-≈ _ _ (v .proper) (Q.proper-whole (pos (s .left .value))) (v .same) ∙ round-whole (pos (s .left .value))
