@@ -19,7 +19,8 @@ use Rattle.exact.proofs.Order as Z
 use Rattle.exact.proofs.Order.{signs}
 use Rattle.exact.proofs.Field.{field, ratios}
 use Rattle.exact.proofs.Fractions as Q
-use Rattle.exact.proofs.Fractions.{T-true, Positive, NonNeg, propers, positivity}
+use Rattle.exact.proofs.Fractions.{Positive, NonNeg, propers, positivity}
+use Rattle.exact.proofs.Tests.{T-true}
 use Rattle.model.specs.Interpolant as I
 
 pub record Closed (v x : Fraction) : Type 0 where
@@ -176,7 +177,7 @@ module _ {h left right : ℤ} {d₀ d₁ : Fraction} {S e₀ g e₁ : ℤ} (n : 
   pub straight-value : (t : ℤ) → d₀ ≈ℚ (right -ℤ left) over h →
       Closed (I.convex-curve h left right t d₀ d₁) (whole left +ℚ (right -ℤ left) over h *ℚ whole t)
   unfolding I.convex-curve I.chord
-  straight-value t e = rw (Q.ltℚ-no (Q.≤-of-≈ (Q.≈-sym e))) (search (propers, Q.≈-refl))
+  straight-value t e = rw (Q.ltℚ-false-of-≤ (Q.≤-of-≈ (Q.≈-sym e))) (search (propers, Q.≈-refl))
 
 module _ {h left right : ℤ} {d₀ d₁ : Fraction} {S e₀ g e₁ t : ℤ} (c : Climbing h left right d₀ d₁ S e₀ g e₁) (i : In h t) where
   twice-B :
@@ -214,8 +215,8 @@ module _ {h t a b : ℤ} (h-positive : pos 0 <ℤ h) (i : In h t) (a-positive : 
 
   blend-positive : pos 0 <ℤ W h t a b
   blend-positive =
-      let a-least : pos 0 ≤ℤ (a -ℤ pos 1) = Z.≤-difference (Z.<-next a-positive) in
-      let b-least : pos 0 ≤ℤ (b -ℤ pos 1) = Z.≤-difference (Z.<-next b-positive) in
+      let a-least : pos 0 ≤ℤ (a -ℤ pos 1) = Z.nonneg-difference (Z.next-of-< a-positive) in
+      let b-least : pos 0 ≤ℤ (b -ℤ pos 1) = Z.nonneg-difference (Z.next-of-< b-positive) in
       Z.<-by _ W-by-h (search signs)
 
 module _ {h left right : ℤ} {d₀ d₁ : Fraction} {S a g b t : ℤ} (c : Bending h left right d₀ d₁ S a g b) (i : In h t) where
@@ -236,6 +237,6 @@ module _ {h left right : ℤ} {d₀ d₁ : Fraction} {S a g b t : ℤ} (c : Bend
   bent-value =
       let w = W-positive in
       let w' : pos 0 <ℤ W h t b a = search blend-positive in
-      rw (Q.ltℚ-true (c .left-below), Q.ltℚ-true (c .right-above))
+      rw (Q.ltℚ-true-of-< (c .left-below), Q.ltℚ-true-of-< (c .right-above))
       (closed-over (c .normal) t (search positivity) (search positivity) (search congruence)
       (Q.positive-≈ (search positivity depth 9) (search positivity) Q-bending (search positivity)) P-bending)

@@ -13,7 +13,7 @@ use lib.Dec.{T}
 use lib.IntN.{ℤ, pos, one, _-ℤ_, zero-*ℤ, *ℤ-one}
 use lib.Signed.{_<ℤ_}
 use Rattle.exact.specs.Fraction.{Fraction, Proper, _over_, whole, _≈ℚ_, _≤ℚ_, _<ℚ_, leℚ, ltℚ, eqℚ}
-use Rattle.exact.proofs.Integer.{difference}
+use Rattle.exact.proofs.Integer.{≡-of-difference}
 use Rattle.exact.proofs.Order as Z
 use Rattle.exact.proofs.Fractions as Q
 use Rattle.exact.proofs.Fractions.{NonNeg, propers}
@@ -46,12 +46,12 @@ rise-kind h left right {d₀} {d₁} t =
       | inl u ↦
           let (v, k₁) = and-yes (ltℚ 0ℚ F && leℚ 0ℚ d₀) (leℚ 0ℚ d₁) u in
           let (f, k₀) = and-yes (ltℚ 0ℚ F) (leℚ 0ℚ d₀) v in
-          climbs (Z.<-cancel (Z.nonneg-pos 1) (Q.ltℚ-yes f .cross))
-          (nonneg-of-≤ (Q.leℚ-yes k₀)) (nonneg-of-≤ (Q.leℚ-yes k₁))
+          climbs (Z.<-cancel (Z.nonneg-pos 1) (Q.<-of-ltℚ f .cross))
+          (nonneg-of-≤ (Q.≤-of-leℚ k₀)) (nonneg-of-≤ (Q.≤-of-leℚ k₁))
       | inr u ↦
           let (v, k₁) = and-yes (eqℚ F 0ℚ && eqℚ d₀ 0ℚ) (eqℚ d₁ 0ℚ) u in
           let (f, k₀) = and-yes (eqℚ F 0ℚ) (eqℚ d₀ 0ℚ) v in
-          flat (difference right left (Z.≡-cancel (Z.positive-lit tt) (Q.eqℚ-yes f .cross)))
+          flat (≡-of-difference right left (Z.≡-cancel (Z.positive-lit tt) (Q.≈-of-eqℚ f .cross)))
     ]
 
 pub bend-kind : (h F : ℤ) {d₀ d₁ : Fraction} → T (bends h F d₀ d₁) → Bend (F over h) d₀ d₁
@@ -59,8 +59,8 @@ unfolding bends
 bend-kind h F {d₀} {d₁} t =
     let c = F over h in
     elim (or-yes (ltℚ d₀ c && ltℚ c d₁) (eqℚ d₀ c && eqℚ c d₁) t) [
-      | inl u ↦ let (k₀, k₁) = and-yes (ltℚ d₀ c) (ltℚ c d₁) u in bent (Q.ltℚ-yes k₀) (Q.ltℚ-yes k₁)
-      | inr u ↦ let (k₀, k₁) = and-yes (eqℚ d₀ c) (eqℚ c d₁) u in straight (Q.eqℚ-yes k₀) (Q.eqℚ-yes k₁)
+      | inl u ↦ let (k₀, k₁) = and-yes (ltℚ d₀ c) (ltℚ c d₁) u in bent (Q.<-of-ltℚ k₀) (Q.<-of-ltℚ k₁)
+      | inr u ↦ let (k₀, k₁) = and-yes (eqℚ d₀ c) (eqℚ c d₁) u in straight (Q.≈-of-eqℚ k₀) (Q.≈-of-eqℚ k₁)
     ]
 
 -- ---- a curve v does what its closed form x does
@@ -123,8 +123,8 @@ module _ {h left right : ℤ} {d₀ d₁ : Fraction} {S e₀ g e₁ : ℤ} (n : 
       (λ t. convex-curve-slope h left right d₀ d₁ S (e₁ -ℤ g) g (g -ℤ e₀) t)
   unfolding convex-curve-slope
   convex-bends (straight k₀ k₁) =
-      rw (Q.ltℚ-no (Q.≤-of-≈ (Q.≈-sym k₀)))
+      rw (Q.ltℚ-false-of-≤ (Q.≤-of-≈ (Q.≈-sym k₀)))
       (bends-of-closed (λ t i. straight-value n t k₀) (straight-bends (n .h-positive) k₀ k₁))
   convex-bends (bent low high) =
       let c = bending-of-normal n low high in
-      rw (Q.ltℚ-true low, Q.ltℚ-true high) (bends-of-closed (λ t i. bent-value c i) (bending-bends c))
+      rw (Q.ltℚ-true-of-< low, Q.ltℚ-true-of-< high) (bends-of-closed (λ t i. bent-value c i) (bending-bends c))

@@ -16,7 +16,7 @@ use lib.ListN.{length, getD, length-map}
 use Rattle.model.specs.Points.{Point, Segment, segments}
 use Rattle.model.specs.Read.{last-area, outside}
 use Rattle.model.specs.Inner.{between, origin, point-at, segment-at, areas-of, Inside, Taken}
-use Rattle.model.proofs.TempTests.{or-left, or-right}
+use Rattle.exact.proofs.Tests.{or-left, or-right}
 use Rattle.model.proofs.Walk.{Chain, end, link, stop, chain-ordered, stop-inside}
 
 abbrev pub stop-in : List Point → ℕ → Segment

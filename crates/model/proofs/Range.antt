@@ -117,7 +117,7 @@ tangent-low {left} {D} {h} {t} l m n i =
 -- ---- segments
 
 gap-high : (s : Segment) → Neighbours s → gap s ≤ℤ pos gap-most
-gap-high s k = Z.≤-by _ spare (Z.≤-difference (Z.pos-≤ (k .near)))
+gap-high s k = Z.≤-by _ spare (Z.nonneg-difference (Z.pos-≤-of-≤ (k .near)))
   where
     spare : pos gap-most -ℤ gap s ≡ pos (s .left .area) +ℤ pos gap-most -ℤ pos (s .right .area)
     spare = ring (pos (s .left .area) ∷ pos (s .right .area) ∷ []) (search terms depth 20 fits 9999) tt
@@ -129,7 +129,7 @@ value-range {shape = rising} {s = s} r =
     let rises = segment-rises s (r .good) in
     record {
       low = rising-low rises (distance-in r) (record { le = tt });
-      high = rising-high rises (distance-in r) (Z.pos-≤ (r .good .ends .right .value));
+      high = rising-high rises (distance-in r) (Z.pos-≤-of-≤ (r .good .ends .right .value));
     }
 value-range {shape = convex} {s = s} r =
     let k = r .good .ends in
@@ -139,7 +139,7 @@ value-range {shape = convex} {s = s} r =
       low = Q.≤-trans (search propers) (search positivity) (bends .joins .proper i)
           (tangent-low (Z.nonneg-pos _) (k .left .slope-low) (gap-high s k) i)
           (not-below-tangent bends i (search positivity));
-      high = convex-high bends i (Z.pos-≤ (k .left .value)) (Z.pos-≤ (k .right .value));
+      high = convex-high bends i (Z.pos-≤-of-≤ (k .left .value)) (Z.pos-≤-of-≤ (k .right .value));
     }
 
 -- ---- readings

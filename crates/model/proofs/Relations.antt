@@ -42,7 +42,7 @@ rising-spreads =
     record {
       inside = λ {s} {x} {y} r r' h.
           segment-rises s (r .good) .order (distance-in r) (distance-in r')
-          (Z.≤-by (pos y -ℤ pos x) (distance-between s x y) (Z.≤-difference (Z.pos-≤ h)));
+          (Z.≤-by (pos y -ℤ pos x) (distance-between s x y) (Z.nonneg-difference (Z.pos-≤-of-≤ h)));
       join = λ r r'. Q.≤-of-≈ (values-meet (r .good) (r' .good));
       trans = λ r r' r''. Q.≤-trans (interpolant-proper r) (interpolant-proper r') (interpolant-proper r'');
     }
@@ -150,7 +150,7 @@ convex-spreads =
             leftwards = under-inside r' r;
             slopes = elim (compare-areas y x) [
               | inl (k, e) ↦ rw (le-antisymm h k) (Q.≤-of-≈ (Q.≈-refl (curve-slope s y)))
-              | inr (k, e) ↦ slopes-rise (line r) (line r') (Z.pos-< k) (under-inside r r') (under-inside r' r)
+              | inr (k, e) ↦ slopes-rise (line r) (line r') (Z.pos-<-of-< k) (under-inside r r') (under-inside r' r)
             ];
           };
       join = λ {q = q} r r'.
@@ -166,10 +166,10 @@ convex-spreads =
           let m = line r' in
           let n = line r'' in
           let same = opposites (m .σ) (n .σ) (l .x) (m .x) in
-          let turn = Q.nonneg-≈ (search propers) (search propers) same (search (positivity, Z.pos-≤)) in
+          let turn = Q.nonneg-≈ (search propers) (search propers) same (search (positivity, Z.pos-≤-of-≤)) in
           record {
             order = le-trans (h .order) (k .order);
-            rightwards = under-trans l m n (h .rightwards) (k .rightwards) (search (positivity, Z.pos-≤));
+            rightwards = under-trans l m n (h .rightwards) (k .rightwards) (search (positivity, Z.pos-≤-of-≤));
             leftwards = under-trans n m l (k .leftwards) (h .leftwards) turn;
             slopes = Q.≤-trans (l .σ-proper) (m .σ-proper) (n .σ-proper) (h .slopes) (k .slopes);
           };

@@ -77,7 +77,7 @@ module _ (s : Segment) where
   slope-at t = convex-curve-slope gap v₀ v₁ d₀ d₁ S a g b t
 
   pub gap-positive : s .left .area < s .right .area → pos 0 <ℤ gap
-  gap-positive h = Z.<-difference (Z.pos-< h)
+  gap-positive h = Z.positive-difference (Z.pos-<-of-< h)
 
   pub normal : s .left .area < s .right .area → Normal gap v₀ v₁ d₀ d₁ S e₀ g e₁
   unfolding gradient
@@ -107,7 +107,7 @@ module _ (s : Segment) where
 
 pub distance-in : {G : Segment → Type 0} {s : Segment} {x : ℕ} → Inside G s x → In (gap s) (distance s x)
 distance-in {s = s} {x = x} r =
-    record { low = Z.≤-difference (Z.pos-≤ (r .low)); high = rw to-right (Z.≤-difference (Z.pos-≤ (r .high))) }
+    record { low = Z.nonneg-difference (Z.pos-≤-of-≤ (r .low)); high = rw to-right (Z.nonneg-difference (Z.pos-≤-of-≤ (r .high))) }
   where
     to-right : gap s -ℤ distance s x ≡ pos (s .right .area) -ℤ pos x
     to-right = ring (pos (s .right .area) ∷ pos x ∷ pos (s .left .area) ∷ []) (search terms depth 20 fits 9999) tt

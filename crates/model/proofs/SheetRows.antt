@@ -10,13 +10,13 @@ use Prim.Native.Nat.{ℕ, zero, suc, _+_, _≤_, _<_, zero-le}
 use native.Mathlib.Nat.{zero-add}
 use native.Mathlib.Omega.{arith}
 use borrow.Author.Tests.{lt-ltb, le-ltb}
+use Rattle.exact.proofs.Tests.{compare}
 use Rattle.model.specs.Answer.{gives, row, _then_}
 use Rattle.model.specs.Points.{Point}
 use Rattle.model.specs.Read.{outside}
 use Rattle.model.specs.Sheet.{entry-area, entry-rows}
 use Rattle.model.specs.Inner.{first-answer}
 use Rattle.model.proofs.Rows.{row-passed, then-rest}
-use Rattle.model.proofs.Walk.{compare-areas}
 
 ≡-of-≤-< : (i r : ℕ) → i ≤ r → r < suc i → i ≡ r
 ≡-of-≤-< i r h k = omega arith
@@ -29,7 +29,7 @@ module _ (ps : List Point) (start step : ℕ) where
     unfolding entry-rows row _then_
     rows-from zero i e h = rw (le-ltb r n (omega arith))
     rows-from (suc m) i e h =
-        elim (compare-areas (suc i) r) [
+        elim (compare (suc i) r) [
           | inl (k, t) ↦ rw (before i k) (rows-from m (suc i) (omega arith) k)
           | inr (k, t) ↦ rw (≡-of-≤-< i r h k, first (omega arith), lt-ltb r n (omega arith))
         ]
@@ -42,7 +42,7 @@ module _ (ps : List Point) (start step : ℕ) where
   unfolding entry-rows
   rows-inside j zero i e low high = absurd (omega arith)
   rows-inside j (suc n) i e low high =
-      elim (compare-areas (suc j) i) [
+      elim (compare (suc j) i) [
         | inl (k, t) ↦
             rows-inside (suc j) n i (then-rest (row (outside ps (entry-area start step j)) 7 j) _ e) k (omega arith)
         | inr (k, t) ↦

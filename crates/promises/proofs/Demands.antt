@@ -13,7 +13,7 @@ use lib.Signed.{_≤ℤ_}
 use Rattle.exact.specs.Fraction.{whole, _+ℚ_, _-ℚ_, _≤ℚ_}
 use Rattle.exact.specs.Rounding.{half}
 use Rattle.exact.proofs.Order as Z
-use Rattle.exact.proofs.Fractions.{<-weak}
+use Rattle.exact.proofs.Fractions.{≤-of-<}
 use Rattle.model.specs.Answer.{Answer, gives, refused, row, _then_}
 use Rattle.model.specs.Points.{Point}
 use Rattle.model.specs.Check.{curve-rows, check-answer}
@@ -169,7 +169,7 @@ half-a-unit c x f r =
     let k = is r in
     let n = factors-are-near c x (k .area) in
     let near = rw (k .same) at n in
-    (values-are-proper c x (k .area), <-weak (near .0), near .1)
+    (values-are-proper c x (k .area), ≤-of-< (near .0), near .1)
 
 pub same-factor : D.SameFactor
 same-factor c x f g r s = sym (is r .same) ∙ is s .same

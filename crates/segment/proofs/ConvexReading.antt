@@ -32,7 +32,7 @@ use Rattle.model.proofs.Segments.{gap, rise, distance, S, g, e₀, e₁, a, b}
 use Rattle.model.proofs.Segments.{around, proper-gradient, gap-positive, S-positive, within}
 use Rattle.segment.specs.Inner.{raised, ConvexInput}
 use Rattle.segment.proofs.Figures.{natural-is, slope-size, gap-is, a-size, b-size}
-use Rattle.segment.proofs.Figures.{t, u, h, from-left, from-right, whole-gap, distances}
+use Rattle.segment.proofs.Figures.{t, u, h, from-left, from-right, h-is, distances}
 use Rattle.segment.proofs.Rounded.{round-lowered}
 
 module _ (s : Segment) where
@@ -60,11 +60,11 @@ pub record Convex (s : Segment) (x : ℕ) : Type 0 where
 module _ (s : Segment) where
   below-positive : gradient (s .left) <ℚ rise s over gap s → pos 0 <ℤ b s
   unfolding gradient _over_
-  below-positive k = Z.<-difference (rw (*ℤ-comm (s .left .slope) (gap s), *ℤ-comm (rise s) (pos 100)) at (k .cross))
+  below-positive k = Z.positive-difference (rw (*ℤ-comm (s .left .slope) (gap s), *ℤ-comm (rise s) (pos 100)) at (k .cross))
 
   above-positive : rise s over gap s <ℚ gradient (s .right) → pos 0 <ℤ a s
   unfolding gradient _over_
-  above-positive k = Z.<-difference (rw (*ℤ-comm (rise s) (pos 100), *ℤ-comm (s .right .slope) (gap s)) at (k .cross))
+  above-positive k = Z.positive-difference (rw (*ℤ-comm (rise s) (pos 100), *ℤ-comm (s .right .slope) (gap s)) at (k .cross))
 
   below-zero : gradient (s .left) ≈ℚ rise s over gap s → b s ≡ pos 0
   unfolding gradient _over_
@@ -76,17 +76,17 @@ module _ (s : Segment) where
 
 -- ---- the curve and one half, as one fraction
 
--- the left tangent in hundredths, raised, and lowered again
-abbrev tangent : (l d t : ℤ) → ℤ
-tangent l d t = pos 50 *ℤ (pos 2 *ℤ l +ℤ pos 1) +ℤ (d +ℤ pos slope-most) *ℤ t -ℤ pos 100 *ℤ t *ℤ pos 100
+-- 100 times the left tangent and 50, raised and lowered again
+abbrev tangent-hundredths : (l d t : ℤ) → ℤ
+tangent-hundredths l d t = pos 50 *ℤ (pos 2 *ℤ l +ℤ pos 1) +ℤ (d +ℤ pos slope-most) *ℤ t -ℤ pos 100 *ℤ t *ℤ pos 100
 
 straight-half : (l d t : ℤ) →
-    whole l +ℚ (d over pos 100) *ℚ whole t +ℚ half ≈ℚ (tangent l d t *ℤ pos 1 +ℤ pos 0) over (pos 1 *ℤ pos 100)
+    whole l +ℚ (d over pos 100) *ℚ whole t +ℚ half ≈ℚ (tangent-hundredths l d t *ℤ pos 1 +ℤ pos 0) over (pos 1 *ℤ pos 100)
 straight-half l d t = field (l ∷ d ∷ t ∷ []) (search ratios depth 20 fits 9999) tt
 
 bent-half : (l d t h W w : ℤ) →
     whole l +ℚ ((h *ℤ d *ℤ t) over (pos 100 *ℤ h)) +ℚ ((w *ℤ w) over (pos 100 *ℤ h *ℤ W)) +ℚ half
-    ≈ℚ (tangent l d t *ℤ (W *ℤ h) +ℤ w *ℤ w) over (W *ℤ h *ℤ pos 100)
+    ≈ℚ (tangent-hundredths l d t *ℤ (W *ℤ h) +ℤ w *ℤ w) over (W *ℤ h *ℤ pos 100)
 bent-half l d t h W w = field (l ∷ d ∷ t ∷ w ∷ h ∷ W ∷ []) (search ratios depth 20 fits 9999) tt
 
 -- ---- the reading
@@ -111,7 +111,7 @@ module _ {s : Segment} {x : ℕ} (i : Inside (Good convex) s x) where
         below-is = below-is;
         input = record {
           distances = distances i n;
-          whole = whole-gap i;
+          whole = h-is i;
           value = n .left .value;
           slope = omega (arith, size-+ (s .left .slope) (pos slope-most), slope-size (n .left));
           above = a-size n;
@@ -163,10 +163,10 @@ module _ {s : Segment} {x : ℕ} (i : Inside (Good convex) s x) where
         (distance s x) (within s x (i .low) (i .high)) low high .value
 
     above-is : a s ≡ pos (above s)
-    above-is = natural-is (Z.<-weak (above-positive s high))
+    above-is = natural-is (Z.≤-of-< (above-positive s high))
 
     below-is : b s ≡ pos (below s)
-    below-is = natural-is (Z.<-weak (below-positive s low))
+    below-is = natural-is (Z.≤-of-< (below-positive s low))
 
     abbrev w : ℕ
     w = below s * t s x
@@ -190,16 +190,16 @@ module _ {s : Segment} {x : ℕ} (i : Inside (Good convex) s x) where
 
     divisor-positive : 0 < divisor
     divisor-positive =
-        let k : 0 < above s = Z.<-pos (rw above-is at (above-positive s high)) in
-        let l : 0 < below s = Z.<-pos (rw below-is at (below-positive s low)) in
+        let k : 0 < above s = Z.<-of-pos-< (rw above-is at (above-positive s high)) in
+        let l : 0 < below s = Z.<-of-pos-< (rw below-is at (below-positive s low)) in
         let d = distances i (i .good .ends) in
         omega (arith, le-mul-of-pos-right (u s x) k, le-mul-of-pos-right (t s x) l)
 
     bent-reads : Reads
     bent-reads =
         let k : 0 < h s = (let o = i .good .ends .ordered in omega arith) in
-        let h-pos : pos 0 <ℤ pos (h s) = Z.pos-< k in
-        let W-pos : pos 0 <ℤ pos divisor = Z.pos-< divisor-positive in
+        let h-pos : pos 0 <ℤ pos (h s) = Z.pos-<-of-< k in
+        let W-pos : pos 0 <ℤ pos divisor = Z.pos-<-of-< divisor-positive in
         round-lowered raised-tangent (100 * t s x) (w * w) {w = divisor * h s} over-tangent (search (propers, signs) depth 9)
         (mul-pos divisor-positive k)
         (rw slope-is at (bent-half (pos (s .left .value)) (s .left .slope) (pos (t s x)) (pos (h s)) (pos divisor) (pos w)))

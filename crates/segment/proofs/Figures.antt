@@ -1,9 +1,9 @@
 -- The figures of a segment within its limits, in machine numbers.
 --   slope-fits, slope-read, value-read   a point's figures in 32 bits
---   gap-read, rise-read                  the differences, as the code computes them
---   e₀-fits, g-fits, e₁-fits             the slopes over 100 h; a-fits, b-fits, their distances from the chord
---   left-is, chord-is, right-is          what `slopes_of` gives
+--   gap-read, rise-read, u-read          differences, as the code computes them
+--   e₀-fits, g-fits, e₁-fits             the slopes over 100 h; a-fits, b-fits, a-read, b-read, their distances from the chord
 --   t, u, h                              the distances of an area from the two ends, and their sum
+--   reading-fits                         the reading in 32 bits
 -- Assumes nothing.
 use mathlib.Core.Path.{_≡_, sym, _∙_, ap, ap₂}
 use mathlib.Core.List.{[], _∷_}
@@ -17,7 +17,7 @@ use mir.Val.{SFits, toZ, ofZ}
 use mir.Facts.{toZ-ofZ, toZ-pos}
 use Rattle.exact.specs.Rounding.{round}
 use Rattle.exact.proofs.Ring.{ring, terms}
-use Rattle.exact.proofs.Magnitude.{size-between, size--, size-*, size-difference, fits-size}
+use Rattle.exact.proofs.Magnitude.{size-between, size--, size-*, size-difference, sfits-of-size}
 use Rattle.model.specs.Points.{gap-most, value-most, slope-most, Point, Segment, Shape}
 use Rattle.model.specs.Inner.{Limits, Neighbours, Good, Inside}
 use Rattle.model.specs.Interpolant.{interpolant}
@@ -46,7 +46,7 @@ module _ {p : Point} (l : Limits p) where
   slope-size = size-between (p .slope) (l .slope-low) (l .slope-high)
 
   pub slope-fits : SFits w32 (p .slope)
-  slope-fits = fits-size w32 (p .slope) (omega (arith, slope-size))
+  slope-fits = sfits-of-size w32 (p .slope) (omega (arith, slope-size))
 
   pub slope-read : toZ w32 (ofZ w32 (p .slope)) ≡ p .slope
   slope-read = toZ-ofZ slope-fits
@@ -56,14 +56,17 @@ module _ {p : Point} (l : Limits p) where
 
 -- ---- a segment
 
+abbrev pub h : Segment → ℕ
+h s = s .right .area - s .left .area
+
 over-fits : (z : ℤ) → natAbs z ≤ 2 * over-most → SFits w32 z
-over-fits z k = fits-size w32 z (omega arith)
+over-fits z k = sfits-of-size w32 z (omega arith)
 
 module _ {s : Segment} (n : Neighbours s) where
-  pub gap-is : gap s ≡ pos (s .right .area - s .left .area)
+  pub gap-is : gap s ≡ pos (h s)
   gap-is = difference-pos (let k = n .ordered in omega arith)
 
-  pub gap-read : toZ w32 (s .right .area - s .left .area) ≡ gap s
+  pub gap-read : toZ w32 (h s) ≡ gap s
   gap-read = toZ-pos w32 (let k = n .near in omega arith) ∙ sym gap-is
 
   rise-size : natAbs (rise s) ≤ value-most
@@ -106,15 +109,13 @@ module _ {s : Segment} (n : Neighbours s) where
   pub b-fits : SFits w32 (b s)
   b-fits = over-fits (b s) b-size
 
+  -- a and b, from what `slopes_of` gives
   module _ {e : Slopes} (k : SlopesOver s e) where
-    pub left-is : toZ w32 (ofZ w32 (e .left)) ≡ e₀ s
-    left-is = rw (k .left) (toZ-ofZ e₀-fits)
+    pub a-read : toZ w32 (ofZ w32 (e .right)) -ℤ toZ w32 (ofZ w32 (e .chord)) ≡ a s
+    a-read = rw (k .right, k .chord, toZ-ofZ e₁-fits, toZ-ofZ g-fits)
 
-    pub chord-is : toZ w32 (ofZ w32 (e .chord)) ≡ g s
-    chord-is = rw (k .chord) (toZ-ofZ g-fits)
-
-    pub right-is : toZ w32 (ofZ w32 (e .right)) ≡ e₁ s
-    right-is = rw (k .right) (toZ-ofZ e₁-fits)
+    pub b-read : toZ w32 (ofZ w32 (e .chord)) -ℤ toZ w32 (ofZ w32 (e .left)) ≡ b s
+    b-read = rw (k .chord, k .left, toZ-ofZ g-fits, toZ-ofZ e₀-fits)
 
 -- ---- an area inside
 
@@ -123,9 +124,6 @@ t s x = x - s .left .area
 
 abbrev pub u : Segment → ℕ → ℕ
 u s x = s .right .area - x
-
-abbrev pub h : Segment → ℕ
-h s = s .right .area - s .left .area
 
 module _ {G : Segment → Type 0} {s : Segment} {x : ℕ} (i : Inside G s x) where
   pub from-left : distance s x ≡ pos (t s x)
@@ -137,21 +135,17 @@ module _ {G : Segment → Type 0} {s : Segment} {x : ℕ} (i : Inside G s x) whe
       ends-difference : gap s -ℤ distance s x ≡ pos (s .right .area) -ℤ pos x
       ends-difference = ring (pos (s .right .area) ∷ pos (s .left .area) ∷ pos x ∷ []) (search terms depth 20 fits 9999) tt
 
-  pub whole-gap : h s ≡ t s x + u s x
-  whole-gap = let l = i .low in let r = i .high in omega arith
+  pub h-is : h s ≡ t s x + u s x
+  h-is = let l = i .low in let r = i .high in omega arith
 
-  -- u, as the code computes it
-  pub rest : h s - t s x ≡ u s x
-  rest = let l = i .low in let r = i .high in omega arith
-
-  pub from-both : gap s ≡ pos (t s x + u s x)
-  from-both = difference-pos (let l = i .low in let r = i .high in omega arith) ∙ ap pos whole-gap
+  pub u-read : h s - t s x ≡ u s x
+  u-read = let l = i .low in let r = i .high in omega arith
 
   pub distances : Neighbours s → Distances (t s x) (u s x)
   distances n =
       let k = n .near in
       let l = n .ordered in
-      let w = whole-gap in
+      let e = h-is in
       record { most = omega arith; least = omega arith }
 
 -- the reading fits 32 bits
@@ -160,4 +154,4 @@ reading-fits {shape} {s} {x} i =
     let v = interpolant shape s x in
     let p = interpolant-proper shape s (i .good) x (i .low) (i .high) in
     let r = value-range shape s x i in
-    fits-size w32 (round v) (omega (arith, size-between {n = 200000} (round v) (reading-low v p r) (reading-high v p r)))
+    sfits-of-size w32 (round v) (omega (arith, size-between {n = 200000} (round v) (reading-low v p r) (reading-high v p r)))

@@ -1,20 +1,3 @@
-<<<<<<< HEAD
--- The reading of a segment and its shape, in plain numbers. Nothing here need be believed: contracts above cite the definitions of
--- document 01.
--- Assumes nothing.
-use mathlib.Core.Path.{_≡_}
-use Prim.Native.Nat.{ℕ, _+_, _*_, _/_, _≤_, _<_}
-use lib.IntN.{ℤ, pos, _*ℤ_, _-ℤ_}
-use Rattle.model.specs.Points.{Segment}
-use Rattle.segment.specs.declared.Slopes.{Slopes}
-
--- the distances t and u of an area from the ends of a segment
-pub record Ends (t u : ℕ) : Type 0 where
-  pub most : t + u ≤ 2000
-  pub least : 0 < t + u
-
--- A of the rising curve, from the left end; C is A from the right end, and B = A + C
-=======
 -- What contracts of inner functions cite: one segment in plain numbers. Nothing here need be believed: the calls' contracts cite
 -- the definitions of document 01.
 --   Distances        t and u, of an area from the two ends of a segment
@@ -43,23 +26,15 @@ pub record Distances (t u : ℕ) : Type 0 where
   pub most : t + u ≤ gap-most
   pub least : 0 < t + u
 
->>>>>>> 15b198fcbb3353cec032ab0b19e88e49da075941
 abbrev pub part : (t u G E : ℕ) → ℕ
 part t u G E = t * (G * t + E * u)
 
 pub record Weights (t u G E : ℕ) : Type 0 where
-<<<<<<< HEAD
-  pub ends : Ends t u
-  pub first : G ≤ 20000000
-  pub second : E ≤ 20000000
-
-=======
   pub near : t + u ≤ gap-most
   pub first : G ≤ over-most
   pub second : E ≤ over-most
 
 -- A from the left end and A from the right end
->>>>>>> 15b198fcbb3353cec032ab0b19e88e49da075941
 abbrev pub whole-part : (t u F D₀ D₁ : ℕ) → ℕ
 whole-part t u F D₀ D₁ = part t u (100 * F) ((t + u) * D₀) + part u t (100 * F) ((t + u) * D₁)
 
@@ -68,35 +43,6 @@ rising-reading t u left F D₀ D₁ =
     left + (part t u (100 * F) ((t + u) * D₀) * F + whole-part t u F D₀ D₁ / 2) / whole-part t u F D₀ D₁
 
 pub record RisingInput (t u left F D₀ D₁ : ℕ) : Type 0 where
-<<<<<<< HEAD
-  pub ends : Ends t u
-  pub left-value : left ≤ 200000
-  pub rise : F ≤ 200000
-  pub left-slope : D₀ ≤ 10000
-  pub right-slope : D₁ ≤ 10000
-  pub above-0 : 0 < whole-part t u F D₀ D₁
-
--- The convex curve plus 100 t: its left tangent, and above that w² / (W h) hundredths, with w = b t and W = a u + b t. D is the
--- left slope plus 10000.
-abbrev pub raised-reading : (t u h left D a b : ℕ) → ℕ
-raised-reading t u h left D a b = (50 * (2 * left + 1) + D * t + b * t * (b * t) / ((a * u + b * t) * h)) / 100
-
-pub record ConvexInput (t u h left D a b : ℕ) : Type 0 where
-  pub from-left : t ≤ h
-  pub from-right : u ≤ h
-  pub short : h ≤ 2000
-  pub least : 0 < h
-  pub left-value : left ≤ 200000
-  pub raised-slope : D ≤ 20000
-  pub right-over : a ≤ 40000000
-  pub left-over : b ≤ 40000000
-
--- the slopes of a segment over the denominator 100 h
-pub record SlopesOver (s : Segment) (e : Slopes) : Type 0 where
-  pub left : e .left ≡ (pos (s .right .area) -ℤ pos (s .left .area)) *ℤ s .left .slope
-  pub chord : e .chord ≡ pos 100 *ℤ (pos (s .right .value) -ℤ pos (s .left .value))
-  pub right : e .right ≡ (pos (s .right .area) -ℤ pos (s .left .area)) *ℤ s .right .slope
-=======
   pub distances : Distances t u
   pub value : left ≤ value-most
   pub rise : F ≤ value-most
@@ -116,4 +62,3 @@ pub record ConvexInput (t u h left d a b : ℕ) : Type 0 where
   pub slope : d ≤ 2 * slope-most
   pub above : a ≤ 2 * over-most
   pub below : b ≤ 2 * over-most
->>>>>>> 15b198fcbb3353cec032ab0b19e88e49da075941

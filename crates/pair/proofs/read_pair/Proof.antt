@@ -11,13 +11,13 @@ use lib.ListN.{length}
 use mir.Syntax.{w32}
 use mir.Val.{SFits, toZ, ofZ}
 use mir.Facts.{toZ-ofZ}
-use Rattle.exact.proofs.Magnitude.{size-between, size--, fits-size}
+use Rattle.exact.proofs.Magnitude.{size-between, size--, sfits-of-size}
 use Rattle.model.specs.Answer.{Answer, gives, refused, row, _then_}
 use Rattle.model.specs.Points.{Point, points}
 use Rattle.model.specs.Check.{lengths-differ, curve-rows, on-lists}
 use Rattle.model.specs.Read.{outside, reading, read-answer}
 use Rattle.model.proofs.Answers.{Given, given, on-lists-is, on-lists-gives, on-lists-refused, refused-outside, refused-before}
-use Rattle.curve.specs.Calls.{reading-answer, Ranged}
+use Rattle.curve.specs.Calls.{reading-answer, InRange}
 use Rattle.pair.specs.Pair.{pair-answer, factors}
 use Rattle.pair.specs.Calls.{factors-answer}
 use Rattle.pair.proofs.read_pair.Statement.{statement}
@@ -30,8 +30,8 @@ record Read (areas values : List ℕ) (slopes : List ℤ) (code x : ℕ) (f : �
   pub small : natAbs f ≤ 200000
 
 read-of : (areas values : List ℕ) (slopes : List ℤ) (code x : ℕ) (f : ℤ) →
-    on-lists areas values slopes (λ ps. read-answer ps code x) ≡ gives f → Ranged (gives f) → Read areas values slopes code x f
-unfolding Ranged
+    on-lists areas values slopes (λ ps. read-answer ps code x) ≡ gives f → InRange (gives f) → Read areas values slopes code x f
+unfolding InRange
 read-of areas values slopes code x f e r =
     let k = on-lists-gives areas values slopes (λ ps. read-answer ps code x) e in
     record { given = given _ code x (k .result); same-lengths = k .same-lengths; small = size-between f (r .0) (r .1) }
@@ -41,11 +41,11 @@ module _ {areas values : List ℕ} {slopes : List ℤ} {code x : ℕ} {f : ℤ} 
   on-points call = on-lists-is areas values slopes call (k .same-lengths)
 
   factor-bits : toZ w32 (ofZ w32 f) ≡ f
-  factor-bits = toZ-ofZ (fits-size w32 f (let h = k .small in omega arith))
+  factor-bits = toZ-ofZ (sfits-of-size w32 f (let h = k .small in omega arith))
 
   -- the difference of two factors fits 32 bits
   difference-fits : {y : ℕ} {p : ℤ} → Read areas values slopes code y p → SFits w32 (p -ℤ f)
-  difference-fits {p = p} m = fits-size w32 (p -ℤ f) (omega (arith, size-- p f, k .small, m .small))
+  difference-fits {p = p} m = sfits-of-size w32 (p -ℤ f) (omega (arith, size-- p f, k .small, m .small))
 
 abbrev start : tie.After-known-told2 → tie.Start
 start c = c .before .before .before .before .before .before
@@ -61,14 +61,14 @@ unfolding reading-answer
 at-form c =
     let r = c .before .before .before .read .ensures in
     let e = ap reading-answer (c .before .at-form2 .given .1) in
-    read-of _ _ _ _ _ _ (sym (r .0) ∙ e) (subst Ranged e (r .1))
+    read-of _ _ _ _ _ _ (sym (r .0) ∙ e) (subst InRange e (r .1))
 
 at-plan : (c : tie.After-known-told4) → ReadAt (start (formed c)) (start (formed c) .args .plan) (c .before .at-plan2 .given .0 .0)
 unfolding reading-answer
 at-plan c =
     let r = c .before .before .before .read2 .ensures in
     let e = ap reading-answer (c .before .at-plan2 .given .1) in
-    read-of _ _ _ _ _ _ (sym (r .0) ∙ e) (subst Ranged e (r .1))
+    read-of _ _ _ _ _ _ (sym (r .0) ∙ e) (subst InRange e (r .1))
 
 -- rows that refuse the form area refuse the pair
 form-refused : (ps : List Point) (code form plan : ℕ) {n i : ℕ} → read-answer ps code form ≡ refused n i →

@@ -1,11 +1,5 @@
 -- `segment::has_shape` meets its contract.
 -- Assumes nothing.
-<<<<<<< HEAD
-use mathlib.Core.Path.{_∙_, sym, ap}
-use Rattle.model.specs.Points.{Shape}
-use Rattle.model.specs.Shape.{has-shape}
-=======
->>>>>>> 15b198fcbb3353cec032ab0b19e88e49da075941
 use Rattle.model.proofs.Codes.{is-rising, is-convex}
 use Rattle.segment.proofs.has_shape.Statement.{statement}
 use Rattle.segment.proofs.has_shape.Tie as tie
