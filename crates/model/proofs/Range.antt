@@ -32,21 +32,17 @@ pub record Ranged (v : Fraction) : Type 0 where
 
 -- ---- fractions
 
-whole-≤-of-≤ : {a b : ℤ} → a ≤ℤ b → whole a ≤ℚ whole b
-unfolding whole
-whole-≤-of-≤ h = record { cross = Z.≤-* (Z.nonneg-pos 1) h }
-
 -- a bound of the whole number e that v is, for what is on the other side of v
 module _ {v w : Fraction} {e k : ℤ} (p : Proper v) (q : Proper w) (is : v ≈ℚ whole e) where
   ≤-of-end : w ≤ℚ v → e ≤ℤ k → w ≤ℚ whole k
   ≤-of-end h l =
       Q.≤-trans q p (search propers) h
-      (Q.≤-trans p (search propers) (search propers) (Q.≤-of-≈ is) (whole-≤-of-≤ l))
+      (Q.≤-trans p (search propers) (search propers) (Q.≤-of-≈ is) (Q.whole-≤-of-≤ _ _ l))
 
   ≥-of-end : v ≤ℚ w → k ≤ℤ e → whole k ≤ℚ w
   ≥-of-end h l =
       Q.≤-trans (search propers) p q
-      (Q.≤-trans (search propers) (search propers) p (whole-≤-of-≤ l) (Q.≤-of-≈ (Q.≈-sym is))) h
+      (Q.≤-trans (search propers) (search propers) p (Q.whole-≤-of-≤ _ _ l) (Q.≤-of-≈ (Q.≈-sym is))) h
 
 ≤-of-sum : {v w v' : Fraction} → Proper v → Proper w → Proper v' → v +ℚ w ≤ℚ v' → NonNeg w → v ≤ℚ v'
 ≤-of-sum {v} {w} {v'} p q p' h n =

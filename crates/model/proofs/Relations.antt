@@ -12,10 +12,11 @@ use Prim.Native.Nat.{ℕ, _≤_}
 use native.Mathlib.Nat.{le-refl, le-trans, le-antisymm}
 use lib.IntN.{ℤ, pos, _-ℤ_, +ℤ-invr}
 use lib.Signed.{_<ℤ_}
-use Rattle.exact.specs.Fraction.{Fraction, Proper, whole, _+ℚ_, _-ℚ_, _*ℚ_, _≈ℚ_, _≤ℚ_}
+use Rattle.exact.specs.Fraction.{Fraction, Proper, whole, _+ℚ_, _-ℚ_, _*ℚ_, _/ℚ_, _≈ℚ_, _≤ℚ_}
 use Rattle.exact.proofs.Ring.{ring, terms}
 use Rattle.exact.proofs.Order as Z
 use Rattle.exact.proofs.Field.{field, ratios}
+use Rattle.exact.proofs.Tests.{compare}
 use Rattle.exact.proofs.Fractions as Q
 use Rattle.exact.proofs.Fractions.{NonNeg, propers, positivity}
 use Rattle.model.specs.Points.{Point, Segment, Shape, rising, convex}
@@ -24,7 +25,7 @@ use Rattle.model.specs.Read.{last-area}
 use Rattle.model.specs.Inner.{between, Good, Inside}
 use Rattle.model.proofs.Segments.{distance, slope-at, segment-rises, segment-bends, distance-in, proper-gradient}
 use Rattle.model.proofs.Segments.{interpolant-proper, interpolant-left, interpolant-right}
-use Rattle.model.proofs.Walk.{Chain, stop, Spreads, across, compare-areas, good-ordered}
+use Rattle.model.proofs.Walk.{Chain, stop, Spreads, across, good-ordered}
 
 distance-between : (s : Segment) (x y : ℕ) → distance s y -ℤ distance s x ≡ pos y -ℤ pos x
 distance-between s x y = ring (pos (s .left .area) ∷ pos x ∷ pos y ∷ []) (search terms depth 20 fits 9999) tt
@@ -86,17 +87,28 @@ module _ (l m n : Line) where
   under-trans h k turn =
       Q.≤-by (search propers) (search propers) _ (search propers depth 9) by-way-of-m (search positivity depth 9)
 
-module _ (l m : Line) where
-  -- the turn from l to m, by how far each is below the other
-  turned :
-      m .σ *ℚ whole (m .x -ℤ l .x) -ℚ l .σ *ℚ whole (m .x -ℤ l .x)
-      ≈ℚ (m .v -ℚ height l (m .x)) +ℚ (l .v -ℚ height m (l .x))
-  turned = field (atoms l (atoms m [])) (search ratios depth 20 fits 9999) tt
+-- the slope of the chord from l to m
+abbrev pub chord-of : Line → Line → Fraction
+chord-of l m = (m .v -ℚ l .v) /ℚ whole (m .x -ℤ l .x)
 
-  slopes-rise : l .x <ℤ m .x → l under m → m under l → l .σ ≤ℚ m .σ
-  slopes-rise lt h k =
-      Q.≤-cancel {k = whole (m .x -ℤ l .x)} (search propers) (search propers) (search propers) (search positivity)
-      (Q.≤-by (search propers) (search propers) _ (search propers depth 9) turned (search positivity depth 9))
+module _ (l m : Line) (lt : l .x <ℤ m .x) where
+  pub chord-proper : Proper (chord-of l m)
+  chord-proper = search positivity
+
+  above-slope : chord-of l m -ℚ l .σ ≈ℚ (m .v -ℚ height l (m .x)) /ℚ whole (m .x -ℤ l .x)
+  above-slope = field (atoms l (atoms m [])) (search ratios depth 20 fits 9999) tt
+
+  pub slope-≤-chord : l under m → l .σ ≤ℚ chord-of l m
+  slope-≤-chord h = Q.≤-by (l .σ-proper) chord-proper _ (search positivity) above-slope (search positivity)
+
+  below-slope : m .σ -ℚ chord-of l m ≈ℚ (l .v -ℚ height m (l .x)) /ℚ whole (m .x -ℤ l .x)
+  below-slope = field (atoms l (atoms m [])) (search ratios depth 20 fits 9999) tt
+
+  pub chord-≤-slope : m under l → chord-of l m ≤ℚ m .σ
+  chord-≤-slope k = Q.≤-by chord-proper (m .σ-proper) _ (search positivity) below-slope (search positivity)
+
+  slopes-rise : l under m → m under l → l .σ ≤ℚ m .σ
+  slopes-rise h k = Q.≤-trans (l .σ-proper) chord-proper (m .σ-proper) (slope-≤-chord h) (chord-≤-slope k)
 
 -- a product of two differences is that of their opposites
 opposites : (σ τ : Fraction) (x y : ℤ) → (σ -ℚ τ) *ℚ whole (x -ℤ y) ≈ℚ (τ -ℚ σ) *ℚ whole (y -ℤ x)
@@ -148,7 +160,7 @@ convex-spreads =
             order = h;
             rightwards = under-inside r r';
             leftwards = under-inside r' r;
-            slopes = elim (compare-areas y x) [
+            slopes = elim (compare y x) [
               | inl (k, e) ↦ rw (le-antisymm h k) (Q.≤-of-≈ (Q.≈-refl (curve-slope s y)))
               | inr (k, e) ↦ slopes-rise (line r) (line r') (Z.pos-<-of-< k) (under-inside r r') (under-inside r' r)
             ];

@@ -1,5 +1,4 @@
 -- One induction over the points of a curve: what holds inside each segment and joins at the points holds between any two areas.
---   compare-areas    the test of two areas, by cases
 --   Chain G p ps     p, then the points ps; each neighbouring pair is a segment with G
 --   stop p q ps x    where a walk from the left stops at x; on a chain that is the segment taken, and x is inside it
 --   Spreads G R      R between areas holds inside a segment and where two segments meet, and is transitive
@@ -7,24 +6,18 @@
 --   good-ordered     the areas of a good segment increase
 -- Assumes nothing.
 use mathlib.Core.Path.{_≡_, refl}
-use mathlib.Core.Bool.{Bool, true, false, cond}
+use mathlib.Core.Bool.{cond}
 use mathlib.Core.List.{List, [], _∷_}
-use mathlib.Core.Logic.{_⊎_, inl, inr}
+use mathlib.Core.Logic.{inl, inr}
 use Prim.Native.Nat.{ℕ, _≤_, _<_}
 use native.Mathlib.Nat.{le-refl, le-trans, le-of-lt}
 use native.Mathlib.Omega.{arith}
 use lib.Dec.{leb}
-use borrow.Author.Tests.{leb-true, leb-false, lt-leb, le-leb}
+use borrow.Author.Tests.{lt-leb, le-leb}
+use Rattle.exact.proofs.Tests.{compare}
 use Rattle.model.specs.Points.{Point, Segment, segments, Shape}
 use Rattle.model.specs.Read.{taken, last-area}
 use Rattle.model.specs.Inner.{between, Good, Inside}
-
-pub compare-areas : (a x : ℕ) → ((a ≤ x) × (leb a x ≡ true)) ⊎ ((x < a) × (leb a x ≡ false))
-compare-areas a x = decide (leb a x) refl
-  where
-    decide : (b : Bool) → leb a x ≡ b → ((a ≤ x) × (leb a x ≡ true)) ⊎ ((x < a) × (leb a x ≡ false))
-    decide true e = inl (leb-true a x e, e)
-    decide false e = inr (leb-false a x e, e)
 
 pub good-ordered : {shape : Shape} (s : Segment) → Good shape s → s .left .area < s .right .area
 good-ordered s g = g .ends .ordered
@@ -64,7 +57,7 @@ module _ (G : Segment → Type 0) where
     taken-is-stop x (link g end) = refl
     taken-is-stop x (link {p = p} {q = q} g (link {q = r} g' c)) =
         let later = taken-is-stop x (link g' c) in
-        elim (compare-areas (q .area) x) [
+        elim (compare (q .area) x) [
           | inl (h, e) ↦ rw (e, taken) later
           | inr (h, e) ↦ rw (e, taken) (taken-before x (between p q) c (omega (arith, ordered (between q r) g')))
         ]
@@ -74,7 +67,7 @@ module _ (G : Segment → Type 0) where
     stop-inside x (link g end) low high = record { good = g; low = low; high = high }
     stop-inside x (link {q = q} g (link g' c)) low high =
         let later = stop-inside x (link g' c) in
-        elim (compare-areas (q .area) x) [
+        elim (compare (q .area) x) [
           | inl (h, e) ↦ rw e (later h high)
           | inr (h, e) ↦ rw e (record { good = g; low = low; high = le-of-lt h })
         ]
@@ -96,7 +89,7 @@ module _ (G : Segment → Type 0) where
           let later = across-first y (link g' c) in
           let m = inside-right g in
           let m' = inside-left g' in
-          elim (compare-areas (q .area) y) [
+          elim (compare (q .area) y) [
             | inl (h, e) ↦
                 let j = stop-inside y (link g' c) h high in
                 rw e (k .trans i m j (k .inside i m (i .high)) (k .trans m m' j (k .join m m') (later m' h high)))
@@ -110,7 +103,7 @@ module _ (G : Segment → Type 0) where
           across-first y (link g end) (record { good = g; low = low; high = le-trans order high }) order high
       across x y (link {q = q} g (link g' c)) low order high =
           let later = across x y (link g' c) in
-          elim (compare-areas (q .area) x) [
+          elim (compare (q .area) x) [
             | inl (h, e) ↦ rw (e, le-leb (q .area) y (le-trans h order)) (later h order high)
             | inr (h, e) ↦
                 rw e (across-first y (link g (link g' c)) (record { good = g; low = low; high = le-of-lt h }) order high)

@@ -49,10 +49,14 @@ on-curve l f = on-lists-is (l .areas) (l .values) (l .slopes) f (l .equal-length
 pub check-accepts : D.CheckAccepts
 unfolding check-answer
 check-accepts areas values slopes code n e =
-    let r = on-lists-gives areas values slopes (λ ps. check-answer ps code) e in
-    (record { points = _; code = code; accepted = record { none-applies = then-first _ _ (r .result) } },
-    record { areas = areas; values = values; slopes = slopes; equal-lengths = r .same-lengths; points = refl },
-    refl, refl, refl, refl)
+    let r = on-lists-gives areas values slopes (λ ps. check-answer ps code) e in (
+      record { points = _; code = code; accepted = record { none-applies = then-first _ _ (r .result) } },
+      record { areas = areas; values = values; slopes = slopes; equal-lengths = r .same-lengths; points = refl },
+      refl,
+      refl,
+      refl,
+      refl,
+    )
 
 -- ---- Read and Pair
 

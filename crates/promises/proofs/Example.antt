@@ -55,16 +55,17 @@ example =
       equal-lengths = refl;
       points = refl;
     } in
-    let k : FileOf c file = record { head = refl; points = refl; code = refl } in
-    ((refl, refl, refl, refl, refl, refl, refl, refl, refl, refl, refl),
-    record { curve = c; lists = l; same = k },
-    record {
-      read = by-read l 550 (pos 10800) refl;
-      form = by-pair-form l 550 600 _ refl;
-      plan = by-pair-plan l 500 550 _ refl;
-      sheet = by-sheet l 500 50 (pos 1 ∷ pos 2 ∷ []) 2 1 refl (lit< tt);
-      desk = by-desk file 550 24 (pos 10800) k refl (record { le = tt });
-    })
+    let k : FileOf c file = record { head = refl; points = refl; code = refl } in (
+      (refl, refl, refl, refl, refl, refl, refl, refl, refl, refl, refl),
+      record { curve = c; lists = l; same = k },
+      record {
+        read = by-read l 550 (pos 10800) refl;
+        form = by-pair-form l 550 600 _ refl;
+        plan = by-pair-plan l 500 550 _ refl;
+        sheet = by-sheet l 500 50 (pos 1 ∷ pos 2 ∷ []) 2 1 refl (lit< tt);
+        desk = by-desk file 550 24 (pos 10800) k refl (record { le = tt });
+      },
+    )
 
 pub file-example : FileExample
 file-example = example .0

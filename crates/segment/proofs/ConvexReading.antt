@@ -25,11 +25,9 @@ use Rattle.model.specs.Interpolant as I
 use Rattle.model.specs.Interpolant.{interpolant}
 use Rattle.model.specs.Shape.{fits, has-shape}
 use Rattle.model.specs.Inner.{Good, Inside}
-use Rattle.model.proofs.ClosedForm.{Closed, congruence, W}
-use Rattle.model.proofs.Inside.{convex-form}
-use Rattle.model.proofs.Curves.{bent, straight, bend-kind, bent-value, straight-value}
-use Rattle.model.proofs.Segments.{gap, rise, distance, S, g, e₀, e₁, a, b}
-use Rattle.model.proofs.Segments.{around, proper-gradient, gap-positive, S-positive, within}
+use Rattle.model.proofs.ClosedForm.{Closed, congruence, W, convex-form, bending-of-normal, bent-value, straight-value}
+use Rattle.model.proofs.Curves.{bent, straight, bend-kind}
+use Rattle.model.proofs.Segments.{gap, rise, distance, S, g, e₀, e₁, a, b, normal, gap-positive, distance-in}
 use Rattle.segment.specs.Inner.{raised, ConvexInput}
 use Rattle.segment.proofs.Figures.{natural-is, slope-size, gap-is, a-size, b-size}
 use Rattle.segment.proofs.Figures.{t, u, h, from-left, from-right, h-is, distances}
@@ -126,10 +124,7 @@ module _ {s : Segment} {x : ℕ} (i : Inside (Good convex) s x) where
     straight-closed : Closed (interpolant convex s x)
         (whole (pos (s .left .value)) +ℚ (rise s over gap s) *ℚ whole (distance s x))
     unfolding I.interpolant I.curve
-    straight-closed =
-        let o = i .good .ends .ordered in
-        straight-value (around s) (S-positive s o) (gap-positive s o) (proper-gradient (s .left)) (proper-gradient (s .right))
-        (distance s x) low .value
+    straight-closed = straight-value (normal s (i .good .ends .ordered)) (distance s x) low
 
     along-slope : Closed (interpolant convex s x)
         (whole (pos (s .left .value)) +ℚ (s .left .slope over pos 100) *ℚ whole (pos (t s x)))
@@ -157,10 +152,7 @@ module _ {s : Segment} {x : ℕ} (i : Inside (Good convex) s x) where
     bent-closed : Closed (interpolant convex s x)
         (convex-form (gap s) (pos (s .left .value)) (distance s x) (S s) (a s) (g s) (b s))
     unfolding I.interpolant I.curve
-    bent-closed =
-        let o = i .good .ends .ordered in
-        bent-value (around s) (S-positive s o) (gap-positive s o) (proper-gradient (s .left)) (proper-gradient (s .right))
-        (distance s x) (within s x (i .low) (i .high)) low high .value
+    bent-closed = bent-value (bending-of-normal (normal s (i .good .ends .ordered)) low high) (distance-in i)
 
     above-is : a s ≡ pos (above s)
     above-is = natural-is (Z.≤-of-< (above-positive s high))

@@ -22,7 +22,8 @@ use Rattle.model.specs.Points.{gap-most, value-most, slope-most, Point, Segment
 use Rattle.model.specs.Inner.{Limits, Neighbours, Good, Inside}
 use Rattle.model.specs.Interpolant.{interpolant}
 use Rattle.model.proofs.Segments.{gap, rise, distance, e₀, e₁, g, a, b, interpolant-proper}
-use Rattle.model.proofs.Range.{value-range, reading-low, reading-high}
+use Rattle.exact.proofs.Rounding.{round-rounding}
+use Rattle.model.proofs.Range.{value-range, reading-range}
 use Rattle.segment.specs.Inner.{Distances, over-most, SlopesOver}
 use Rattle.segment.specs.declared.Slopes.{Slopes}
 
@@ -151,7 +152,5 @@ module _ {G : Segment → Type 0} {s : Segment} {x : ℕ} (i : Inside G s x) whe
 -- the reading fits 32 bits
 pub reading-fits : {shape : Shape} {s : Segment} {x : ℕ} → Inside (Good shape) s x → SFits w32 (round (interpolant shape s x))
 reading-fits {shape} {s} {x} i =
-    let v = interpolant shape s x in
-    let p = interpolant-proper shape s (i .good) x (i .low) (i .high) in
-    let r = value-range shape s x i in
-    sfits-of-size w32 (round v) (omega (arith, size-between {n = 200000} (round v) (reading-low v p r) (reading-high v p r)))
+    let r = reading-range round-rounding (interpolant shape s x) (interpolant-proper i) (value-range i) in
+    sfits-of-size w32 (round (interpolant shape s x)) (omega (arith, size-between {n = 200000} _ (r .low) (r .high)))

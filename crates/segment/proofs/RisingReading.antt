@@ -19,17 +19,15 @@ use Rattle.exact.proofs.Order.{signs}
 use Rattle.exact.proofs.Field.{field, ratios}
 use Rattle.exact.proofs.Fractions as Q
 use Rattle.exact.proofs.Fractions.{NonNeg, propers}
-use Rattle.exact.proofs.Floor.{round-≈, round-whole}
+use Rattle.exact.proofs.Rounding.{round-rounding, rounding-at-whole}
 use Rattle.model.specs.Points.{Point, gradient, Segment, rising}
 use Rattle.model.specs.Interpolant as I
 use Rattle.model.specs.Interpolant.{interpolant}
 use Rattle.model.specs.Shape.{fits, has-shape}
 use Rattle.model.specs.Inner.{Good, Inside}
-use Rattle.model.proofs.ClosedForm.{Closed, A, B, B-positive}
-use Rattle.model.proofs.Inside.{rising-form}
-use Rattle.model.proofs.Curves.{climbs, flat, rise-kind, flat-value, rising-value}
-use Rattle.model.proofs.Segments.{gap, rise, distance, e₀, e₁, g}
-use Rattle.model.proofs.Segments.{normal, proper-gradient, gap-positive, S-positive, within}
+use Rattle.model.proofs.ClosedForm.{Closed, Climbing, A, B, B-positive, rising-form, climbing-of-normal, flat-value, rising-value}
+use Rattle.model.proofs.Curves.{climbs, flat, rise-kind}
+use Rattle.model.proofs.Segments.{gap, rise, distance, v₀, v₁, d₀, d₁, S, e₀, e₁, g, normal, distance-in}
 use Rattle.segment.specs.Inner.{part, whole-part, RisingInput, rising-reading}
 use Rattle.segment.proofs.Figures.{difference-pos, natural-is, slope-size, gap-is}
 use Rattle.segment.proofs.Figures.{t, u, h-is, from-left, from-right, distances}
@@ -71,13 +69,13 @@ module _ {s : Segment} {x : ℕ}
     (climb : pos 0 <ℤ rise s)
     (k₀ : NonNeg (gradient (s .left)))
     (k₁ : NonNeg (gradient (s .right))) where
+  climbing : Climbing (gap s) (v₀ s) (v₁ s) (d₀ s) (d₁ s) (S s) (e₀ s) (g s) (e₁ s)
+  climbing = climbing-of-normal (normal s (i .good .ends .ordered)) climb k₀ k₁
+
   closed : Closed (interpolant rising s x)
       (rising-form (gap s) (pos (s .left .value)) (pos (s .right .value)) (distance s x) (e₀ s) (g s) (e₁ s))
   unfolding I.interpolant I.curve
-  closed =
-      let o = i .good .ends .ordered in
-      rising-value (normal s) (S-positive s o) (gap-positive s o) (proper-gradient (s .left)) (proper-gradient (s .right))
-      (distance s x) (within s x (i .low) (i .high)) climb k₀ k₁
+  closed = rising-value climbing (distance-in i)
 
   up : s .left .value < s .right .value
   up = Z.<-of-pos-< (Z.<-by (rise s) refl climb)
@@ -107,11 +105,7 @@ module _ {s : Segment} {x : ℕ}
   same = rw (A-is, B-is, rise-is) at closed
 
   positive : 0 < whole-at
-  positive =
-      let o = gap-positive s (i .good .ends .ordered) in
-      let in-gap = within s x (i .low) (i .high) in
-      Z.<-of-pos-< (rw B-is at (B-positive (gap s) (distance s x) {e₀ = e₀ s} {g = g s} {e₁ = e₁ s} o (in-gap .low) (in-gap .high)
-      (search signs) (rw e₀-is (Z.nonneg-pos _)) (rw e₁-is (Z.nonneg-pos _))))
+  positive = Z.<-of-pos-< (rw B-is at (B-positive climbing (distance-in i)))
 
   reading : round (interpolant rising s x) ≡ pos (rising-reading (t s x) (u s x) (s .left .value) (F s) (D₀ s) (D₁ s))
   unfolding floorDiv
@@ -156,7 +150,5 @@ pub flat-inside : {s : Segment} {x : ℕ} → Inside (Good rising) s x → s .ri
     round (interpolant rising s x) ≡ pos (s .left .value)
 unfolding I.interpolant I.curve
 flat-inside {s} {x} i e =
-    let o = i .good .ends .ordered in
-    let v = flat-value (normal s) (S-positive s o) (gap-positive s o) (proper-gradient (s .left)) (proper-gradient (s .right))
-    (distance s x) (ap pos e) in
-    round-≈ _ _ (v .proper) (Q.proper-whole (pos (s .left .value))) (v .same) ∙ round-whole (pos (s .left .value))
+    let v = flat-value (normal s (i .good .ends .ordered)) (distance s x) (ap pos e) in
+    rounding-at-whole round-rounding (pos (s .left .value)) _ (v .proper) (v .same)

@@ -100,8 +100,13 @@ returns-2 c =
     let k = at-form f in
     let e = sym (c .before .before .before .read2 .ensures .0) ∙ ap reading-answer (c .before .at-plan .given .1) in
     let out = refused-outside _ _ _ (k .given .accepted) (sym (on-points k (λ ps. read-answer ps (s .args .shape) (s .args .plan))) ∙ e) in
-    rw (on-points k (λ ps. pair-answer ps (s .args .shape) (s .args .form) (s .args .plan)),
-    k .given .accepted .none-applies, k .given .within, out .1, out .0)
+    rw (
+      on-points k (λ ps. pair-answer ps (s .args .shape) (s .args .form) (s .args .plan)),
+      k .given .accepted .none-applies,
+      k .given .within,
+      out .1,
+      out .0,
+    )
 
 returns-3 : tie.Need-returns-3
 unfolding pair-answer factors-answer factors row _then_
@@ -109,9 +114,17 @@ returns-3 c =
     let s = start (formed c) in
     let k = at-form (formed c) in
     let m = at-plan c in
-    rw (on-points k (λ ps. pair-answer ps (s .args .shape) (s .args .form) (s .args .plan)),
-    k .given .accepted .none-applies, k .given .within, m .given .within, k .given .factor, m .given .factor,
-    factor-bits k, factor-bits m, toZ-ofZ {w = w32} (difference-fits k m))
+    rw (
+      on-points k (λ ps. pair-answer ps (s .args .shape) (s .args .form) (s .args .plan)),
+      k .given .accepted .none-applies,
+      k .given .within,
+      m .given .within,
+      k .given .factor,
+      m .given .factor,
+      factor-bits k,
+      factor-bits m,
+      toZ-ofZ {w = w32} (difference-fits k m),
+    )
 
 pub read-pair-spec : {M : Type 1} → statement M
 read-pair-spec =
