@@ -10,10 +10,9 @@ use Prim.Native.Nat.{ℕ, _≤_, _<_}
 use lib.IntN.{ℤ}
 use lib.ListN.{length}
 use Rattle.model.specs.Points.{points}
-use Rattle.model.specs.Check.{Accepted}
 use Rattle.model.specs.Read.{outside}
 use Rattle.model.specs.Sheet.{entry-area}
-use Rattle.model.specs.Inner.{Alike, Taken, Filling}
+use Rattle.model.specs.Inner.{Accepted, Alike, Taken, Filling}
 
 pub record Fillable (areas values : List ℕ) (slopes : List ℤ) (code start step n : ℕ) : Type 0 where
   pub alike : Alike (length areas) (length values) (length slopes)

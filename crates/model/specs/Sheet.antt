@@ -36,10 +36,8 @@ module _ (ps : List Point) (code start step : ℕ) where
   -- rows 1 to 6, then 8, then 7; the number of entries
   unfoldable pub sheet-answer : ℕ → Answer ℕ
   sheet-answer entries =
-      curve-rows ps code
-      then row (bad-sheet step entries) 8 0
-      then entry-rows ps start step 0 entries
-      then gives entries
+      curve-rows ps code then row (bad-sheet step entries) 8 0
+      then entry-rows ps start step 0 entries then gives entries
 
   -- the list after the call, by its answer: into every entry the factor at its area, or what it held
   unfoldable pub sheet-list : Answer ℕ → List ℤ → List ℤ

@@ -1,4 +1,4 @@
--- The number of entries that an answer of Sheet gives; a refusal gives none.
+-- The number of entries that an answer of Sheet gives; a refusal gives none. For the benchmark alone: nothing here need be believed.
 -- Assumes nothing.
 use Prim.Native.Nat.{ℕ}
 use Rattle.model.specs.Answer.{Answer, gives, refused}
