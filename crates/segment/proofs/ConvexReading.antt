@@ -32,7 +32,7 @@ use Rattle.model.proofs.Segments.{gap, rise, distance, S, g, e₀, e₁, a, b}
 use Rattle.model.proofs.Segments.{around, proper-gradient, gap-positive, S-positive, within}
 use Rattle.segment.specs.Inner.{raised, ConvexInput}
 use Rattle.segment.proofs.Figures.{natural-is, slope-size, gap-is, a-size, b-size}
-use Rattle.segment.proofs.Figures.{t, u, h, from-left, from-right, whole-gap, distances}
+use Rattle.segment.proofs.Figures.{t, u, h, from-left, from-right, h-is, distances}
 use Rattle.segment.proofs.Rounded.{round-lowered}
 
 module _ (s : Segment) where
@@ -76,17 +76,17 @@ module _ (s : Segment) where
 
 -- ---- the curve and one half, as one fraction
 
--- the left tangent in hundredths, raised, and lowered again
-abbrev tangent : (l d t : ℤ) → ℤ
-tangent l d t = pos 50 *ℤ (pos 2 *ℤ l +ℤ pos 1) +ℤ (d +ℤ pos slope-most) *ℤ t -ℤ pos 100 *ℤ t *ℤ pos 100
+-- 100 times the left tangent and 50, raised and lowered again
+abbrev tangent-hundredths : (l d t : ℤ) → ℤ
+tangent-hundredths l d t = pos 50 *ℤ (pos 2 *ℤ l +ℤ pos 1) +ℤ (d +ℤ pos slope-most) *ℤ t -ℤ pos 100 *ℤ t *ℤ pos 100
 
 straight-half : (l d t : ℤ) →
-    whole l +ℚ (d over pos 100) *ℚ whole t +ℚ half ≈ℚ (tangent l d t *ℤ pos 1 +ℤ pos 0) over (pos 1 *ℤ pos 100)
+    whole l +ℚ (d over pos 100) *ℚ whole t +ℚ half ≈ℚ (tangent-hundredths l d t *ℤ pos 1 +ℤ pos 0) over (pos 1 *ℤ pos 100)
 straight-half l d t = field (l ∷ d ∷ t ∷ []) (search ratios depth 20 fits 9999) tt
 
 bent-half : (l d t h W w : ℤ) →
     whole l +ℚ ((h *ℤ d *ℤ t) over (pos 100 *ℤ h)) +ℚ ((w *ℤ w) over (pos 100 *ℤ h *ℤ W)) +ℚ half
-    ≈ℚ (tangent l d t *ℤ (W *ℤ h) +ℤ w *ℤ w) over (W *ℤ h *ℤ pos 100)
+    ≈ℚ (tangent-hundredths l d t *ℤ (W *ℤ h) +ℤ w *ℤ w) over (W *ℤ h *ℤ pos 100)
 bent-half l d t h W w = field (l ∷ d ∷ t ∷ w ∷ h ∷ W ∷ []) (search ratios depth 20 fits 9999) tt
 
 -- ---- the reading
@@ -111,7 +111,7 @@ module _ {s : Segment} {x : ℕ} (i : Inside (Good convex) s x) where
         below-is = below-is;
         input = record {
           distances = distances i n;
-          whole = whole-gap i;
+          whole = h-is i;
           value = n .left .value;
           slope = omega (arith, size-+ (s .left .slope) (pos slope-most), slope-size (n .left));
           above = a-size n;

@@ -1,9 +1,10 @@
 -- The figures of a segment within its limits, in machine numbers.
 --   slope-fits, slope-read, value-read   a point's figures in 32 bits
---   gap-read, rise-read                  the differences, as the code computes them
+--   gap-read, rise-read, u-read          differences, as the code computes them
 --   e₀-fits, g-fits, e₁-fits             the slopes over 100 h; a-fits, b-fits, their distances from the chord
 --   left-is, chord-is, right-is          what `slopes_of` gives
 --   t, u, h                              the distances of an area from the two ends, and their sum
+--   reading-fits                         the reading in 32 bits
 -- Assumes nothing.
 use mathlib.Core.Path.{_≡_, sym, _∙_, ap, ap₂}
 use mathlib.Core.List.{[], _∷_}
@@ -56,14 +57,17 @@ module _ {p : Point} (l : Limits p) where
 
 -- ---- a segment
 
+abbrev pub h : Segment → ℕ
+h s = s .right .area - s .left .area
+
 over-fits : (z : ℤ) → natAbs z ≤ 2 * over-most → SFits w32 z
 over-fits z k = fits-size w32 z (omega arith)
 
 module _ {s : Segment} (n : Neighbours s) where
-  pub gap-is : gap s ≡ pos (s .right .area - s .left .area)
+  pub gap-is : gap s ≡ pos (h s)
   gap-is = difference-pos (let k = n .ordered in omega arith)
 
-  pub gap-read : toZ w32 (s .right .area - s .left .area) ≡ gap s
+  pub gap-read : toZ w32 (h s) ≡ gap s
   gap-read = toZ-pos w32 (let k = n .near in omega arith) ∙ sym gap-is
 
   rise-size : natAbs (rise s) ≤ value-most
@@ -124,9 +128,6 @@ t s x = x - s .left .area
 abbrev pub u : Segment → ℕ → ℕ
 u s x = s .right .area - x
 
-abbrev pub h : Segment → ℕ
-h s = s .right .area - s .left .area
-
 module _ {G : Segment → Type 0} {s : Segment} {x : ℕ} (i : Inside G s x) where
   pub from-left : distance s x ≡ pos (t s x)
   from-left = difference-pos (i .low)
@@ -137,21 +138,17 @@ module _ {G : Segment → Type 0} {s : Segment} {x : ℕ} (i : Inside G s x) whe
       ends-difference : gap s -ℤ distance s x ≡ pos (s .right .area) -ℤ pos x
       ends-difference = ring (pos (s .right .area) ∷ pos (s .left .area) ∷ pos x ∷ []) (search terms depth 20 fits 9999) tt
 
-  pub whole-gap : h s ≡ t s x + u s x
-  whole-gap = let l = i .low in let r = i .high in omega arith
+  pub h-is : h s ≡ t s x + u s x
+  h-is = let l = i .low in let r = i .high in omega arith
 
-  -- u, as the code computes it
-  pub rest : h s - t s x ≡ u s x
-  rest = let l = i .low in let r = i .high in omega arith
-
-  pub from-both : gap s ≡ pos (t s x + u s x)
-  from-both = difference-pos (let l = i .low in let r = i .high in omega arith) ∙ ap pos whole-gap
+  pub u-read : h s - t s x ≡ u s x
+  u-read = let l = i .low in let r = i .high in omega arith
 
   pub distances : Neighbours s → Distances (t s x) (u s x)
   distances n =
       let k = n .near in
       let l = n .ordered in
-      let w = whole-gap in
+      let e = h-is in
       record { most = omega arith; least = omega arith }
 
 -- the reading fits 32 bits

@@ -1,7 +1,7 @@
 -- The reading of a rising segment, in the natural numbers that the code computes with.
 --   Rising          the arguments of `rising` and their reading, where the value changes; rising-inside
 --   flat-inside     the reading where it does not
---   F, D            the rise between the values, and the slope of a point, where they are not negative
+--   F, D₀, D₁       the rise between the values and the slopes, where they are not negative
 -- Assumes nothing.
 use mathlib.Core.Path.{_≡_, refl, _∙_, ap}
 use mathlib.Core.List.{[], _∷_}
@@ -31,22 +31,26 @@ use Rattle.model.proofs.Curves.{climbs, flat, rise-kind, flat-value, rising-val
 use Rattle.model.proofs.Segments.{gap, rise, distance, e₀, e₁, g}
 use Rattle.model.proofs.Segments.{normal, proper-gradient, gap-positive, S-positive, within}
 use Rattle.segment.specs.Inner.{part, whole-part, RisingInput, rising-reading}
-use Rattle.segment.proofs.Figures.{difference-pos, natural-is, slope-size, t, u, from-left, from-right, from-both, distances}
+use Rattle.segment.proofs.Figures.{difference-pos, natural-is, slope-size, gap-is}
+use Rattle.segment.proofs.Figures.{t, u, h-is, from-left, from-right, distances}
 use Rattle.segment.proofs.Rounded.{round-twice}
 
-abbrev pub F : Segment → ℕ
-F s = s .right .value - s .left .value
+module _ (s : Segment) where
+  abbrev F : ℕ
+  F = s .right .value - s .left .value
 
-abbrev pub D : Point → ℕ
-D p = natAbs (p .slope)
+  abbrev D₀ : ℕ
+  D₀ = natAbs (s .left .slope)
+
+  abbrev D₁ : ℕ
+  D₁ = natAbs (s .right .slope)
 
 pub record Rising (s : Segment) (x : ℕ) : Type 0 where
   pub up : s .left .value ≤ s .right .value
-  pub left-slope : s .left .slope ≡ pos (D (s .left))
-  pub right-slope : s .right .slope ≡ pos (D (s .right))
-  pub input : RisingInput (t s x) (u s x) (s .left .value) (F s) (D (s .left)) (D (s .right))
-  pub reading : round (interpolant rising s x)
-      ≡ pos (rising-reading (t s x) (u s x) (s .left .value) (F s) (D (s .left)) (D (s .right)))
+  pub d₀-is : s .left .slope ≡ pos (D₀ s)
+  pub d₁-is : s .right .slope ≡ pos (D₁ s)
+  pub input : RisingInput (t s x) (u s x) (s .left .value) (F s) (D₀ s) (D₁ s)
+  pub reading : round (interpolant rising s x) ≡ pos (rising-reading (t s x) (u s x) (s .left .value) (F s) (D₀ s) (D₁ s))
 
 -- B is A from the one end and A from the other
 two-parts : (t u G E₀ E₁ : ℕ) → G * (t * t + u * u) + (E₀ + E₁) * (t * u) ≡ part t u G E₀ + part u t G E₁
@@ -58,7 +62,7 @@ rising-half l f a b = field (l ∷ f ∷ a ∷ b ∷ []) (search ratios depth 20
 
 -- ---- where the value changes
 
-slope-is : (p : Point) → NonNeg (gradient p) → p .slope ≡ pos (D p)
+slope-is : (p : Point) → NonNeg (gradient p) → p .slope ≡ pos (natAbs (p .slope))
 unfolding gradient _over_
 slope-is p k = natural-is (k .sign)
 
@@ -81,17 +85,17 @@ module _ {s : Segment} {x : ℕ}
   rise-is : rise s ≡ pos (F s)
   rise-is = difference-pos (let k = up in omega arith)
 
-  e₀-is : e₀ s ≡ pos ((t s x + u s x) * D (s .left))
-  e₀-is = rw (from-both i, slope-is (s .left) k₀)
+  e₀-is : e₀ s ≡ pos ((t s x + u s x) * D₀ s)
+  e₀-is = rw (gap-is (i .good .ends), h-is i, slope-is (s .left) k₀)
 
-  e₁-is : e₁ s ≡ pos ((t s x + u s x) * D (s .right))
-  e₁-is = rw (from-both i, slope-is (s .right) k₁)
+  e₁-is : e₁ s ≡ pos ((t s x + u s x) * D₁ s)
+  e₁-is = rw (gap-is (i .good .ends), h-is i, slope-is (s .right) k₁)
 
   abbrev part-at : ℕ
-  part-at = part (t s x) (u s x) (100 * F s) ((t s x + u s x) * D (s .left))
+  part-at = part (t s x) (u s x) (100 * F s) ((t s x + u s x) * D₀ s)
 
   abbrev whole-at : ℕ
-  whole-at = whole-part (t s x) (u s x) (F s) (D (s .left)) (D (s .right))
+  whole-at = whole-part (t s x) (u s x) (F s) (D₀ s) (D₁ s)
 
   A-is : A (gap s) (distance s x) (e₀ s) (g s) ≡ pos part-at
   A-is = rw (from-right i, from-left i, e₀-is, rise-is)
@@ -109,8 +113,7 @@ module _ {s : Segment} {x : ℕ}
       Z.<-pos (rw B-is at (B-positive (gap s) (distance s x) {e₀ = e₀ s} {g = g s} {e₁ = e₁ s} o (in-gap .low) (in-gap .high)
       (search signs) (rw e₀-is (Z.nonneg-pos _)) (rw e₁-is (Z.nonneg-pos _))))
 
-  reading : round (interpolant rising s x)
-      ≡ pos (rising-reading (t s x) (u s x) (s .left .value) (F s) (D (s .left)) (D (s .right)))
+  reading : round (interpolant rising s x) ≡ pos (rising-reading (t s x) (u s x) (s .left .value) (F s) (D₀ s) (D₁ s))
   unfolding floorDiv
   reading =
       let b-pos : pos 0 <ℤ pos whole-at = Z.pos-< positive in
@@ -126,8 +129,8 @@ module _ {s : Segment} {x : ℕ}
       let v = n .right .value in
       record {
         up = (let k = up in omega arith);
-        left-slope = slope-is (s .left) k₀;
-        right-slope = slope-is (s .right) k₁;
+        d₀-is = slope-is (s .left) k₀;
+        d₁-is = slope-is (s .right) k₁;
         input = record {
           distances = distances i n;
           value = n .left .value;

@@ -1,9 +1,9 @@
 -- The sizes of what `part`, `rising` and `raised` compute.
---   blend-size      a sum weighted by the distances from the two ends; part-size
---   from-left, from-right   the arguments of `part`
+--   blend-size      a sum weighted by the distances from the two ends
+--   left-weights, right-weights   what the two calls of `part` ask
 --   whole-size, share-size, rising-size   B, A F with B / 2 for the rounding, and the factor
---   tangent-size, w-size, divisor-size, denominator-size, excess-size   the parts of the convex curve
---   least-near      the excess by leading bits: at most 1 too low
+--   tangent-size, divisor-size, denominator-size, excess-size, raised-size   the parts of the convex curve, and their sum
+--   Near, least-near   what is above the tangent, by leading bits: at most 1 too low
 -- Assumes nothing.
 use Prim.Native.Nat.{ℕ, _+_, _-_, _*_, _/_, _^_, _≤_, _<_}
 use native.Mathlib.Nat.{mul-le-mul, mul-le-mul-left, mul-le-mul-right, le-mul-of-pos-right, div-le-self, add-div-right}
@@ -27,26 +27,26 @@ module _ {t u g e : ℕ} (k : Weights t u g e) where
   part-size = mul-le-mul-left t part-blend
 
 module _ {t u left F D₀ D₁ : ℕ} (k : RisingInput t u left F D₀ D₁) where
-  pub left-over : (t + u) * D₀ ≤ over-most
-  left-over = mul-le-mul (k .distances .most) (k .left-slope)
+  pub left-size : (t + u) * D₀ ≤ over-most
+  left-size = mul-le-mul (k .distances .most) (k .left-slope)
 
-  pub right-over : (t + u) * D₁ ≤ over-most
-  right-over = mul-le-mul (k .distances .most) (k .right-slope)
+  pub right-size : (t + u) * D₁ ≤ over-most
+  right-size = mul-le-mul (k .distances .most) (k .right-slope)
 
-  pub from-left : Weights t u (100 * F) ((t + u) * D₀)
-  from-left =
+  pub left-weights : Weights t u (100 * F) ((t + u) * D₀)
+  left-weights =
       let r = k .rise in
-      record { near = k .distances .most; first = omega arith; second = left-over }
+      record { near = k .distances .most; first = omega arith; second = left-size }
 
-  pub from-right : Weights u t (100 * F) ((t + u) * D₁)
-  from-right =
+  pub right-weights : Weights u t (100 * F) ((t + u) * D₁)
+  right-weights =
       let r = k .rise in
-      record { near = (let m = k .distances .most in omega arith); first = omega arith; second = right-over }
+      record { near = (let m = k .distances .most in omega arith); first = omega arith; second = right-size }
 
   pub whole-size : whole-part t u F D₀ D₁ ≤ gap-most * (gap-most * over-most)
   whole-size =
       let n = k .distances .most in
-      omega (arith, part-size from-left, part-size from-right)
+      omega (arith, part-size left-weights, part-size right-weights)
 
   pub share-size : part t u (100 * F) ((t + u) * D₀) * F + whole-part t u F D₀ D₁ / 2 ≤ 2 ^ 64 - 1 - value-most
   share-size =
@@ -95,7 +95,7 @@ module _ (w x y z : ℕ)
 
 -- ---- convex
 
-module _ {t u h left D a b : ℕ} (k : ConvexInput t u h left D a b) where
+module _ {t u h left d a b : ℕ} (k : ConvexInput t u h left d a b) where
   abbrev w : ℕ
   w = b * t
 
@@ -108,7 +108,7 @@ module _ {t u h left D a b : ℕ} (k : ConvexInput t u h left D a b) where
   pub h-positive : 0 < h
   h-positive = let l = k .distances .least in let e = k .whole in omega arith
 
-  pub tangent-size : 50 * (2 * left + 1) + D * t ≤ 100 * value-most + 50 + 2 * over-most
+  pub tangent-size : 50 * (2 * left + 1) + d * t ≤ 100 * value-most + 50 + 2 * over-most
   tangent-size =
       let n = k .value in
       let m = k .distances .most in
@@ -125,11 +125,6 @@ module _ {t u h left D a b : ℕ} (k : ConvexInput t u h left D a b) where
       let n = le-mul-of-pos-right W h-positive in
       scaled-size {x = w} {c = W * h} w (omega arith)
 
-  pub leading-size : w / 32 * (w / 32) ≤ 2 ^ 63
-  leading-size =
-      let n = divisor-size in
-      omega (arith, mul-le-mul {n₁ = w / 32} {m₁ = w / 32} {n₂ = 2500000000} {m₂ = 2500000000} (omega arith) (omega arith))
-
   pub least-near : 2 ^ 32 ≤ w → Near (w * w / (W * h)) (w / 32 * (w / 32) / (W * h / 1024 + 1))
   least-near n =
       let long = mul-le-mul-right t (k .below) in
@@ -137,5 +132,5 @@ module _ {t u h left D a b : ℕ} (k : ConvexInput t u h left D a b) where
       leading w (w / 32) (W * h / 1024 + 1) (W * h) (omega arith) (omega arith) (omega arith) (omega arith) (omega arith)
       (mul-le-mul {n₁ = w} {m₁ = 100} {n₂ = W} {m₂ = h} (omega arith) (omega arith))
 
-  pub raised-size : raised t u h left D a b ≤ 2 ^ 37
+  pub raised-size : raised t u h left d a b ≤ 2 ^ 37
   raised-size = omega (arith, tangent-size, divisor-size, excess-size)

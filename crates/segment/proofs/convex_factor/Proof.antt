@@ -49,11 +49,11 @@ at-d c = at-b (c .before .before)
 abbrev at-raised : tie.After-struct-known8 → tie.After-slopes-of
 at-raised c = at-d (c .before .before .before .before .before)
 
+abbrev read : ℤ → ℤ
+read z = toZ w32 (ofZ w32 z)
+
 -- the distances of the end slopes from the chord
 module _ (c : tie.After-slopes-of) where
-  abbrev read : ℤ → ℤ
-  read z = toZ w32 (ofZ w32 z)
-
   a-is : read (c .slopes-of .result .right) -ℤ read (c .slopes-of .result .chord) ≡ a (segment (c .before))
   a-is = rw (right-is (ends (c .before)) (c .slopes-of .ensures), chord-is (ends (c .before)) (c .slopes-of .ensures))
 

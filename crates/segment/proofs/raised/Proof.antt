@@ -6,7 +6,7 @@ use native.Mathlib.Nat.{mul-pos, div-div-eq-div-mul}
 use native.Mathlib.Omega.{arith}
 use Rattle.exact.proofs.Size.{product-size}
 use Rattle.segment.proofs.Sizes.{h-positive, tangent-size, divisor-size, denominator-size}
-use Rattle.segment.proofs.Sizes.{excess-size, raised-size, leading-size, least-near}
+use Rattle.segment.proofs.Sizes.{excess-size, raised-size, least-near}
 use Rattle.segment.proofs.raised.Statement.{statement}
 use Rattle.segment.proofs.raised.Tie as tie
 
@@ -18,6 +18,11 @@ div-result : tie.Need-div-result
 div-result c = mul-pos (omega arith) (h-positive (c .before .before .pre))
 
 -- by leading bits
+mul-least : tie.Need-mul-least
+mul-least c =
+    let n = divisor-size (c .before .before .pre) in
+    record { fits = product-size 32 32 (omega arith) (omega arith) }
+
 add-least-2 : tie.Need-add-least-2
 add-least-2 c =
     let n = least-near (c .before .before .pre) (omega arith) in
@@ -47,5 +52,5 @@ raised-spec =
     (tie.spec (search needs) (search needs) (search needs) (omega (arith, tangent-size)) (omega (arith, tangent-size))
     (omega (arith, divisor-size)) (omega (arith, excess-size)) (omega (arith, divisor-size)) (omega (arith, divisor-size))
     mul-result (omega (arith, denominator-size)) div-result (λ c. omega (arith, raised-size (c .before .before .pre))) (λ c. refl)
-    (omega (arith, leading-size)) (omega (arith, denominator-size)) (omega (arith, denominator-size)) (search needs)
+    mul-least (omega (arith, denominator-size)) (omega (arith, denominator-size)) (search needs)
     add-least-2 returns-3 mul-div-requires (omega (arith, h-positive)) add-result-2 returns-4)

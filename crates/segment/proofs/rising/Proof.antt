@@ -2,7 +2,7 @@
 -- Assumes nothing.
 use borrow.Author.Needs.{needs}
 use native.Mathlib.Omega.{arith}
-use Rattle.segment.proofs.Sizes.{left-over, right-over, from-left, from-right, whole-size, share-size, rising-size}
+use Rattle.segment.proofs.Sizes.{left-size, right-size, left-weights, right-weights, whole-size, share-size, rising-size}
 use Rattle.segment.proofs.rising.Statement.{statement}
 use Rattle.segment.proofs.rising.Tie as tie
 
@@ -21,5 +21,5 @@ returns c = rw (c .before .part .ensures, c .part2 .ensures)
 pub rising-spec : {M : Type 1} → statement M
 rising-spec =
     tie.close
-    (tie.spec (search needs) (search needs) (omega (arith, left-over)) (λ c κs. from-left (c .pre)) (omega (arith, right-over))
-    (λ c κs. from-right (c .before .pre)) (omega (arith, whole-size)) mul-result add-result (omega arith) add-result-2 returns)
+    (tie.spec (search needs) (search needs) (omega (arith, left-size)) (λ c κs. left-weights (c .pre)) (omega (arith, right-size))
+    (λ c κs. right-weights (c .before .pre)) (omega (arith, whole-size)) mul-result add-result (omega arith) add-result-2 returns)

@@ -11,7 +11,7 @@ use Rattle.exact.proofs.Signed.{natural}
 use Rattle.model.specs.Points.{Segment, rising}
 use Rattle.model.specs.Interpolant.{interpolant}
 use Rattle.point.specs.Inner.{segment-of}
-use Rattle.segment.proofs.Figures.{slope-fits, slope-read, value-read, rest, reading-fits}
+use Rattle.segment.proofs.Figures.{slope-fits, slope-read, value-read, u-read, reading-fits}
 use Rattle.segment.proofs.RisingReading.{Rising, rising-inside, flat-inside}
 use Rattle.segment.proofs.rising_factor.Statement.{statement}
 use Rattle.segment.proofs.rising_factor.Tie as tie
@@ -43,18 +43,18 @@ returns c =
 cast-d0 : tie.Need-cast-d0
 cast-d0 c =
     let l = entry (at-d0 c) .pre .good .ends .left in
-    rw (slope-read l) (natural tt (slope-fits l) (facts (at-d0 c) .left-slope))
+    rw (slope-read l) (natural tt (slope-fits l) (facts (at-d0 c) .d₀-is))
 
 cast-d1 : tie.Need-cast-d1
 cast-d1 c =
     let l = entry (at-d1 c) .pre .good .ends .right in
-    rw (slope-read l) (natural tt (slope-fits l) (facts (at-d1 c) .right-slope))
+    rw (slope-read l) (natural tt (slope-fits l) (facts (at-d1 c) .d₁-is))
 
 rising-requires : tie.Need-rising-requires
 rising-requires c κs =
     let k = at-d1 (c .before) in
     let i = entry k .pre in
-    rw (rest i, slope-read (i .good .ends .left), slope-read (i .good .ends .right)) (facts k .input)
+    rw (u-read i, slope-read (i .good .ends .left), slope-read (i .good .ends .right)) (facts k .input)
 
 -- the result is the reading
 module _ (c : tie.After-rising) where
@@ -64,7 +64,7 @@ module _ (c : tie.After-rising) where
   read : pos (c .rising .result) ≡ round (interpolant rising (segment start) (start .args .area))
   read =
       let n = start .pre .good .ends in
-      ap pos (rw (rest (start .pre), slope-read (n .left), slope-read (n .right)) at (c .rising .ensures))
+      ap pos (rw (u-read (start .pre), slope-read (n .left), slope-read (n .right)) at (c .rising .ensures))
       ∙ sym (facts (at-d1 (c .before .before)) .reading)
 
   read-fits : SFits w32 (pos (c .rising .result))
