@@ -1,8 +1,7 @@
 -- The figures of a segment within its limits, in machine numbers.
 --   slope-fits, slope-read, value-read   a point's figures in 32 bits
 --   gap-read, rise-read, u-read          differences, as the code computes them
---   e₀-fits, g-fits, e₁-fits             the slopes over 100 h; a-fits, b-fits, their distances from the chord
---   left-is, chord-is, right-is          what `slopes_of` gives
+--   e₀-fits, g-fits, e₁-fits             the slopes over 100 h; a-fits, b-fits, a-read, b-read, their distances from the chord
 --   t, u, h                              the distances of an area from the two ends, and their sum
 --   reading-fits                         the reading in 32 bits
 -- Assumes nothing.
@@ -110,15 +109,13 @@ module _ {s : Segment} (n : Neighbours s) where
   pub b-fits : SFits w32 (b s)
   b-fits = over-fits (b s) b-size
 
+  -- a and b, from what `slopes_of` gives
   module _ {e : Slopes} (k : SlopesOver s e) where
-    pub left-is : toZ w32 (ofZ w32 (e .left)) ≡ e₀ s
-    left-is = rw (k .left) (toZ-ofZ e₀-fits)
+    pub a-read : toZ w32 (ofZ w32 (e .right)) -ℤ toZ w32 (ofZ w32 (e .chord)) ≡ a s
+    a-read = rw (k .right, k .chord, toZ-ofZ e₁-fits, toZ-ofZ g-fits)
 
-    pub chord-is : toZ w32 (ofZ w32 (e .chord)) ≡ g s
-    chord-is = rw (k .chord) (toZ-ofZ g-fits)
-
-    pub right-is : toZ w32 (ofZ w32 (e .right)) ≡ e₁ s
-    right-is = rw (k .right) (toZ-ofZ e₁-fits)
+    pub b-read : toZ w32 (ofZ w32 (e .chord)) -ℤ toZ w32 (ofZ w32 (e .left)) ≡ b s
+    b-read = rw (k .chord, k .left, toZ-ofZ g-fits, toZ-ofZ e₀-fits)
 
 -- ---- an area inside
 

@@ -4,9 +4,9 @@ use borrow.Author.Needs.{needs}
 use mathlib.Core.Path.{_≡_, sym, _∙_, ap, ap₂}
 use Prim.Native.Nat.{_*_, _/_, _^_, _<_}
 use native.Mathlib.Omega.{arith}
-use lib.IntN.{ℤ, pos, _+ℤ_, _-ℤ_}
+use lib.IntN.{pos, _+ℤ_, _-ℤ_}
 use mir.Syntax.{w32}
-use mir.Val.{SFits, toZ, ofZ}
+use mir.Val.{SFits, toZ}
 use mir.Facts.{toZ-ofZ, toZ-pos}
 use Rattle.exact.specs.Rounding.{round}
 use Rattle.exact.proofs.Magnitude.{fits-size}
@@ -14,9 +14,9 @@ use Rattle.exact.proofs.Signed.{natural}
 use Rattle.model.specs.Points.{slope-most, Segment, convex}
 use Rattle.model.specs.Interpolant.{interpolant}
 use Rattle.model.specs.Inner.{Neighbours}
-use Rattle.model.proofs.Segments.{a, b}
 use Rattle.point.specs.Inner.{segment-of}
-use Rattle.segment.proofs.Figures.{slope-read, a-fits, b-fits, left-is, chord-is, right-is, t, reading-fits}
+use Rattle.segment.specs.Inner.{SlopesOver}
+use Rattle.segment.proofs.Figures.{slope-read, a-fits, a-read, b-fits, b-read, t, reading-fits}
 use Rattle.segment.proofs.ConvexReading.{Convex, convex-inside, raised-at}
 use Rattle.segment.proofs.Sizes.{raised-size}
 use Rattle.segment.proofs.convex_factor.Statement.{statement}
@@ -49,32 +49,33 @@ at-d c = at-b (c .before .before)
 abbrev at-raised : tie.After-struct-known8 → tie.After-slopes-of
 at-raised c = at-d (c .before .before .before .before .before)
 
-abbrev read : ℤ → ℤ
-read z = toZ w32 (ofZ w32 z)
-
 -- the distances of the end slopes from the chord
 module _ (c : tie.After-slopes-of) where
-  a-is : read (c .slopes-of .result .right) -ℤ read (c .slopes-of .result .chord) ≡ a (segment (c .before))
-  a-is = rw (right-is (ends (c .before)) (c .slopes-of .ensures), chord-is (ends (c .before)) (c .slopes-of .ensures))
+  abbrev n : Neighbours (segment (c .before))
+  n = ends (c .before)
 
-  b-is : read (c .slopes-of .result .chord) -ℤ read (c .slopes-of .result .left) ≡ b (segment (c .before))
-  b-is = rw (chord-is (ends (c .before)) (c .slopes-of .ensures), left-is (ends (c .before)) (c .slopes-of .ensures))
+  abbrev slopes : SlopesOver (segment (c .before)) (c .slopes-of .result)
+  slopes = c .slopes-of .ensures
 
 sub-a : tie.Need-sub-a
-sub-a c = rw (a-is (at-a c)) (a-fits (ends (at-a c .before)))
+sub-a c =
+    let k = at-a c in
+    rw (a-read (n k) (slopes k)) (a-fits (n k))
 
 cast-a : tie.Need-cast-a
 cast-a c =
-    let s = at-a c .before in
-    rw (a-is (at-a c), toZ-ofZ (a-fits (ends s))) (natural tt (a-fits (ends s)) (facts s .above-is))
+    let k = at-a c in
+    rw (a-read (n k) (slopes k), toZ-ofZ (a-fits (n k))) (natural tt (a-fits (n k)) (facts (k .before) .above-is))
 
 sub-b : tie.Need-sub-b
-sub-b c = rw (b-is (at-b c)) (b-fits (ends (at-b c .before)))
+sub-b c =
+    let k = at-b c in
+    rw (b-read (n k) (slopes k)) (b-fits (n k))
 
 cast-b : tie.Need-cast-b
 cast-b c =
-    let s = at-b c .before in
-    rw (b-is (at-b c), toZ-ofZ (b-fits (ends s))) (natural tt (b-fits (ends s)) (facts s .below-is))
+    let k = at-b c in
+    rw (b-read (n k) (slopes k), toZ-ofZ (b-fits (n k))) (natural tt (b-fits (n k)) (facts (k .before) .below-is))
 
 add-d : tie.Need-add-d
 add-d c =
@@ -89,9 +90,8 @@ cast-d c =
 raised-requires : tie.Need-raised-requires
 raised-requires c κs =
     let k = at-raised c in
-    let s = k .before in
-    rw (a-is k, b-is k, toZ-ofZ (a-fits (ends s)), toZ-ofZ (b-fits (ends s)), slope-read (ends s .left), toZ-ofZ (d-fits s))
-    (facts s .input)
+    rw (a-read (n k) (slopes k), b-read (n k) (slopes k), toZ-ofZ (a-fits (n k)), toZ-ofZ (b-fits (n k)))
+    (rw (slope-read (n k .left), toZ-ofZ (d-fits (k .before))) (facts (k .before) .input))
 
 -- the result is the reading
 module _ (c : tie.After-raised) where
@@ -101,9 +101,9 @@ module _ (c : tie.After-raised) where
   raised-is : c .raised .result / 100 ≡ raised-at (segment start) (start .args .area) / 100
   raised-is =
       let k = at-raised (c .before) in
-      let n = ends start in
-      rw (a-is k, b-is k, toZ-ofZ (a-fits n), toZ-ofZ (b-fits n), slope-read (n .left), toZ-ofZ (d-fits start))
-      at (c .raised .ensures)
+      rw (slope-read (n k .left), toZ-ofZ (d-fits start))
+      at (rw (a-read (n k) (slopes k), b-read (n k) (slopes k), toZ-ofZ (a-fits (n k)), toZ-ofZ (b-fits (n k)))
+      at (c .raised .ensures))
 
   small : c .raised .result / 100 < 2 ^ 31
   small = omega (arith, raised-is, raised-size (facts start .input))
