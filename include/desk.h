@@ -10,7 +10,7 @@
  *     int32_t answer = desk_reading(file, file_length, 550,
  *                                   scratch, sizeof scratch);
  *     if (DESK_IS_REFUSED(answer))
- *         printf("refused %d\n", (int)DESK_REFUSAL(answer));
+ *         printf("refused: %s\n", desk_reason(DESK_REFUSAL(answer)));
  *     else
  *         printf("factor %.4f\n", answer / 10000.0);
  */
@@ -24,13 +24,18 @@
 extern "C" {
 #endif
 
-/* Sizes of a curve file and of a scratch, in bytes. */
-#define DESK_HEADER_BYTES 7     /* before the first point */
-#define DESK_POINT_BYTES 12     /* for each point */
-#define DESK_POINTS_MAX 64      /* points of an accepted curve */
-#define DESK_FILE_MAX 775       /* the longest file of an accepted curve */
-#define DESK_SCRATCH_MAX 768    /* scratch for any accepted curve */
-#define DESK_SCRATCH_ENOUGH 3060 /* with this much, never refusal 11 */
+/* A curve file: a header, then the points. */
+#define DESK_HEADER_BYTES 7 /* before the first point */
+#define DESK_POINT_BYTES 12 /* for each point */
+#define DESK_POINTS_MAX 64  /* points of an accepted curve */
+#define DESK_COUNT_MAX 255  /* points that a header can state, in one byte */
+
+/* The longest file of an accepted curve. */
+#define DESK_FILE_MAX (DESK_HEADER_BYTES + DESK_POINT_BYTES * DESK_POINTS_MAX)
+/* The scratch for any accepted curve. */
+#define DESK_SCRATCH_MAX (DESK_POINT_BYTES * DESK_POINTS_MAX)
+/* The scratch for any file at all: with this much, never refusal 11. */
+#define DESK_SCRATCH_ENOUGH (DESK_POINT_BYTES * DESK_COUNT_MAX)
 
 /*
  * Refusal numbers. If several apply, the first in this order is given:
@@ -52,6 +57,36 @@ extern "C" {
 #define DESK_IS_REFUSED(answer) ((answer) < -1000000)
 #define DESK_REFUSAL(answer) (-1000000 - (answer))
 
+/* A refusal number of desk_reading in words. */
+static inline const char *desk_reason(int number)
+{
+    switch (number) {
+    case DESK_REFUSED_COUNT:
+        return "the curve has fewer than 2 or more than 64 points";
+    case DESK_REFUSED_SHAPE:
+        return "the shape code is neither 1 (rising) nor 2 (convex)";
+    case DESK_REFUSED_AREA:
+        return "an area is above 20,000, not larger than the one before, "
+               "or more than 2,000 beyond it";
+    case DESK_REFUSED_VALUE:
+        return "a value is above 200,000";
+    case DESK_REFUSED_SLOPE:
+        return "a slope is outside -10,000 to 10,000";
+    case DESK_REFUSED_SEGMENT:
+        return "two neighbouring points do not fit the shape";
+    case DESK_REFUSED_OUTSIDE:
+        return "the area is outside the curve";
+    case DESK_REFUSED_MARK:
+        return "not a curve file of version 1";
+    case DESK_REFUSED_LENGTH:
+        return "the file's length does not fit its number of points";
+    case DESK_REFUSED_SCRATCH:
+        return "the scratch is too short";
+    default:
+        return "unknown refusal";
+    }
+}
+
 /*
  * The factor at an area.
  *
@@ -60,8 +95,11 @@ extern "C" {
  *   scratch, scratch_len  memory lent for the call: 12 bytes for each point
  *                         of the file are needed
  *
- * Neither pointer may be null, even with length 0. Each must be good for its
- * length, and the two must not overlap. The bytes may be anything.
+ * What the caller owes, and nothing else:
+ *   - neither pointer is null, even with length 0;
+ *   - each is good for its length, scratch also for writing;
+ *   - the two do not overlap, and nothing else writes there during the call.
+ * What the bytes hold is free.
  *
  * Returns the factor in ten-thousandths (10889 is 1.0889), from -200,000 to
  * 200,000; a convex curve may dip below zero. Or returns -1,000,000 less the

@@ -12,36 +12,8 @@
 
 #include "desk.h"
 
-/* One byte more than a file of 255 points, so that a longer one shows. */
-#define FILE_ROOM (DESK_HEADER_BYTES + 255 * DESK_POINT_BYTES + 1)
-
-static const char *reason(int32_t refusal)
-{
-    switch (refusal) {
-    case DESK_REFUSED_COUNT:
-        return "the curve has fewer than 2 or more than 64 points";
-    case DESK_REFUSED_SHAPE:
-        return "the shape code is neither 1 (rising) nor 2 (convex)";
-    case DESK_REFUSED_AREA:
-        return "an area is above 20,000, not larger than the one before, "
-               "or more than 2,000 beyond it";
-    case DESK_REFUSED_VALUE:
-        return "a value is above 200,000";
-    case DESK_REFUSED_SLOPE:
-        return "a slope is outside -10,000 to 10,000";
-    case DESK_REFUSED_SEGMENT:
-        return "two neighbouring points do not fit the shape";
-    case DESK_REFUSED_OUTSIDE:
-        return "the area is outside the curve";
-    case DESK_REFUSED_MARK:
-        return "not a curve file of version 1";
-    case DESK_REFUSED_LENGTH:
-        return "the file's length does not fit its number of points";
-    case DESK_REFUSED_SCRATCH:
-        return "the scratch is too short";
-    }
-    return "unknown refusal";
-}
+/* One byte more than a file can state, so that a longer one shows. */
+#define FILE_ROOM (DESK_HEADER_BYTES + DESK_POINT_BYTES * DESK_COUNT_MAX + 1)
 
 /* Decimal digits, at most 4,294,967,295. Returns 1 if it is so. */
 static int parse_area(const char *text, uint32_t *area)
@@ -98,7 +70,7 @@ int main(int argc, char **argv)
     answer = desk_reading(bytes, length, area, scratch, sizeof scratch);
     if (DESK_IS_REFUSED(answer)) {
         printf("refused %ld: %s\n", (long)DESK_REFUSAL(answer),
-               reason(DESK_REFUSAL(answer)));
+               desk_reason(DESK_REFUSAL(answer)));
         return 1;
     }
     print_factor(answer);

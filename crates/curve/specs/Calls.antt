@@ -1,8 +1,9 @@
 -- Answers of calls, in document 01's numbers and values.
 -- Assumes nothing.
 use Prim.Native.Nat.{ℕ}
+use lib.IntN.{ℤ, pos, negℤ}
+use lib.Signed.{_≤ℤ_}
 use Rattle.model.specs.Answer.{Answer, gives, refused}
-use lib.IntN.{ℤ}
 use Rattle.curve.specs.declared.Checked.{Checked}
 use Rattle.curve.specs.declared.Checked.the-variants as checked
 use Rattle.curve.specs.declared.Reading.{Reading}
@@ -21,3 +22,8 @@ reading-answer (reading.Refused number place) = refused number place
 unfoldable pub filled-answer : Filled → Answer ℕ
 filled-answer (filled.Entries count) = gives count
 filled-answer (filled.Refused number place) = refused number place
+
+-- no factor is below −200,000, nor above 200,000
+unfoldable pub InRange : Answer ℤ → Type 0
+InRange (gives factor) = (negℤ (pos 200000) ≤ℤ factor) × (factor ≤ℤ pos 200000)
+InRange (refused number place) = Unit {0}

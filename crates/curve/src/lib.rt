@@ -1,9 +1,11 @@
 // Factor curves through rated points.
 ghost use mathlib.Core.Path.{_≡_};
-ghost use Rattle.model.specs.Check.{checked};
+ghost use lib.ListN.{length};
+ghost use Rattle.model.specs.Points.{points};
+ghost use Rattle.model.specs.Check.{check-answer, on-lists};
 ghost use Rattle.model.specs.Read.{read-answer};
 ghost use Rattle.model.specs.Sheet.{sheet-answer, sheet-list};
-ghost use Rattle.curve.specs.Calls.{checked-answer, reading-answer, filled-answer};
+ghost use Rattle.curve.specs.Calls.{checked-answer, reading-answer, filled-answer, InRange};
 
 // What Check answers: the number of segments, or a refusal's number and place.
 pub enum Checked {
@@ -12,7 +14,8 @@ pub enum Checked {
 }
 
 pub fn check(areas: &[u32], values: &[u32], slopes: &[i32], shape: u32) -> Checked
-    ensures { λ r. ⌜ checked-answer r ≡ checked (now (areas .entry)) (now (values .entry)) (now (slopes .entry)) shape ⌝ }
+    ensures { λ r. ⌜ checked-answer r
+        ≡ on-lists (now (areas .entry)) (now (values .entry)) (now (slopes .entry)) (λ ps. check-answer ps shape) ⌝ }
 {
     let fault = rows::curve_fault(areas, values, slopes, shape);
     if fault.number != 0 {
@@ -28,7 +31,9 @@ pub enum Reading {
 }
 
 pub fn read(areas: &[u32], values: &[u32], slopes: &[i32], shape: u32, area: u32) -> Reading
-    ensures { λ r. ⌜ reading-answer r ≡ read-answer (now (areas .entry)) (now (values .entry)) (now (slopes .entry)) shape area ⌝ }
+    ensures answer { λ r. ⌜ reading-answer r
+        ≡ on-lists (now (areas .entry)) (now (values .entry)) (now (slopes .entry)) (λ ps. read-answer ps shape area) ⌝ }
+    ensures range { λ r. ⌜ InRange (reading-answer r) ⌝ }
 {
     let fault = rows::curve_fault(areas, values, slopes, shape);
     if fault.number != 0 {
@@ -38,8 +43,7 @@ pub fn read(areas: &[u32], values: &[u32], slopes: &[i32], shape: u32, area: u32
         return Reading::Refused(7, 0);
     }
     let i = lookup::find(areas, 0, area);
-    let ends = lookup::ends_at(areas, values, slopes, i);
-    Reading::Factor(lookup::factor(ends, shape, area))
+    Reading::Factor(lookup::factor_at(areas, values, slopes, shape, i, area))
 }
 
 // What Sheet answers: the number of entries, or a refusal's number and place.
@@ -57,21 +61,25 @@ pub fn sheet(
     step: u32,
     out: &mut [i32],
 ) -> Filled
-    ensures answer { λ r. ⌜ filled-answer r ≡ sheet-answer (now (areas .entry)) (now (values .entry)) (now (slopes .entry)) shape start step (now (out .entry)) ⌝ }
-    ensures list { λ r. ⌜ now (out .exit) ≡ sheet-list (now (areas .entry)) (now (values .entry)) (now (slopes .entry)) shape start step (filled-answer r) (now (out .entry)) ⌝ }
+    ensures answer { λ r. ⌜ filled-answer r
+        ≡ on-lists (now (areas .entry)) (now (values .entry)) (now (slopes .entry))
+        (λ ps. sheet-answer ps shape start step (length (now (out .entry)))) ⌝ }
+    ensures list { λ r. ⌜ now (out .exit)
+        ≡ sheet-list (points (now (areas .entry)) (now (values .entry)) (now (slopes .entry))) shape start step
+        (filled-answer r) (now (out .entry)) ⌝ }
 {
     let fault = rows::curve_fault(areas, values, slopes, shape);
     if fault.number != 0 {
         return Filled::Refused(fault.number, fault.place);
     }
     let n = out.len();
-    if lookup::entries::bad_sheet(step, n) {
+    if entries::bad_sheet(step, n) {
         return Filled::Refused(8, 0);
     }
-    let place = lookup::entries::first_outside(areas, start, step);
+    let place = entries::first_outside(areas, start, step);
     if place < n {
         return Filled::Refused(7, place as u32);
     }
-    lookup::entries::fill(areas, values, slopes, shape, start, step, out);
+    entries::fill(areas, values, slopes, shape, start, step, out);
     Filled::Entries(n as u32)
 }

@@ -1,2 +1,2 @@
 -- Laws of Open that other crates cite.
-pub mod Rooms
+pub mod Room

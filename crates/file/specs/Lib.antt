@@ -1,4 +1,3 @@
 -- Open, in document 01's order.
 pub mod Open
 pub mod Calls
-pub mod Steps

@@ -1,30 +1,10 @@
 // Curve files.
 ghost use mathlib.Core.Path.{_≡_};
-ghost use mathlib.Core.List.{_++_};
-ghost use lib.ListN.{length, drop};
-ghost use Rattle.layout.specs.Layout.{areas-of, values-of, slopes-of};
+ghost use mathlib.Core.List.{map};
+ghost use lib.ListN.{length};
+ghost use Rattle.layout.specs.Layout.{points-of};
 ghost use Rattle.file.specs.Open.{short-list, open-answer, open-list};
 ghost use Rattle.file.specs.Calls.{opened-answer};
-ghost use Rattle.file.specs.Steps.{Room};
-
-// Writes the file's first n points into the first entries of the lists. It asks that the file has them and the lists have room,
-// which `open` has tested.
-fn decode(bytes: &[u8], n: usize, areas: &mut [u32], values: &mut [u32], slopes: &mut [i32])
-    requires { ⌜ Room n (length (now bytes)) (length (now areas)) (length (now values)) (length (now slopes)) ⌝ }
-    ensures areas { λ _. ⌜ now (areas .exit) ≡ areas-of (now (bytes .entry)) n ++ drop n (now (areas .entry)) ⌝ }
-    ensures values { λ _. ⌜ now (values .exit) ≡ values-of (now (bytes .entry)) n ++ drop n (now (values .entry)) ⌝ }
-    ensures slopes { λ _. ⌜ now (slopes .exit) ≡ slopes-of (now (bytes .entry)) n ++ drop n (now (slopes .entry)) ⌝ }
-{
-    let mut i: usize = 0;
-    while i < n {
-        let p = layout::record_at(bytes, i);
-        areas[i] = p.area;
-        values[i] = p.value;
-        let slope = p.slope;
-        slopes[i] = slope;
-        i += 1;
-    }
-}
 
 // Row 11.
 fn short_list(n: usize, areas: usize, values: usize, slopes: usize) -> bool
@@ -46,10 +26,15 @@ pub enum Opened {
 }
 
 pub fn open(bytes: &[u8], areas: &mut [u32], values: &mut [u32], slopes: &mut [i32]) -> Opened
-    ensures answer { λ r. ⌜ opened-answer r ≡ open-answer (now (bytes .entry)) (length (now (areas .entry))) (length (now (values .entry))) (length (now (slopes .entry))) ⌝ }
-    ensures areas { λ r. ⌜ now (areas .exit) ≡ open-list (opened-answer r) (areas-of (now (bytes .entry))) (now (areas .entry)) ⌝ }
-    ensures values { λ r. ⌜ now (values .exit) ≡ open-list (opened-answer r) (values-of (now (bytes .entry))) (now (values .entry)) ⌝ }
-    ensures slopes { λ r. ⌜ now (slopes .exit) ≡ open-list (opened-answer r) (slopes-of (now (bytes .entry))) (now (slopes .entry)) ⌝ }
+    ensures answer { λ r. ⌜ opened-answer r
+        ≡ open-answer (now (bytes .entry))
+        (length (now (areas .entry))) (length (now (values .entry))) (length (now (slopes .entry))) ⌝ }
+    ensures areas { λ r. ⌜ now (areas .exit)
+        ≡ open-list (opened-answer r) (map (λ p. p .area) (points-of (now (bytes .entry)))) (now (areas .entry)) ⌝ }
+    ensures values { λ r. ⌜ now (values .exit)
+        ≡ open-list (opened-answer r) (map (λ p. p .value) (points-of (now (bytes .entry)))) (now (values .entry)) ⌝ }
+    ensures slopes { λ r. ⌜ now (slopes .exit)
+        ≡ open-list (opened-answer r) (map (λ p. p .slope) (points-of (now (bytes .entry)))) (now (slopes .entry)) ⌝ }
 {
     let fault = layout::head_fault(bytes);
     if fault != 0 {
@@ -64,6 +49,6 @@ pub fn open(bytes: &[u8], areas: &mut [u32], values: &mut [u32], slopes: &mut [i
     if found.number != 0 {
         return Opened::Refused(found.number, found.place);
     }
-    decode(bytes, n, areas, values, slopes);
+    records::decode(bytes, n, areas, values, slopes);
     Opened::Curve(shape, n as u32)
 }

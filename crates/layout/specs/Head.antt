@@ -6,7 +6,7 @@ use mathlib.Core.List.{List}
 use lib.Dec.{eqb, ltb}
 use lib.ListN.{length}
 use Rattle.model.specs.Answer.{Answer, row, _then_}
-use Rattle.layout.specs.Layout.{byte, version, count}
+use Rattle.layout.specs.Layout.{head-size, record-size, byte, version, count}
 
 module _ (bytes : List ℕ) where
   -- bytes 0 to 2 are the letters TRF (84, 82, 70 decimal)
@@ -15,11 +15,11 @@ module _ (bytes : List ℕ) where
 
   -- row 9: file under 7 bytes, wrong mark, or version other than 1
   unfoldable pub bad-head : Bool
-  bad-head = ltb (length bytes) 7 || wrong-mark || not (eqb (version bytes) 1)
+  bad-head = ltb (length bytes) head-size || wrong-mark || not (eqb (version bytes) 1)
 
   -- row 10: file length is not 7 + 12 × count
   unfoldable pub bad-size : Bool
-  bad-size = not (eqb (length bytes) (7 + 12 * count bytes))
+  bad-size = not (eqb (length bytes) (head-size + record-size * count bytes))
 
   -- rows 9 and 10
   unfoldable pub head-rows : Answer (Unit {0})

@@ -6,7 +6,18 @@ use mathlib.Core.List.{List}
 use lib.Dec.{ltb}
 use lib.IntN.{ℤ, pos, _-ℤ_}
 use lib.ListN.{getD}
+use Rattle.model.specs.Points.{Point}
 use Rattle.model.specs.Sheet.{tabulate}
+
+-- bytes 0 to 6, then 12 bytes a point
+abbrev pub head-size : ℕ
+head-size = 7
+
+abbrev pub record-size : ℕ
+record-size = 12
+
+abbrev pub point-offset : ℕ → ℕ
+point-offset i = head-size + record-size * i
 
 -- two's complement, of a number of 4 bytes
 unfoldable pub twos-complement : ℕ → ℤ
@@ -21,39 +32,28 @@ module _ (bytes : List ℕ) where
   little-endian at zero = 0
   little-endian at (suc n) = byte at + 256 * little-endian (suc at) n
 
-  -- bytes 3 and 4 the version
+  -- bytes 3 and 4 the version; byte 5 the shape code; byte 6 the count
   abbrev pub version : ℕ
   version = little-endian 3 2
 
-  -- byte 5 the shape code
   abbrev pub shape-code : ℕ
   shape-code = byte 5
 
-  -- byte 6 the count
   abbrev pub count : ℕ
   count = byte 6
 
-  -- then 12 bytes a point
-  abbrev pub point-offset : ℕ → ℕ
-  point-offset i = 7 + 12 * i
+  -- area and value, 4 bytes each, unsigned, and slope, 4 bytes, two's complement
+  unfoldable pub record-at : ℕ → Point
+  record-at i =
+      record {
+        area = little-endian (point-offset i) 4;
+        value = little-endian (point-offset i + 4) 4;
+        slope = twos-complement (little-endian (point-offset i + 8) 4);
+      }
 
-  -- area and value, 4 bytes each, unsigned
-  unfoldable pub area-at : ℕ → ℕ
-  area-at i = little-endian (point-offset i) 4
+  -- the first n points; all of them
+  abbrev pub first-points : ℕ → List Point
+  first-points n = tabulate record-at 0 n
 
-  unfoldable pub value-at : ℕ → ℕ
-  value-at i = little-endian (point-offset i + 4) 4
-
-  -- and slope, 4 bytes, two's complement
-  unfoldable pub slope-at : ℕ → ℤ
-  slope-at i = twos-complement (little-endian (point-offset i + 8) 4)
-
-  -- the lists of n points
-  abbrev pub areas-of : ℕ → List ℕ
-  areas-of n = tabulate area-at 0 n
-
-  abbrev pub values-of : ℕ → List ℕ
-  values-of n = tabulate value-at 0 n
-
-  abbrev pub slopes-of : ℕ → List ℤ
-  slopes-of n = tabulate slope-at 0 n
+  abbrev pub points-of : List Point
+  points-of = first-points count

@@ -2,10 +2,17 @@
 ghost use mathlib.Core.Path.{_≡_};
 ghost use Prim.Native.Nat.{suc, _+_, _*_, _≤_};
 ghost use lib.ListN.{length};
-ghost use Rattle.model.specs.Facts.{fault-answer};
-ghost use Rattle.layout.specs.Layout.{twos-complement, little-endian, area-at, value-at, slope-at};
+ghost use Rattle.model.specs.Inner.{fault-answer};
+ghost use Rattle.point.specs.Inner.{point-of};
+ghost use Rattle.layout.specs.Layout.{twos-complement, little-endian, record-at};
 ghost use Rattle.layout.specs.Head.{bad-head, head-rows};
-ghost use Rattle.layout.specs.Steps.{Holds};
+ghost use Rattle.layout.specs.Inner.{Holds};
+use point::Point;
+
+// Bytes before the points, and of each point.
+pub const HEAD_SIZE: usize = 7;
+
+pub const RECORD_SIZE: usize = 12;
 
 fn wide(x: u8) -> u32
     ensures { λ r. ⌜ r ≡ x ⌝ }
@@ -36,28 +43,21 @@ fn signed(x: u32) -> i32
     -1 - ((4294967295 - x) as i32)
 }
 
-// A point of a file.
-pub struct Record {
-    pub area: u32,
-    pub value: u32,
-    pub slope: i32,
-}
-
 // The area of the point at i.
 pub fn area_of(bytes: &[u8], i: usize) -> u32
     requires { ⌜ Holds (suc i) (length (now bytes)) ⌝ }
-    ensures { λ r. ⌜ r ≡ area-at (now (bytes .entry)) i ⌝ }
+    ensures { λ r. ⌜ r ≡ record-at (now (bytes .entry)) i .area ⌝ }
 {
-    unsigned(bytes, 7 + 12 * i)
+    unsigned(bytes, HEAD_SIZE + RECORD_SIZE * i)
 }
 
 // The point at i.
-pub fn record_at(bytes: &[u8], i: usize) -> Record
+pub fn record_at(bytes: &[u8], i: usize) -> Point
     requires { ⌜ Holds (suc i) (length (now bytes)) ⌝ }
-    ensures { λ r. ⌜ (r .area ≡ area-at (now (bytes .entry)) i) × (r .value ≡ value-at (now (bytes .entry)) i) × (r .slope ≡ slope-at (now (bytes .entry)) i) ⌝ }
+    ensures { λ r. ⌜ point-of r ≡ record-at (now (bytes .entry)) i ⌝ }
 {
-    let at = 7 + 12 * i;
-    Record {
+    let at = HEAD_SIZE + RECORD_SIZE * i;
+    Point {
         area: unsigned(bytes, at),
         value: unsigned(bytes, at + 4),
         slope: signed(unsigned(bytes, at + 8)),
@@ -68,7 +68,7 @@ pub fn record_at(bytes: &[u8], i: usize) -> Record
 fn bad_head(bytes: &[u8]) -> bool
     ensures { λ r. ⌜ r ≡ bad-head (now (bytes .entry)) ⌝ }
 {
-    if bytes.len() < 7 {
+    if bytes.len() < HEAD_SIZE {
         return true;
     }
     if bytes[0] != 84 {
@@ -90,7 +90,7 @@ pub fn head_fault(bytes: &[u8]) -> u32
     if bad_head(bytes) {
         return 9;
     }
-    if bytes.len() != 7 + 12 * (bytes[6] as usize) {
+    if bytes.len() != HEAD_SIZE + RECORD_SIZE * (bytes[6] as usize) {
         return 10;
     }
     0

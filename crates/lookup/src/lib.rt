@@ -1,20 +1,17 @@
-// The segment that an area takes, and its factor.
+// The segment that an area takes, of points in three lists.
 ghost use mathlib.Core.Path.{_≡_};
+ghost use mathlib.Core.List.{List};
 ghost use Prim.Native.Nat.{_<_};
 ghost use lib.ListN.{length};
-ghost use Rattle.exact.specs.Rounding.{round};
-ghost use Rattle.model.specs.Points.{shape-of};
-ghost use Rattle.model.specs.Interpolant.{interpolant};
-ghost use Rattle.model.specs.Read.{outside as lies-outside};
-ghost use Rattle.model.specs.Facts.{point-of, between, segment-at, Inside};
-ghost use Rattle.lookup.specs.Steps.{Reached, Taken, TakesResult, Inner};
+ghost use Rattle.model.specs.Points.{Point, points};
+ghost use Rattle.model.specs.Read.{outside as lies-outside, reading};
+ghost use Rattle.model.specs.Inner.{Alike, areas-of, Reached, Taken, Readable};
+ghost use Rattle.lookup.specs.Inner.{TakesResult};
 
-pub mod entries;
-
-// Row 7.
+// Row 7, of whatever points have these areas.
 pub fn outside(areas: &[u32], area: u32) -> bool
     requires { ⌜ 0 < length (now areas) ⌝ }
-    ensures { λ r. ⌜ r ≡ lies-outside (now (areas .entry)) area ⌝ }
+    ensures { λ r. ⌜ ((ps : List Point) → areas-of ps ≡ now (areas .entry) → r ≡ lies-outside ps area) ⌝ }
 {
     if area < areas[0] {
         return true;
@@ -45,36 +42,20 @@ pub fn find(areas: &[u32], from: usize, area: u32) -> usize
     i
 }
 
-// The two points of a segment.
-pub struct Ends {
-    pub x0: u32,
-    pub y0: u32,
-    pub d0: i32,
-    pub x1: u32,
-    pub y1: u32,
-    pub d1: i32,
-}
-
-// The points at i and i + 1.
-pub fn ends_at(areas: &[u32], values: &[u32], slopes: &[i32], i: usize) -> Ends
-    requires { ⌜ Inner (now areas) (now values) (now slopes) i ⌝ }
-    ensures { λ r. ⌜ between (point-of (r .x0) (r .y0) (r .d0)) (point-of (r .x1) (r .y1) (r .d1)) ≡ segment-at (now (areas .entry)) (now (values .entry)) (now (slopes .entry)) i ⌝ }
+// The factor at an area that takes the segment at i.
+pub fn factor_at(
+    areas: &[u32],
+    values: &[u32],
+    slopes: &[i32],
+    shape: u32,
+    i: usize,
+    area: u32,
+) -> i32
+    requires { ⌜ Alike (length (now areas)) (length (now values)) (length (now slopes))
+        × Readable (points (now areas) (now values) (now slopes)) shape i area ⌝ }
+    ensures { λ r. ⌜ r ≡ reading (points (now (areas .entry)) (now (values .entry)) (now (slopes .entry))) shape area ⌝ }
 {
-    let j = i + 1;
-    Ends {
-        x0: areas[i],
-        y0: values[i],
-        d0: slopes[i],
-        x1: areas[j],
-        y1: values[j],
-        d1: slopes[j],
-    }
-}
-
-// The factor at an area between them.
-pub fn factor(s: Ends, shape: u32, area: u32) -> i32
-    requires { ⌜ Inside (shape-of shape) (between (point-of (s .x0) (s .y0) (s .d0)) (point-of (s .x1) (s .y1) (s .d1))) area ⌝ }
-    ensures { λ r. ⌜ r ≡ round (interpolant (shape-of shape) (between (point-of (s .x0) (s .y0) (s .d0)) (point-of (s .x1) (s .y1) (s .d1))) area) ⌝ }
-{
-    segment::factor(shape, s.x0, s.y0, s.d0, s.x1, s.y1, s.d1, area)
+    let p = point::point_at(areas, values, slopes, i);
+    let q = point::point_at(areas, values, slopes, i + 1);
+    segment::factor(shape, p, q, area)
 }

@@ -8,3 +8,12 @@ pub mod Curves
 pub mod Segments
 pub mod Relations
 pub mod Range
+pub mod Rows
+pub mod Lists
+pub mod Indexed
+pub mod Accepted
+pub mod Outside
+pub mod Laws
+pub mod Answers
+pub mod Filling
+pub mod SheetRows

@@ -2,10 +2,10 @@
 ghost use mathlib.Core.Path.{_≡_};
 ghost use mathlib.Core.List.{[], _∷_};
 ghost use Prim.Native.Nat.{ℕ, _≤_};
-ghost use Rattle.model.specs.Points.{area-most};
+ghost use Rattle.model.specs.Points.{area-most, points};
 ghost use Rattle.model.specs.Check.{bad-area, point-rows};
-ghost use Rattle.model.specs.Inner.{fault-answer};
-ghost use Rattle.point.specs.Inner.{earlier, point-of};
+ghost use Rattle.model.specs.Inner.{fault-answer, point-at};
+ghost use Rattle.point.specs.Inner.{earlier, point-of, Listed};
 
 // The largest area, the largest distance from one area to the next, the largest value, the largest size of a slope.
 pub const AREA_MOST: u32 = 20000;
@@ -57,4 +57,16 @@ pub fn point_fault(first: bool, before: u32, p: Point) -> u32
         return 5;
     }
     0
+}
+
+// The point at an index of three lists that are equally long.
+pub fn point_at(areas: &[u32], values: &[u32], slopes: &[i32], i: usize) -> Point
+    requires { ⌜ Listed (now areas) (now values) (now slopes) i ⌝ }
+    ensures { λ r. ⌜ point-of r ≡ point-at (points (now (areas .entry)) (now (values .entry)) (now (slopes .entry))) i ⌝ }
+{
+    Point {
+        area: areas[i],
+        value: values[i],
+        slope: slopes[i],
+    }
 }

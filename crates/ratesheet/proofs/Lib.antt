@@ -1,2 +1,3 @@
 -- Proofs of `ratesheet`.
+pub mod Ends
 pub mod Opened

@@ -2,9 +2,20 @@
 ghost use mathlib.Core.Path.{_≡_};
 ghost use Prim.Native.Nat.{_+_, _-_, _/_, _≤_};
 ghost use lib.ListN.{length};
-ghost use Rattle.model.specs.Check.{Accepted};
+ghost use Rattle.model.specs.Answer.{gives};
+ghost use Rattle.model.specs.Points.{area-most};
+ghost use Rattle.model.specs.Check.{curve-rows, on-lists};
 use curve::Filled;
 use file::Opened;
+use rows::POINTS_MOST;
+
+// From one area to the next, and the most areas.
+const STEP: u32 = 25;
+
+const ENTRIES_MOST: usize = (point::AREA_MOST / STEP) as usize + 1;
+
+// The most bytes that a file has.
+const FILE_MOST: usize = layout::HEAD_SIZE + layout::RECORD_SIZE * POINTS_MOST;
 
 fn print_head(shape: u32, points: usize) {
     print::text(b"shape ");
@@ -29,7 +40,7 @@ fn print_entries(start: u32, factors: &[i32])
     let mut i: usize = 0;
     while i < factors.len() {
         print_entry(area, factors[i]);
-        area += 25;
+        area += STEP as u64;
         i += 1;
     }
 }
@@ -39,12 +50,12 @@ fn print_refusal(number: u32, place: u32) {
     print::text(b"\n");
 }
 
-// How many areas there are from the first, 25 apart, while not beyond the last.
+// How many areas there are from the first on while not beyond the last.
 fn entries(first: u32, last: u32) -> usize
-    requires { ⌜ (first ≤ last) × (last ≤ 20000) ⌝ }
+    requires { ⌜ (first ≤ last) × (last ≤ area-most) ⌝ }
     ensures { λ r. ⌜ r ≡ (last - first) / 25 + 1 ⌝ }
 {
-    ((last - first) / 25 + 1) as usize
+    ((last - first) / STEP + 1) as usize
 }
 
 fn print_sheet(
@@ -57,7 +68,7 @@ fn print_sheet(
 )
     requires { ⌜ length (now factors) ≤ 801 ⌝ }
 {
-    match curve::sheet(areas, values, slopes, shape, start, 25, factors) {
+    match curve::sheet(areas, values, slopes, shape, start, STEP, factors) {
         Filled::Refused(number, place) => print_refusal(number, place),
         Filled::Entries(_) => {
             print_head(shape, areas.len());
@@ -67,18 +78,18 @@ fn print_sheet(
 }
 
 fn print_curve(areas: &[u32], values: &[u32], slopes: &[i32], shape: u32)
-    requires { ⌜ Accepted (now areas) (now values) (now slopes) shape ⌝ }
+    requires { ⌜ on-lists (now areas) (now values) (now slopes) (λ ps. curve-rows ps shape) ≡ gives tt ⌝ }
 {
     let first = areas[0];
     let n = entries(first, areas[areas.len() - 1]);
-    let mut factors = [0i32; 801];
+    let mut factors = [0i32; ENTRIES_MOST];
     print_sheet(areas, values, slopes, shape, first, &mut factors[..n]);
 }
 
 fn print_file(bytes: &[u8]) {
-    let mut areas = [0u32; 64];
-    let mut values = [0u32; 64];
-    let mut slopes = [0i32; 64];
+    let mut areas = [0u32; POINTS_MOST];
+    let mut values = [0u32; POINTS_MOST];
+    let mut slopes = [0i32; POINTS_MOST];
     match file::open(bytes, &mut areas, &mut values, &mut slopes) {
         Opened::Refused(number, place) => print_refusal(number, place),
         Opened::Curve(shape, count) => {
@@ -88,9 +99,9 @@ fn print_file(bytes: &[u8]) {
     }
 }
 
-// A file has 775 bytes at the most. 776 are no whole number of points, so `open` refuses a longer file by its first 776.
+// One byte more is no whole number of points, so `open` refuses a longer file by its first bytes.
 fn main() {
-    let mut bytes = [0u8; 776];
+    let mut bytes = [0u8; FILE_MOST + 1];
     let n = io::read_full(0, &mut bytes);
     print_file(&bytes[..n]);
 }

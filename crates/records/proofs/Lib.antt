@@ -1,2 +1,2 @@
--- Laws of the points in a file that other crates cite.
+-- Laws of a file's points that other crates cite.
 pub mod Placed

@@ -1,109 +1,91 @@
 // Rows 1 to 7 and the reading, of the points of a curve file where they stand.
 ghost use mathlib.Core.Path.{_≡_};
 ghost use mathlib.Core.Bool.{true};
-ghost use mathlib.Core.Option.{none};
-ghost use Prim.Native.Nat.{_+_, _≤_, _<_};
-ghost use lib.ListN.{length};
-ghost use Rattle.model.specs.Points.{points, segments, shape-of};
-ghost use Rattle.model.specs.Check.{point-rows, segment-rows, curve-rows};
-ghost use Rattle.model.specs.Read.{reading, outside as lies-outside};
-ghost use Rattle.model.specs.Facts.{fault-answer};
-ghost use Rattle.lookup.specs.Steps.{Taken, Readable};
-ghost use Rattle.layout.specs.Layout.{area-at, areas-of, values-of, slopes-of};
-ghost use Rattle.layout.specs.Steps.{Holds};
-ghost use Rattle.records.specs.Steps.{CurvePoints, NoFault};
+ghost use mathlib.Core.List.{map, _++_};
+ghost use lib.ListN.{length, drop};
+ghost use Rattle.model.specs.Check.{curve-rows, Accepted};
+ghost use Rattle.model.specs.Read.{outside as lies-outside, reading, read-answer};
+ghost use Rattle.model.specs.Inner.{fault-answer, areas-of, Taken, Readable};
+ghost use Rattle.curve.specs.Calls.{reading-answer};
+ghost use Rattle.layout.specs.Layout.{first-points};
+ghost use Rattle.layout.specs.Inner.{Holds};
+ghost use Rattle.records.specs.Inner.{CurvePoints, Room, Begins};
+use curve::Reading;
 use layout::area_of;
 use layout::record_at;
 use rows::Fault;
+use rows::POINTS_MOST;
 
-// Rows 3, 4 and 5: the first bad point of n.
-fn points_fault(bytes: &[u8], n: usize) -> Fault
-    requires { ⌜ CurvePoints n (length (now bytes)) ⌝ }
-    ensures { λ r. ⌜ fault-answer (r .number) (r .place) ≡ point-rows 0 none (points (areas-of (now (bytes .entry)) n) (values-of (now (bytes .entry)) n) (slopes-of (now (bytes .entry)) n)) ⌝ }
-{
-    let mut number: u32 = 0;
-    let mut before: u32 = 0;
-    let mut i: usize = 0;
-    while i < n {
-        let p = record_at(bytes, i);
-        number = rows::point_fault(i == 0, before, p.area, p.value, p.slope);
-        if number != 0 {
-            break;
-        }
-        before = p.area;
-        i += 1;
-    }
-    Fault {
-        number,
-        place: i as u32,
-    }
-}
-
-// Row 6: the first segment without its shape, at its left point.
-fn segments_fault(bytes: &[u8], n: usize, shape: u32) -> Fault
-    requires { ⌜ CurvePoints n (length (now bytes)) ⌝ }
-    ensures { λ r. ⌜ fault-answer (r .number) (r .place) ≡ segment-rows 0 (shape-of shape) (segments (points (areas-of (now (bytes .entry)) n) (values-of (now (bytes .entry)) n) (slopes-of (now (bytes .entry)) n))) ⌝ }
-{
-    let last = n - 1;
-    let mut left: usize = 0;
-    while left < last {
-        let p = record_at(bytes, left);
-        let right = left + 1;
-        let q = record_at(bytes, right);
-        if !segment::has_shape(shape, p.area, p.value, p.slope, q.area, q.value, q.slope) {
-            return Fault {
-                number: 6,
-                place: left as u32,
-            };
-        }
-        left = right;
-    }
-    Fault {
-        number: 0,
-        place: 0,
-    }
-}
-
-// Rows 3 to 6 in one pass. Where it finds a fault it does not say which.
+// Rows 2 to 6 in one pass. Where it finds a fault it does not say which.
 fn all_pass(bytes: &[u8], n: usize, shape: u32) -> bool
     requires { ⌜ CurvePoints n (length (now bytes)) ⌝ }
-    ensures { λ r. ⌜ (r ≡ true → NoFault (now (bytes .entry)) n shape) ⌝ }
+    ensures { λ r. ⌜ (r ≡ true → Accepted (first-points (now (bytes .entry)) n) shape) ⌝ }
 {
-    let first = record_at(bytes, 0);
-    if rows::point_fault(true, 0, first.area, first.value, first.slope) != 0 {
+    if rows::bad_code(shape) {
+        return false;
+    }
+    let mut p = record_at(bytes, 0);
+    if point::point_fault(true, 0, p) != 0 {
         return false;
     }
     let last = n - 1;
     let mut left: usize = 0;
     while left < last {
-        let p = record_at(bytes, left);
         let right = left + 1;
         let q = record_at(bytes, right);
-        if rows::point_fault(false, p.area, q.area, q.value, q.slope) != 0 {
+        if point::point_fault(false, p.area, q) != 0 {
             return false;
         }
-        if !segment::has_shape(shape, p.area, p.value, p.slope, q.area, q.value, q.slope) {
+        if !segment::has_shape(shape, p, q) {
             return false;
         }
+        p = q;
         left = right;
     }
     true
 }
 
+// Writes the file's first n points into the first entries of the lists.
+pub fn decode(bytes: &[u8], n: usize, areas: &mut [u32], values: &mut [u32], slopes: &mut [i32])
+    requires { ⌜ Room n (length (now bytes)) (length (now areas)) (length (now values)) (length (now slopes)) ⌝ }
+    ensures areas { λ _. ⌜ now (areas .exit)
+        ≡ map (λ p. p .area) (first-points (now (bytes .entry)) n) ++ drop n (now (areas .entry)) ⌝ }
+    ensures values { λ _. ⌜ now (values .exit)
+        ≡ map (λ p. p .value) (first-points (now (bytes .entry)) n) ++ drop n (now (values .entry)) ⌝ }
+    ensures slopes { λ _. ⌜ now (slopes .exit)
+        ≡ map (λ p. p .slope) (first-points (now (bytes .entry)) n) ++ drop n (now (slopes .entry)) ⌝ }
+{
+    let mut i: usize = 0;
+    while i < n {
+        let p = record_at(bytes, i);
+        areas[i] = p.area;
+        values[i] = p.value;
+        let slope = p.slope;
+        slopes[i] = slope;
+        i += 1;
+    }
+}
+
+// Rows 1 to 6 of points that are decoded first: slower than `all_pass`, and says which row applies.
+fn listed_fault(bytes: &[u8], n: usize, shape: u32) -> Fault
+    requires { ⌜ CurvePoints n (length (now bytes)) ⌝ }
+    ensures { λ r. ⌜ fault-answer (r .number) (r .place) ≡ curve-rows (first-points (now (bytes .entry)) n) shape ⌝ }
+{
+    let mut areas = [0u32; POINTS_MOST];
+    let mut values = [0u32; POINTS_MOST];
+    let mut slopes = [0i32; POINTS_MOST];
+    decode(bytes, n, &mut areas, &mut values, &mut slopes);
+    rows::curve_fault(&areas[..n], &values[..n], &slopes[..n], shape)
+}
+
 // Rows 1 to 6 of the file's first n points.
 pub fn curve_fault(bytes: &[u8], n: usize, shape: u32) -> Fault
     requires { ⌜ Holds n (length (now bytes)) ⌝ }
-    ensures { λ r. ⌜ fault-answer (r .number) (r .place) ≡ curve-rows (areas-of (now (bytes .entry)) n) (values-of (now (bytes .entry)) n) (slopes-of (now (bytes .entry)) n) shape ⌝ }
+    ensures { λ r. ⌜ fault-answer (r .number) (r .place) ≡ curve-rows (first-points (now (bytes .entry)) n) shape ⌝ }
 {
-    if rows::bad_lengths(n, n, n) {
+    if rows::bad_count(n) {
         return Fault {
             number: 1,
-            place: 0,
-        };
-    }
-    if rows::bad_code(shape) {
-        return Fault {
-            number: 2,
             place: 0,
         };
     }
@@ -113,17 +95,13 @@ pub fn curve_fault(bytes: &[u8], n: usize, shape: u32) -> Fault
             place: 0,
         };
     }
-    let fault = points_fault(bytes, n);
-    if fault.number != 0 {
-        return fault;
-    }
-    segments_fault(bytes, n, shape)
+    listed_fault(bytes, n, shape)
 }
 
 // Row 7 of the first n points.
-pub fn outside(bytes: &[u8], n: usize, area: u32) -> bool
+fn outside(bytes: &[u8], n: usize, area: u32) -> bool
     requires { ⌜ CurvePoints n (length (now bytes)) ⌝ }
-    ensures { λ r. ⌜ r ≡ lies-outside (areas-of (now (bytes .entry)) n) area ⌝ }
+    ensures { λ r. ⌜ r ≡ lies-outside (first-points (now (bytes .entry)) n) area ⌝ }
 {
     if area < area_of(bytes, 0) {
         return true;
@@ -133,8 +111,8 @@ pub fn outside(bytes: &[u8], n: usize, area: u32) -> bool
 
 // Every eighth point that begins a segment, to the last of them whose area is not above the area.
 fn skip(bytes: &[u8], n: usize, area: u32) -> usize
-    requires { ⌜ CurvePoints n (length (now bytes)) × (area-at (now bytes) 0 ≤ area) ⌝ }
-    ensures { λ r. ⌜ (r + 1 < n) × (area-at (now (bytes .entry)) r ≤ area) ⌝ }
+    requires { ⌜ CurvePoints n (length (now bytes)) × Begins (now bytes) n 0 area ⌝ }
+    ensures { λ r. ⌜ Begins (now (bytes .entry)) n r area ⌝ }
 {
     let mut i: usize = 0;
     while i + 9 < n {
@@ -147,9 +125,9 @@ fn skip(bytes: &[u8], n: usize, area: u32) -> usize
 }
 
 // The index of the left point of the segment that the area takes.
-pub fn find(bytes: &[u8], n: usize, area: u32) -> usize
-    requires { ⌜ CurvePoints n (length (now bytes)) × (area-at (now bytes) 0 ≤ area) ⌝ }
-    ensures { λ r. ⌜ Taken (areas-of (now (bytes .entry)) n) r area ⌝ }
+fn find(bytes: &[u8], n: usize, area: u32) -> usize
+    requires { ⌜ CurvePoints n (length (now bytes)) × Begins (now bytes) n 0 area ⌝ }
+    ensures { λ r. ⌜ Taken (areas-of (first-points (now (bytes .entry)) n)) r area ⌝ }
 {
     let mut i = skip(bytes, n, area);
     while i + 2 < n {
@@ -162,20 +140,25 @@ pub fn find(bytes: &[u8], n: usize, area: u32) -> usize
 }
 
 // The factor at an area that takes the segment at i.
-pub fn factor_at(bytes: &[u8], n: usize, shape: u32, i: usize, area: u32) -> i32
-    requires { ⌜ CurvePoints n (length (now bytes)) × Readable (areas-of (now bytes) n) (values-of (now bytes) n) (slopes-of (now bytes) n) shape i area ⌝ }
-    ensures { λ r. ⌜ r ≡ reading (areas-of (now (bytes .entry)) n) (values-of (now (bytes .entry)) n) (slopes-of (now (bytes .entry)) n) shape area ⌝ }
+fn factor_at(bytes: &[u8], n: usize, shape: u32, i: usize, area: u32) -> i32
+    requires { ⌜ CurvePoints n (length (now bytes)) × Readable (first-points (now bytes) n) shape i area ⌝ }
+    ensures { λ r. ⌜ r ≡ reading (first-points (now (bytes .entry)) n) shape area ⌝ }
 {
-    let p = record_at(bytes, i);
-    let q = record_at(bytes, i + 1);
-    segment::factor(
-        shape,
-        p.area,
-        p.value,
-        p.slope,
-        q.area,
-        q.value,
-        q.slope,
-        area,
-    )
+    segment::factor(shape, record_at(bytes, i), record_at(bytes, i + 1), area)
+}
+
+// Rows 1 to 7 of the file's first n points, and the factor.
+pub fn read_points(bytes: &[u8], n: usize, shape: u32, area: u32) -> Reading
+    requires { ⌜ Holds n (length (now bytes)) ⌝ }
+    ensures { λ r. ⌜ reading-answer r ≡ read-answer (first-points (now (bytes .entry)) n) shape area ⌝ }
+{
+    let fault = curve_fault(bytes, n, shape);
+    if fault.number != 0 {
+        return Reading::Refused(fault.number, fault.place);
+    }
+    if outside(bytes, n, area) {
+        return Reading::Refused(7, 0);
+    }
+    let i = find(bytes, n, area);
+    Reading::Factor(factor_at(bytes, n, shape, i, area))
 }

@@ -1,2 +1,2 @@
--- What its functions ask and give.
-pub mod Steps
+-- What contracts cite.
+pub mod Inner

@@ -1,13 +1,16 @@
-// Rows 1 to 6 of the refusal table.
+// Rows 1 to 6 of the refusal table, of points in three lists.
 ghost use mathlib.Core.Path.{_≡_};
-ghost use mathlib.Core.List.{[], _∷_};
 ghost use mathlib.Core.Option.{none};
-ghost use Prim.Native.Nat.{ℕ, _≤_};
 ghost use lib.ListN.{length};
 ghost use Rattle.model.specs.Points.{points, segments, shape-of};
-ghost use Rattle.model.specs.Check.{bad-lengths, bad-code, bad-area, point-rows, segment-rows, curve-rows};
-ghost use Rattle.model.specs.Facts.{fault-answer, Lengths, point-of};
-ghost use Rattle.rows.specs.Steps.{earlier};
+ghost use Rattle.model.specs.Check.{lengths-differ, bad-count, bad-code, point-rows, segment-rows, curve-rows, on-lists};
+ghost use Rattle.model.specs.Inner.{fault-answer};
+ghost use Rattle.rows.specs.Inner.{Lengths, Limited};
+
+// A curve has 2 to 64 points.
+pub const POINTS_LEAST: usize = 2;
+
+pub const POINTS_MOST: usize = 64;
 
 // A fault's number and place; the number 0 is no fault.
 pub struct Fault {
@@ -15,20 +18,24 @@ pub struct Fault {
     pub place: u32,
 }
 
-// Row 1.
-pub fn bad_lengths(areas: usize, values: usize, slopes: usize) -> bool
-    ensures { λ r. ⌜ r ≡ bad-lengths areas values slopes ⌝ }
+// Row 1, of lists.
+fn lengths_differ(areas: usize, values: usize, slopes: usize) -> bool
+    ensures { λ r. ⌜ r ≡ lengths-differ areas values slopes ⌝ }
 {
     if areas != values {
         return true;
     }
-    if areas != slopes {
+    areas != slopes
+}
+
+// Row 1, of points.
+pub fn bad_count(n: usize) -> bool
+    ensures { λ r. ⌜ r ≡ bad-count n ⌝ }
+{
+    if n < POINTS_LEAST {
         return true;
     }
-    if areas < 2 {
-        return true;
-    }
-    areas > 64
+    n > POINTS_MOST
 }
 
 // Row 2.
@@ -41,55 +48,22 @@ pub fn bad_code(shape: u32) -> bool
     shape != 2
 }
 
-// Row 3. Before the first point there is no area. An area before is at most 20,000, so a difference that wraps is too large.
-fn bad_area(first: bool, before: u32, area: u32) -> bool
-    requires { ⌜ before ≤ 20000 ⌝ }
-    ensures { λ r. ⌜ r ≡ bad-area (earlier first before) area ⌝ }
-{
-    if area > 20000 {
-        return true;
-    }
-    if first {
-        return false;
-    }
-    std::num::wrapping_sub_u32(area, before + 1) > 1999
-}
-
-// Rows 3, 4 and 5 at one point.
-pub fn point_fault(first: bool, before: u32, area: u32, value: u32, slope: i32) -> u32
-    requires { ⌜ before ≤ 20000 ⌝ }
-    ensures { λ r. ⌜ ((i : ℕ) → fault-answer r i ≡ point-rows i (earlier first before) (point-of area value slope ∷ [])) ⌝ }
-{
-    if bad_area(first, before, area) {
-        return 3;
-    }
-    if value > 200000 {
-        return 4;
-    }
-    if slope < -10000 {
-        return 5;
-    }
-    if slope > 10000 {
-        return 5;
-    }
-    0
-}
-
 // Rows 3, 4 and 5: the first bad point.
 fn points_fault(areas: &[u32], values: &[u32], slopes: &[i32]) -> Fault
     requires { ⌜ Lengths (length (now areas)) (length (now values)) (length (now slopes)) ⌝ }
-    ensures { λ r. ⌜ fault-answer (r .number) (r .place) ≡ point-rows 0 none (points (now (areas .entry)) (now (values .entry)) (now (slopes .entry))) ⌝ }
+    ensures { λ r. ⌜ fault-answer (r .number) (r .place)
+        ≡ point-rows 0 none (points (now (areas .entry)) (now (values .entry)) (now (slopes .entry))) ⌝ }
 {
     let mut number: u32 = 0;
     let mut before: u32 = 0;
     let mut i: usize = 0;
     while i < areas.len() {
-        let area = areas[i];
-        number = point_fault(i == 0, before, area, values[i], slopes[i]);
+        let p = point::point_at(areas, values, slopes, i);
+        number = point::point_fault(i == 0, before, p);
         if number != 0 {
             break;
         }
-        before = area;
+        before = p.area;
         i += 1;
     }
     Fault {
@@ -100,22 +74,17 @@ fn points_fault(areas: &[u32], values: &[u32], slopes: &[i32]) -> Fault
 
 // Row 6: the first segment without its shape, at its left point.
 fn segments_fault(areas: &[u32], values: &[u32], slopes: &[i32], shape: u32) -> Fault
-    requires { ⌜ Lengths (length (now areas)) (length (now values)) (length (now slopes)) ⌝ }
-    ensures { λ r. ⌜ fault-answer (r .number) (r .place) ≡ segment-rows 0 (shape-of shape) (segments (points (now (areas .entry)) (now (values .entry)) (now (slopes .entry)))) ⌝ }
+    requires { ⌜ Limited (now areas) (now values) (now slopes) ⌝ }
+    ensures { λ r. ⌜ fault-answer (r .number) (r .place)
+        ≡ segment-rows 0 (shape-of shape) (segments (points (now (areas .entry)) (now (values .entry)) (now (slopes .entry)))) ⌝ }
 {
     let last = areas.len() - 1;
     let mut left: usize = 0;
     while left < last {
         let right = left + 1;
-        if !segment::has_shape(
-            shape,
-            areas[left],
-            values[left],
-            slopes[left],
-            areas[right],
-            values[right],
-            slopes[right],
-        ) {
+        let p = point::point_at(areas, values, slopes, left);
+        let q = point::point_at(areas, values, slopes, right);
+        if !segment::has_shape(shape, p, q) {
             return Fault {
                 number: 6,
                 place: left as u32,
@@ -131,9 +100,16 @@ fn segments_fault(areas: &[u32], values: &[u32], slopes: &[i32], shape: u32) -> 
 
 // Rows 1 to 6.
 pub fn curve_fault(areas: &[u32], values: &[u32], slopes: &[i32], shape: u32) -> Fault
-    ensures { λ r. ⌜ fault-answer (r .number) (r .place) ≡ curve-rows (now (areas .entry)) (now (values .entry)) (now (slopes .entry)) shape ⌝ }
+    ensures { λ r. ⌜ fault-answer (r .number) (r .place)
+        ≡ on-lists (now (areas .entry)) (now (values .entry)) (now (slopes .entry)) (λ ps. curve-rows ps shape) ⌝ }
 {
-    if bad_lengths(areas.len(), values.len(), slopes.len()) {
+    if lengths_differ(areas.len(), values.len(), slopes.len()) {
+        return Fault {
+            number: 1,
+            place: 0,
+        };
+    }
+    if bad_count(areas.len()) {
         return Fault {
             number: 1,
             place: 0,

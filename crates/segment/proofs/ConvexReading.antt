@@ -25,11 +25,9 @@ use Rattle.model.specs.Interpolant as I
 use Rattle.model.specs.Interpolant.{interpolant}
 use Rattle.model.specs.Shape.{fits, has-shape}
 use Rattle.model.specs.Inner.{Good, Inside}
-use Rattle.model.proofs.ClosedForm.{Closed, congruence, W}
-use Rattle.model.proofs.Inside.{convex-form}
-use Rattle.model.proofs.Curves.{bent, straight, bend-kind, bent-value, straight-value}
-use Rattle.model.proofs.Segments.{gap, rise, distance, S, g, e₀, e₁, a, b}
-use Rattle.model.proofs.Segments.{around, proper-gradient, gap-positive, S-positive, within}
+use Rattle.model.proofs.ClosedForm.{Closed, congruence, W, convex-form, bending-of-normal, bent-value, straight-value}
+use Rattle.model.proofs.Curves.{bent, straight, bend-kind}
+use Rattle.model.proofs.Segments.{gap, rise, distance, S, g, e₀, e₁, a, b, normal, gap-positive, distance-in}
 use Rattle.segment.specs.Inner.{raised, ConvexInput}
 use Rattle.segment.proofs.Figures.{natural-is, slope-size, gap-is, a-size, b-size}
 use Rattle.segment.proofs.Figures.{t, u, h, from-left, from-right, h-is, distances}
@@ -60,11 +58,11 @@ pub record Convex (s : Segment) (x : ℕ) : Type 0 where
 module _ (s : Segment) where
   below-positive : gradient (s .left) <ℚ rise s over gap s → pos 0 <ℤ b s
   unfolding gradient _over_
-  below-positive k = Z.<-difference (rw (*ℤ-comm (s .left .slope) (gap s), *ℤ-comm (rise s) (pos 100)) at (k .cross))
+  below-positive k = Z.positive-difference (rw (*ℤ-comm (s .left .slope) (gap s), *ℤ-comm (rise s) (pos 100)) at (k .cross))
 
   above-positive : rise s over gap s <ℚ gradient (s .right) → pos 0 <ℤ a s
   unfolding gradient _over_
-  above-positive k = Z.<-difference (rw (*ℤ-comm (rise s) (pos 100), *ℤ-comm (s .right .slope) (gap s)) at (k .cross))
+  above-positive k = Z.positive-difference (rw (*ℤ-comm (rise s) (pos 100), *ℤ-comm (s .right .slope) (gap s)) at (k .cross))
 
   below-zero : gradient (s .left) ≈ℚ rise s over gap s → b s ≡ pos 0
   unfolding gradient _over_
@@ -126,10 +124,7 @@ module _ {s : Segment} {x : ℕ} (i : Inside (Good convex) s x) where
     straight-closed : Closed (interpolant convex s x)
         (whole (pos (s .left .value)) +ℚ (rise s over gap s) *ℚ whole (distance s x))
     unfolding I.interpolant I.curve
-    straight-closed =
-        let o = i .good .ends .ordered in
-        straight-value (around s) (S-positive s o) (gap-positive s o) (proper-gradient (s .left)) (proper-gradient (s .right))
-        (distance s x) low .value
+    straight-closed = straight-value (normal s (i .good .ends .ordered)) (distance s x) low
 
     along-slope : Closed (interpolant convex s x)
         (whole (pos (s .left .value)) +ℚ (s .left .slope over pos 100) *ℚ whole (pos (t s x)))
@@ -157,16 +152,13 @@ module _ {s : Segment} {x : ℕ} (i : Inside (Good convex) s x) where
     bent-closed : Closed (interpolant convex s x)
         (convex-form (gap s) (pos (s .left .value)) (distance s x) (S s) (a s) (g s) (b s))
     unfolding I.interpolant I.curve
-    bent-closed =
-        let o = i .good .ends .ordered in
-        bent-value (around s) (S-positive s o) (gap-positive s o) (proper-gradient (s .left)) (proper-gradient (s .right))
-        (distance s x) (within s x (i .low) (i .high)) low high .value
+    bent-closed = bent-value (bending-of-normal (normal s (i .good .ends .ordered)) low high) (distance-in i)
 
     above-is : a s ≡ pos (above s)
-    above-is = natural-is (Z.<-weak (above-positive s high))
+    above-is = natural-is (Z.≤-of-< (above-positive s high))
 
     below-is : b s ≡ pos (below s)
-    below-is = natural-is (Z.<-weak (below-positive s low))
+    below-is = natural-is (Z.≤-of-< (below-positive s low))
 
     abbrev w : ℕ
     w = below s * t s x
@@ -190,16 +182,16 @@ module _ {s : Segment} {x : ℕ} (i : Inside (Good convex) s x) where
 
     divisor-positive : 0 < divisor
     divisor-positive =
-        let k : 0 < above s = Z.<-pos (rw above-is at (above-positive s high)) in
-        let l : 0 < below s = Z.<-pos (rw below-is at (below-positive s low)) in
+        let k : 0 < above s = Z.<-of-pos-< (rw above-is at (above-positive s high)) in
+        let l : 0 < below s = Z.<-of-pos-< (rw below-is at (below-positive s low)) in
         let d = distances i (i .good .ends) in
         omega (arith, le-mul-of-pos-right (u s x) k, le-mul-of-pos-right (t s x) l)
 
     bent-reads : Reads
     bent-reads =
         let k : 0 < h s = (let o = i .good .ends .ordered in omega arith) in
-        let h-pos : pos 0 <ℤ pos (h s) = Z.pos-< k in
-        let W-pos : pos 0 <ℤ pos divisor = Z.pos-< divisor-positive in
+        let h-pos : pos 0 <ℤ pos (h s) = Z.pos-<-of-< k in
+        let W-pos : pos 0 <ℤ pos divisor = Z.pos-<-of-< divisor-positive in
         round-lowered raised-tangent (100 * t s x) (w * w) {w = divisor * h s} over-tangent (search (propers, signs) depth 9)
         (mul-pos divisor-positive k)
         (rw slope-is at (bent-half (pos (s .left .value)) (s .left .slope) (pos (t s x)) (pos (h s)) (pos divisor) (pos w)))

@@ -17,12 +17,13 @@ use mir.Val.{SFits, toZ, ofZ}
 use mir.Facts.{toZ-ofZ, toZ-pos}
 use Rattle.exact.specs.Rounding.{round}
 use Rattle.exact.proofs.Ring.{ring, terms}
-use Rattle.exact.proofs.Magnitude.{size-between, size--, size-*, size-difference, fits-size}
+use Rattle.exact.proofs.Magnitude.{size-between, size--, size-*, size-difference, sfits-of-size}
 use Rattle.model.specs.Points.{gap-most, value-most, slope-most, Point, Segment, Shape}
 use Rattle.model.specs.Inner.{Limits, Neighbours, Good, Inside}
 use Rattle.model.specs.Interpolant.{interpolant}
 use Rattle.model.proofs.Segments.{gap, rise, distance, e₀, e₁, g, a, b, interpolant-proper}
-use Rattle.model.proofs.Range.{value-range, reading-low, reading-high}
+use Rattle.exact.proofs.Rounding.{round-rounding}
+use Rattle.model.proofs.Range.{value-range, reading-range}
 use Rattle.segment.specs.Inner.{Distances, over-most, SlopesOver}
 use Rattle.segment.specs.declared.Slopes.{Slopes}
 
@@ -46,7 +47,7 @@ module _ {p : Point} (l : Limits p) where
   slope-size = size-between (p .slope) (l .slope-low) (l .slope-high)
 
   pub slope-fits : SFits w32 (p .slope)
-  slope-fits = fits-size w32 (p .slope) (omega (arith, slope-size))
+  slope-fits = sfits-of-size w32 (p .slope) (omega (arith, slope-size))
 
   pub slope-read : toZ w32 (ofZ w32 (p .slope)) ≡ p .slope
   slope-read = toZ-ofZ slope-fits
@@ -60,7 +61,7 @@ abbrev pub h : Segment → ℕ
 h s = s .right .area - s .left .area
 
 over-fits : (z : ℤ) → natAbs z ≤ 2 * over-most → SFits w32 z
-over-fits z k = fits-size w32 z (omega arith)
+over-fits z k = sfits-of-size w32 z (omega arith)
 
 module _ {s : Segment} (n : Neighbours s) where
   pub gap-is : gap s ≡ pos (h s)
@@ -151,7 +152,5 @@ module _ {G : Segment → Type 0} {s : Segment} {x : ℕ} (i : Inside G s x) whe
 -- the reading fits 32 bits
 pub reading-fits : {shape : Shape} {s : Segment} {x : ℕ} → Inside (Good shape) s x → SFits w32 (round (interpolant shape s x))
 reading-fits {shape} {s} {x} i =
-    let v = interpolant shape s x in
-    let p = interpolant-proper shape s (i .good) x (i .low) (i .high) in
-    let r = value-range shape s x i in
-    fits-size w32 (round v) (omega (arith, size-between {n = 200000} (round v) (reading-low v p r) (reading-high v p r)))
+    let r = reading-range round-rounding (interpolant shape s x) (interpolant-proper i) (value-range i) in
+    sfits-of-size w32 (round (interpolant shape s x)) (omega (arith, size-between {n = 200000} _ (r .low) (r .high)))

@@ -13,23 +13,21 @@ use lib.IntN.{ℤ, pos, natAbs, _+ℤ_, _*ℤ_}
 use lib.Signed.{_<ℤ_}
 use Rattle.exact.specs.Fraction.{_over_, whole, _+ℚ_, _*ℚ_, _≈ℚ_}
 use Rattle.exact.specs.Rounding.{floorDiv, half, round}
-use Rattle.exact.proofs.Ring.{ring-ℕ, counts}
+use Rattle.exact.proofs.Ring.{ring-ℕ, terms}
 use Rattle.exact.proofs.Order as Z
 use Rattle.exact.proofs.Order.{signs}
 use Rattle.exact.proofs.Field.{field, ratios}
 use Rattle.exact.proofs.Fractions as Q
 use Rattle.exact.proofs.Fractions.{NonNeg, propers}
-use Rattle.exact.proofs.Floor.{round-≈, round-whole}
+use Rattle.exact.proofs.Rounding.{round-rounding, rounding-at-whole}
 use Rattle.model.specs.Points.{Point, gradient, Segment, rising}
 use Rattle.model.specs.Interpolant as I
 use Rattle.model.specs.Interpolant.{interpolant}
 use Rattle.model.specs.Shape.{fits, has-shape}
 use Rattle.model.specs.Inner.{Good, Inside}
-use Rattle.model.proofs.ClosedForm.{Closed, A, B, B-positive}
-use Rattle.model.proofs.Inside.{rising-form}
-use Rattle.model.proofs.Curves.{climbs, flat, rise-kind, flat-value, rising-value}
-use Rattle.model.proofs.Segments.{gap, rise, distance, e₀, e₁, g}
-use Rattle.model.proofs.Segments.{normal, proper-gradient, gap-positive, S-positive, within}
+use Rattle.model.proofs.ClosedForm.{Closed, Climbing, A, B, B-positive, rising-form, climbing-of-normal, flat-value, rising-value}
+use Rattle.model.proofs.Curves.{climbs, flat, rise-kind}
+use Rattle.model.proofs.Segments.{gap, rise, distance, v₀, v₁, d₀, d₁, S, e₀, e₁, g, normal, distance-in}
 use Rattle.segment.specs.Inner.{part, whole-part, RisingInput, rising-reading}
 use Rattle.segment.proofs.Figures.{difference-pos, natural-is, slope-size, gap-is}
 use Rattle.segment.proofs.Figures.{t, u, h-is, from-left, from-right, distances}
@@ -54,7 +52,7 @@ pub record Rising (s : Segment) (x : ℕ) : Type 0 where
 
 -- B is A from the one end and A from the other
 two-parts : (t u G E₀ E₁ : ℕ) → G * (t * t + u * u) + (E₀ + E₁) * (t * u) ≡ part t u G E₀ + part u t G E₁
-two-parts t u G E₀ E₁ = ring-ℕ (t ∷ u ∷ G ∷ E₀ ∷ E₁ ∷ []) (search counts depth 20 fits 9999) tt
+two-parts t u G E₀ E₁ = ring-ℕ (t ∷ u ∷ G ∷ E₀ ∷ E₁ ∷ []) (search terms depth 20 fits 9999) tt
 
 -- the curve and one half, as one fraction
 rising-half : (l f a b : ℤ) → whole l +ℚ whole f *ℚ (a over b) +ℚ half ≈ℚ ((l *ℤ b +ℤ a *ℤ f) *ℤ pos 2 +ℤ b) over (pos 2 *ℤ b)
@@ -71,16 +69,16 @@ module _ {s : Segment} {x : ℕ}
     (climb : pos 0 <ℤ rise s)
     (k₀ : NonNeg (gradient (s .left)))
     (k₁ : NonNeg (gradient (s .right))) where
+  climbing : Climbing (gap s) (v₀ s) (v₁ s) (d₀ s) (d₁ s) (S s) (e₀ s) (g s) (e₁ s)
+  climbing = climbing-of-normal (normal s (i .good .ends .ordered)) climb k₀ k₁
+
   closed : Closed (interpolant rising s x)
       (rising-form (gap s) (pos (s .left .value)) (pos (s .right .value)) (distance s x) (e₀ s) (g s) (e₁ s))
   unfolding I.interpolant I.curve
-  closed =
-      let o = i .good .ends .ordered in
-      rising-value (normal s) (S-positive s o) (gap-positive s o) (proper-gradient (s .left)) (proper-gradient (s .right))
-      (distance s x) (within s x (i .low) (i .high)) climb k₀ k₁
+  closed = rising-value climbing (distance-in i)
 
   up : s .left .value < s .right .value
-  up = Z.<-pos (Z.<-by (rise s) refl climb)
+  up = Z.<-of-pos-< (Z.<-by (rise s) refl climb)
 
   rise-is : rise s ≡ pos (F s)
   rise-is = difference-pos (let k = up in omega arith)
@@ -107,16 +105,12 @@ module _ {s : Segment} {x : ℕ}
   same = rw (A-is, B-is, rise-is) at closed
 
   positive : 0 < whole-at
-  positive =
-      let o = gap-positive s (i .good .ends .ordered) in
-      let in-gap = within s x (i .low) (i .high) in
-      Z.<-pos (rw B-is at (B-positive (gap s) (distance s x) {e₀ = e₀ s} {g = g s} {e₁ = e₁ s} o (in-gap .low) (in-gap .high)
-      (search signs) (rw e₀-is (Z.nonneg-pos _)) (rw e₁-is (Z.nonneg-pos _))))
+  positive = Z.<-of-pos-< (rw B-is at (B-positive climbing (distance-in i)))
 
   reading : round (interpolant rising s x) ≡ pos (rising-reading (t s x) (u s x) (s .left .value) (F s) (D₀ s) (D₁ s))
   unfolding floorDiv
   reading =
-      let b-pos : pos 0 <ℤ pos whole-at = Z.pos-< positive in
+      let b-pos : pos 0 <ℤ pos whole-at = Z.pos-<-of-< positive in
       round-twice (pos (s .left .value * whole-at + part-at * F s)) whole-at {w = 2} {m = whole-at} same
       (search propers) (lit< tt) positive
       (rising-half (pos (s .left .value)) (pos (F s)) (pos part-at) (pos whole-at))
@@ -156,7 +150,5 @@ pub flat-inside : {s : Segment} {x : ℕ} → Inside (Good rising) s x → s .ri
     round (interpolant rising s x) ≡ pos (s .left .value)
 unfolding I.interpolant I.curve
 flat-inside {s} {x} i e =
-    let o = i .good .ends .ordered in
-    let v = flat-value (normal s) (S-positive s o) (gap-positive s o) (proper-gradient (s .left)) (proper-gradient (s .right))
-    (distance s x) (ap pos e) in
-    round-≈ _ _ (v .proper) (Q.proper-whole (pos (s .left .value))) (v .same) ∙ round-whole (pos (s .left .value))
+    let v = flat-value (normal s (i .good .ends .ordered)) (distance s x) (ap pos e) in
+    rounding-at-whole round-rounding (pos (s .left .value)) _ (v .proper) (v .same)

@@ -37,7 +37,7 @@ pub round-twice : {v f : Fraction} (x : ℤ) (y : ℕ) {w m : ℕ} →
 unfolding round floor floorDiv _over_
 round-twice {v} {f} x y {w} {m} k pf hw hm e =
     let ph : Proper half = search positivity in
-    let pq = Q.proper-over (x *ℤ pos w +ℤ pos y) (pos w *ℤ pos m) (Z.pos-< (mul-pos hw hm)) in
+    let pq = Q.proper-over (x *ℤ pos w +ℤ pos y) (pos w *ℤ pos m) (Z.pos-<-of-< (mul-pos hw hm)) in
     floor-≈ (Q.proper-+ (k .proper) ph) pq (Q.≈-trans (Q.proper-+ pf ph) (Q.≈-+ (k .same) (Q.≈-refl half)) e)
     ∙ sym (floorDiv-nested x (pos y) hw hm)
 

@@ -9,7 +9,7 @@ use Prim.Native.Nat.{ℕ, _+_, _-_, _*_, _/_, _^_, _≤_, _<_}
 use native.Mathlib.Nat.{mul-le-mul, mul-le-mul-left, mul-le-mul-right, le-mul-of-pos-right, div-le-self, add-div-right}
 use native.Mathlib.Omega.{arith}
 use lib.Ieee.Nearest.{div-mono}
-use Rattle.exact.proofs.Size.{scaled-size}
+use Rattle.exact.proofs.Magnitude.{scaled-size}
 use Rattle.model.specs.Points.{gap-most, value-most}
 use Rattle.segment.specs.Inner.{over-most, part, Weights, whole-part, rising-reading, RisingInput, raised, ConvexInput}
 

@@ -14,9 +14,9 @@ use lib.Signed.{leZ, ltZ}
 use mir.Syntax.{w32}
 use mir.Val.{toZ, ofZ}
 use Rattle.exact.specs.Fraction.{_over_, whole, leℚ, ltℚ, eqℚ}
-use Rattle.exact.proofs.Bits.{le-is, same-test, zero-fits, lt-bits, eq-bits}
-use Rattle.exact.proofs.Fractions.{T-true}
+use Rattle.exact.proofs.Bits.{zero-fits, lt-bits, eq-bits}
 use Rattle.exact.proofs.Order as Z
+use Rattle.exact.proofs.Tests.{leZ-not-ltZ, same-test, T-true}
 use Rattle.model.specs.Points.{gradient, Segment, rising, convex}
 use Rattle.model.specs.Shape.{rises, bends, fits, has-shape}
 use Rattle.model.specs.Inner.{Neighbours}
@@ -45,9 +45,9 @@ module _ {s : Segment} (n : Neighbours s) where
       has-shape rising s ≡ (not (ltZ (read (s .left .slope)) (pos 0)) && leZ (pos 0) (read (s .right .slope)))
   unfolding has-shape fits rises gradient leℚ ltℚ eqℚ whole _over_
   climbing-test h =
-      let up : ltZ (pos 0) (rise s) ≡ true = T-true _ (Z.<-difference (Z.pos-< h) .lt) in
-      rw (slope-read (n .left), slope-read (n .right), sym (le-is (pos 0) (s .left .slope)))
-      (rw (times-one (rise s), times-one (s .left .slope), times-one (s .right .slope), le-is (rise s) (pos 0), up) (or-false _))
+      let up : ltZ (pos 0) (rise s) ≡ true = T-true _ (Z.positive-difference (Z.pos-<-of-< h) .lt) in
+      rw (slope-read (n .left), slope-read (n .right), sym (leZ-not-ltZ (pos 0) (s .left .slope)))
+      (rw (times-one (rise s), times-one (s .left .slope), times-one (s .right .slope), leZ-not-ltZ (rise s) (pos 0), up) (or-false _))
 
   pub level-test : s .left .value ≡ s .right .value →
       has-shape rising s ≡ (eqb (bits (s .left .slope)) 0 && eqb (bits (s .right .slope)) 0)
@@ -64,7 +64,7 @@ module _ {s : Segment} (n : Neighbours s) where
       falls : T (has-shape rising s) → ⊥
       falls t =
           elim (rise-kind (gap s) (pos (s .left .value)) (pos (s .right .value)) t) [
-            | climbs up k₀ k₁ ↦ let k : s .left .value < s .right .value = Z.<-pos (Z.<-by (rise s) refl up) in omega arith
+            | climbs up k₀ k₁ ↦ let k : s .left .value < s .right .value = Z.<-of-pos-< (Z.<-by (rise s) refl up) in omega arith
             | flat e ↦ let k : s .right .value ≡ s .left .value = Z.pos-injective e in omega arith
           ]
 
@@ -77,4 +77,4 @@ module _ {s : Segment} (n : Neighbours s) where
       rw (k .left, k .chord, k .right, lt-bits (e₀-fits n) (g-fits n), lt-bits (g-fits n) (e₁-fits n))
       (rw (eq-bits (e₀-fits n) (g-fits n), eq-bits (g-fits n) (e₁-fits n))
       (rw (*ℤ-comm (s .left .slope) (gap s), *ℤ-comm (rise s) (pos 100), *ℤ-comm (s .right .slope) (gap s))
-      (first-or (ltZ (e₀ s) (g s)) _ _ (λ e. rw (le-is (g s) (e₀ s), e, and-false (leZ (e₀ s) (g s)))))))
+      (first-or (ltZ (e₀ s) (g s)) _ _ (λ e. rw (leZ-not-ltZ (g s) (e₀ s), e, and-false (leZ (e₀ s) (g s)))))))

@@ -1,39 +1,35 @@
 -- `curve::check` meets its contract: a fault of the curve, or the number of its segments.
 -- Assumes nothing.
-use mathlib.Core.Path.{refl, sym, _∙_}
+use mathlib.Core.Path.{_≡_, sym, _∙_, ap}
+use Prim.Native.Nat.{ℕ, _-_}
 use native.Mathlib.Omega.{arith}
 use borrow.Author.Needs.{needs}
-use Rattle.model.specs.Answer.{_then_}
-use Rattle.model.specs.Check.{checked, Accepted}
+use lib.ListN.{length}
+use Rattle.model.specs.Answer.{gives}
+use Rattle.model.specs.Points.{segments}
+use Rattle.model.specs.Check.{check-answer}
+use Rattle.model.proofs.Indexed.{segments-length}
 use Rattle.curve.specs.Calls.{checked-answer}
-use Rattle.model.proofs.Accepted.{lengths}
-use Rattle.rows.proofs.Faults.{a-fault, no-fault}
+use Rattle.curve.proofs.Curve.{Accepts, accepts, curve-refused, on-points}
 use Rattle.curve.proofs.check.Statement.{statement}
 use Rattle.curve.proofs.check.Tie as tie
 
-curve-fault-requires : tie.Need-curve-fault-requires
-curve-fault-requires c κs = search needs
-
 returns : tie.Need-returns
-unfolding checked checked-answer _then_
-returns c = rw (sym (c .before .before .curve-fault .ensures) ∙ a-fault _ (c .if1 .taken))
+unfolding check-answer checked-answer
+returns c =
+    sym (curve-refused _ _ _ _ _ _ (c .before .before .curve-fault .ensures) (λ ps. gives (length (segments ps))) (c .if1 .taken))
 
-module _ (c : tie.Else1) where
-  abbrev start : tie.Start
-  start = c .before .before .before .before .before
-
-  accepted : Accepted (start .args .areas .now) (start .args .values .now) (start .args .slopes .now) (start .args .shape)
-  accepted = record { none-applies = sym (c .before .before .curve-fault .ensures) ∙ no-fault _ (c .if1 .left) }
-
-sub-t8 : tie.Need-sub-t8
-sub-t8 c = omega (arith, lengths (accepted c))
-
-cast-t9 : tie.Need-cast-t9
-cast-t9 c = omega (arith, lengths (accepted c))
+no-fault : (c : tie.Else1) →
+    (let k = c .before .before .before .before .before .args in Accepts (k .areas .now) (k .values .now) (k .slopes .now) (k .shape))
+no-fault c = accepts _ _ _ _ _ _ (c .before .before .curve-fault .ensures) (c .if1 .left)
 
 returns-2 : tie.Need-returns-2
-unfolding checked checked-answer _then_
-returns-2 c = rw (accepted c .none-applies) refl
+unfolding check-answer checked-answer
+returns-2 c =
+    let k = no-fault c in
+    sym (on-points k (λ ps. gives (length (segments ps))) ∙ ap gives (segments-length _ ∙ ap (λ (n : ℕ). n - 1) (k .size)))
 
 pub check-spec : {M : Type 1} → statement M
-check-spec = tie.close (tie.spec curve-fault-requires returns sub-t8 cast-t9 returns-2)
+check-spec =
+    tie.close
+    (tie.spec (search needs) returns (λ c. omega (arith, no-fault c)) (λ c. omega (arith, no-fault c)) returns-2)

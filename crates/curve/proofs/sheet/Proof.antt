@@ -2,6 +2,7 @@
 -- Assumes nothing.
 use mathlib.Core.Path.{_≡_, refl, sym, _∙_}
 use mathlib.Core.Bool.{false, _||_}
+use mathlib.Core.List.{List}
 use Prim.Native.Nat.{ℕ, _≤_, _<_, zero-le}
 use native.Mathlib.Nat.{zero-add, pos-of-ne-zero}
 use native.Mathlib.Omega.{arith}
@@ -9,114 +10,122 @@ use borrow.Author.Needs.{needs}
 use borrow.Author.Tests.{lt-ltb, le-ltb, eqb-false, ltb-false}
 use lib.Dec.{eqb, ltb}
 use lib.ListN.{length}
-use Rattle.model.specs.Answer.{gives, row, _then_}
-use Rattle.model.specs.Check.{Accepted}
-use Rattle.model.specs.Sheet.{bad-sheet, entry-rows, sheet-answer, sheet-list}
-use Rattle.curve.specs.Calls.{filled-answer}
-use Rattle.model.proofs.Accepted.{lengths, or-left, or-right}
-use Rattle.rows.proofs.Faults.{a-fault, no-fault}
+use Rattle.model.specs.Answer.{Answer, gives, row, _then_}
+use Rattle.model.specs.Points.{Point, points}
+use Rattle.model.specs.Sheet.{entries-most, bad-sheet, entry-rows, sheet-answer, sheet-list}
+use Rattle.exact.proofs.Tests.{or-left, or-right}
 use Rattle.model.proofs.SheetRows.{rows-inside}
+use Rattle.curve.specs.Calls.{filled-answer}
+use Rattle.curve.proofs.Curve.{Accepts, accepts, curve-refused, on-points}
 use Rattle.curve.proofs.sheet.Statement.{statement}
 use Rattle.curve.proofs.sheet.Tie as tie
 
-curve-fault-requires : tie.Need-curve-fault-requires
-curve-fault-requires c κs = search needs
+-- what follows rows 1 to 6
+abbrev after : (start step entries : ℕ) → List Point → Answer ℕ
+after start step entries ps =
+    row (bad-sheet step entries) 8 0 then entry-rows ps start step 0 entries then gives entries
 
 returns : tie.Need-returns
-unfolding sheet-answer sheet-list filled-answer _then_
-returns c = (rw (sym (c .before .before .curve-fault .ensures) ∙ a-fault _ (c .if1 .taken)), refl)
+unfolding sheet-answer sheet-list filled-answer
+returns c =
+    (sym (curve-refused _ _ _ _ _ _ (c .before .before .curve-fault .ensures) (after _ _ _) (c .if1 .taken)), refl)
 
+-- rows 1 to 6 are passed
 module _ (c : tie.Else1) where
   abbrev start : tie.Start
   start = c .before .before .before .before .before
 
-  accepted : Accepted (start .args .areas .now) (start .args .values .now) (start .args .slopes .now) (start .args .shape)
-  accepted = record { none-applies = sym (c .before .before .curve-fault .ensures) ∙ no-fault _ (c .if1 .left) }
+  abbrev ps : List Point
+  ps = points (start .args .areas .now) (start .args .values .now) (start .args .slopes .now)
 
-bad-sheet-requires : tie.Need-bad-sheet-requires
-bad-sheet-requires c κs = search needs
+  abbrev n : ℕ
+  n = length (start .args .out .now)
+
+  abbrev rest : List Point → Answer ℕ
+  rest = after (start .args .start) (start .args .step) n
+
+  no-fault : Accepts (start .args .areas .now) (start .args .values .now) (start .args .slopes .now) (start .args .shape)
+  no-fault = accepts _ _ _ _ _ _ (c .before .before .curve-fault .ensures) (c .if1 .left)
 
 returns-2 : tie.Need-returns-2
 unfolding sheet-answer sheet-list filled-answer row _then_
-returns-2 c = (rw (accepted (c .before .before) .none-applies, sym (c .before .bad-sheet .ensures) ∙ c .if2 .taken), refl)
+returns-2 c =
+    let b = c .before .before in
+    (rw (on-points (no-fault b) (rest b), sym (c .before .bad-sheet .ensures) ∙ c .if2 .taken), refl)
 
 -- row 8 is passed
 module _ (c : tie.Else2) where
-  abbrev begin : tie.Start
-  begin = start (c .before .before)
+  abbrev curve : tie.Else1
+  curve = c .before .before
 
-  abbrev entries : ℕ
-  entries = length (begin .args .out .now)
+  abbrev step : ℕ
+  step = start curve .args .step
 
-  fine : bad-sheet (begin .args .step) entries ≡ false
-  fine = sym (c .before .bad-sheet .ensures) ∙ c .if2 .left
+  good-sheet : bad-sheet step (n curve) ≡ false
+  good-sheet = sym (c .before .bad-sheet .ensures) ∙ c .if2 .left
 
-  few : entries ≤ 1024
+  few : n curve ≤ entries-most
   unfolding bad-sheet
-  few = ltb-false 1024 entries (or-right (eqb (begin .args .step) 0 || eqb entries 0) (ltb 1024 entries) fine)
+  few = ltb-false entries-most (n curve) (or-right (eqb step 0 || eqb (n curve) 0) _ good-sheet)
 
   -- step and the number of entries are not 0
-  neither : (eqb (begin .args .step) 0 || eqb entries 0) ≡ false
+  neither : (eqb step 0 || eqb (n curve) 0) ≡ false
   unfolding bad-sheet
-  neither = or-left (eqb (begin .args .step) 0 || eqb entries 0) (ltb 1024 entries) fine
+  neither = or-left (eqb step 0 || eqb (n curve) 0) (ltb entries-most (n curve)) good-sheet
 
-  up : 0 < begin .args .step
-  up = pos-of-ne-zero (eqb-false (begin .args .step) 0 (or-left (eqb (begin .args .step) 0) (eqb entries 0) neither))
+  step-above-0 : 0 < step
+  step-above-0 = pos-of-ne-zero (eqb-false step 0 (or-left (eqb step 0) (eqb (n curve) 0) neither))
 
-  some : 0 < entries
-  some = pos-of-ne-zero (eqb-false entries 0 (or-right (eqb (begin .args .step) 0) (eqb entries 0) neither))
+  some : 0 < n curve
+  some = pos-of-ne-zero (eqb-false (n curve) 0 (or-right (eqb step 0) (eqb (n curve) 0) neither))
 
 first-outside-requires : tie.Need-first-outside-requires
-first-outside-requires c κs = (omega (arith, lengths (accepted (c .before .before))), up c)
-
-cast-t13 : tie.Need-cast-t13
-cast-t13 c = let n = few (c .before .before) in let h = c .if3 .taken in omega arith
+first-outside-requires c κs = (omega (arith, no-fault (curve c)), step-above-0 c)
 
 returns-3 : tie.Need-returns-3
 unfolding sheet-answer sheet-list filled-answer row _then_
 returns-3 c =
     let b = c .before .before in
-    (rw (accepted (b .before .before) .none-applies, fine b, sym (c .before .first-outside .ensures (entries b)), lt-ltb _ _ (c .if3 .taken)), refl)
+    let k = no-fault (curve b) in
+    let first = sym (c .before .first-outside .ensures (ps (curve b)) (k .areas-are) (n (curve b))) in
+    (rw (on-points k (rest (curve b)), good-sheet b, first, lt-ltb _ _ (c .if3 .taken)), refl)
 
 -- row 7 is passed
-all-inside : (c : tie.Else3) → entry-rows (begin (c .before .before) .args .areas .now) (begin (c .before .before) .args .start) (begin (c .before .before) .args .step) 0 (entries (c .before .before)) ≡ gives tt
+all-inside : (c : tie.Else3) →
+    (let b = curve (c .before .before) in entry-rows (ps b) (start b .args .start) (start b .args .step) 0 (n b) ≡ gives tt)
 unfolding row
-all-inside c = sym (c .before .first-outside .ensures _) ∙ (rw (le-ltb _ _ (c .if3 .left)))
+all-inside c =
+    sym (c .before .first-outside .ensures _ (no-fault (curve (c .before .before)) .areas-are) _) ∙ (rw (le-ltb _ _ (c .if3 .left)))
 
 fill-requires : tie.Need-fill-requires
 fill-requires c κs =
     let b = c .before .before .before in
+    let k = no-fault (curve b) in
     record {
-      accepted = accepted (b .before .before);
+      alike = k .alike;
+      accepted = k .accepted;
       some = some b;
-      inside = λ i h. rows-inside _ _ _ 0 (entries b) i (all-inside (c .before)) zero-le (rw zero-add h);
+      inside = λ i h. rows-inside _ _ _ 0 (n (curve b)) i (all-inside (c .before)) zero-le (rw zero-add h);
     }
-
-cast-t17 : tie.Need-cast-t17
-cast-t17 c = let n = few (c .before .before .before .before .before) in omega arith
-
-same-length : tie.Need-same-length
-same-length c = search needs
 
 returns-4 : tie.Need-returns-4
 unfolding sheet-answer sheet-list filled-answer row _then_
 returns-4 c =
     let e = c .before .before .before in
     let b = e .before .before in
-    (rw (accepted (b .before .before) .none-applies, fine b, all-inside e), c .before .fill .ensures)
+    (rw (on-points (no-fault (curve b)) (rest (curve b)), good-sheet b, all-inside e), c .before .fill .ensures)
+
+cast-t13 : tie.Need-cast-t13
+cast-t13 c =
+    let m = few (c .before .before) in
+    let h = c .if3 .taken in
+    omega arith
+
+cast-t17 : tie.Need-cast-t17
+cast-t17 c = let m = few (c .before .before .before .before .before) in omega arith
 
 pub sheet-spec : {M : Type 1} → statement M
 sheet-spec =
     tie.close
-    (tie.spec
-    curve-fault-requires
-    returns
-    bad-sheet-requires
-    returns-2
-    first-outside-requires
-    cast-t13
-    returns-3
-    fill-requires
-    cast-t17
-    same-length
-    returns-4)
+    (tie.spec (search needs) returns (search needs) returns-2 first-outside-requires cast-t13 returns-3 fill-requires cast-t17
+    (search needs) returns-4)

@@ -3,29 +3,29 @@
 use mathlib.Core.Path.{_≡_}
 use native.Mathlib.Omega.{arith}
 use borrow.Author.Needs.{needs}
-use lib.IntN.{pos, negsuc, _-ℤ_}
+use lib.IntN.{ℤ, pos, negℤ, _-ℤ_}
 use mir.Syntax.{w32}
 use mir.Val.{SFits, toZ}
 use mir.Facts.{toZ-ofZ, toZ-pos}
-use Rattle.exact.proofs.Magnitude.{fits-size, size--}
+use Rattle.exact.proofs.Magnitude.{sfits-of-size, size--}
 use Rattle.desk.proofs.refusal.Statement.{statement}
 use Rattle.desk.proofs.refusal.Tie as tie
 
-cast-result : tie.Need-cast-result
-cast-result c = search needs
-
 module _ (c : tie.Start) where
-  number-is : toZ w32 (c .args .number) ≡ pos (c .args .number)
-  number-is = toZ-pos w32 (let k = c .pre in omega arith)
+  abbrev result : ℤ
+  result = negℤ (pos 1000000) -ℤ pos (c .args .number)
 
-  small : SFits w32 (negsuc 999999 -ℤ pos (c .args .number))
-  small = fits-size w32 (negsuc 999999 -ℤ pos (c .args .number)) (let k = c .pre in omega (arith, size-- (negsuc 999999) (pos (c .args .number))))
+  number-is : toZ w32 (c .args .number) ≡ pos (c .args .number)
+  number-is = toZ-pos w32 (omega (arith, c .pre))
+
+  result-fits : SFits w32 result
+  result-fits = sfits-of-size w32 result (omega (arith, c .pre, size-- (negℤ (pos 1000000)) (pos (c .args .number))))
 
 sub-result : tie.Need-sub-result
-sub-result c = rw (number-is c) (small c)
+sub-result c = rw (number-is c) (result-fits c)
 
 returns : tie.Need-returns
-returns c = rw (number-is c, toZ-ofZ (small c))
+returns c = rw (number-is c, toZ-ofZ (result-fits c))
 
 pub refusal-spec : {M : Type 1} → statement M
-refusal-spec = tie.close (tie.spec cast-result sub-result returns)
+refusal-spec = tie.close (tie.spec (search needs) sub-result returns)

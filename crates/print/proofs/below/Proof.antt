@@ -1,31 +1,24 @@
 -- `print::below` meets its contract. A signed local holds bits, which are read back (`toZ-ofZ`) where it is used.
 -- Assumes nothing.
-use mathlib.Core.Path.{_≡_, subst⁻¹}
+use mathlib.Core.Path.{_≡_}
 use mathlib.Core.Bool.{true}
-use Prim.Native.Nat.{_+_, _<_, _^_}
+use Prim.Native.Nat.{_+_}
 use native.Mathlib.Numerals.{add-one}
 use native.Mathlib.Omega.{arith}
 use borrow.Author.Tests.{ltb-true}
-use lib.Dec.{T}
 use lib.IntN.{ℤ, pos, negsuc, natAbs}
-use lib.Signed.{ltZ, nonNeg}
+use lib.Signed.{ltZ}
 use mir.Syntax.{w32}
 use mir.Val.{SFits}
-use mir.Facts.{toZ-ofZ}
-use Rattle.exact.proofs.Signed.{mirror, mirror-negsuc, sfits-mirror}
+use mir.Facts.{toZ-ofZ, fits-natAbs}
+use Rattle.exact.proofs.Signed.{cast-of-natural, mirror, mirror-negsuc, sfits-mirror, mirror-natural-of-negative}
 use Rattle.print.proofs.below.Statement.{statement}
 use Rattle.print.proofs.below.Tie as tie
 
--- z is the size of n, less one
-record Below (n z : ℤ) : Type 0 where
-  natural : T (nonNeg z)
-  small : natAbs z < 2 ^ 31
-  size : natAbs z + 1 ≡ natAbs n
-
-below-zero : (n : ℤ) → SFits w32 n → ltZ n (pos 0) ≡ true → Below n (mirror n)
-below-zero (pos m) f e = absurd (let h = ltb-true m 0 e in omega arith)
-below-zero (negsuc m) f e =
-    subst⁻¹ (Below (negsuc m)) (mirror-negsuc m) (record { natural = tt; small = f .sfits; size = add-one m })
+-- the size of −1 − z is one less than that of z
+size-of-mirror : (z : ℤ) → ltZ z (pos 0) ≡ true → natAbs (mirror z) + 1 ≡ natAbs z
+size-of-mirror (pos m) e = absurd (let h = ltb-true m 0 e in omega arith)
+size-of-mirror (negsuc m) e = rw (mirror-negsuc m) (add-one m)
 
 module _ (c : tie.Then1) where
   abbrev n : ℤ
@@ -34,27 +27,27 @@ module _ (c : tie.Then1) where
   fits : SFits w32 n
   fits = c .before .fits .n
 
-  taken : ltZ n (pos 0) ≡ true
-  taken = rw (toZ-ofZ fits) at (c .if1 .taken)
+  negative : ltZ n (pos 0) ≡ true
+  negative = rw (toZ-ofZ fits) at (c .if1 .taken)
 
-  facts : Below n (mirror n)
-  facts = below-zero n fits taken
+  mirror-fits : SFits w32 (mirror n)
+  mirror-fits = sfits-mirror fits
+
+  size : natAbs (mirror n) + 1 ≡ natAbs n
+  size = size-of-mirror n negative
 
 sub-result : tie.Need-sub-result
-sub-result c = rw (toZ-ofZ (fits c)) (sfits-mirror (fits c))
+sub-result c = rw (toZ-ofZ (fits c)) (mirror-fits c)
 
 cast-result : tie.Need-cast-result
 cast-result c =
-    let h = facts c .small in
-    rw (toZ-ofZ (fits c), toZ-ofZ (sfits-mirror (fits c))) (facts c .natural, record { fits = omega arith })
+    rw (toZ-ofZ (fits c), toZ-ofZ (mirror-fits c)) (cast-of-natural tt (mirror-fits c) (mirror-natural-of-negative (n c) (negative c)))
 
 add-result : tie.Need-add-result
-add-result c =
-    let h = facts c .small in
-    rw (toZ-ofZ (fits c), toZ-ofZ (sfits-mirror (fits c))) (record { fits = omega arith })
+add-result c = rw (toZ-ofZ (fits c), toZ-ofZ (mirror-fits c), size c) (fits-natAbs tt (fits c))
 
 returns : tie.Need-returns
-returns c = rw (toZ-ofZ (fits c), toZ-ofZ (sfits-mirror (fits c)), taken c) (facts c .size)
+returns c = rw (toZ-ofZ (fits c), toZ-ofZ (mirror-fits c), negative c) (size c)
 
 returns-2 : tie.Need-returns-2
 returns-2 c = rw (rw (toZ-ofZ (c .before .fits .n)) at (c .if1 .left))

@@ -1,44 +1,21 @@
 -- `ratesheet::print_file` is safe: what `open` gives is an accepted curve of as many points as it says.
 -- Assumes nothing.
 use mathlib.Core.Path.{_≡_, sym, _∙_, ap}
-use mathlib.Core.List.{List, _++_}
+use mathlib.Core.List.{List, map}
 use Prim.Native.Nat.{ℕ}
 use native.Mathlib.Omega.{arith}
 use borrow.Author.Needs.{needs}
 use lib.IntN.{pos}
-use lib.ListN.{drop, replicate}
+use lib.ListN.{take, replicate}
 use Rattle.model.specs.Answer.{gives}
-use Rattle.layout.specs.Layout.{areas-of, values-of, slopes-of}
+use Rattle.model.specs.Points.{Point}
+use Rattle.layout.specs.Layout.{first-points, points-of}
+use Rattle.layout.proofs.Points.{first-of, as-many, on-fields}
 use Rattle.file.specs.Open.{Head, open-list}
 use Rattle.file.specs.Calls.{opened-answer}
-use Rattle.model.proofs.Filling.{front, front-length}
 use Rattle.ratesheet.proofs.Opened.{Given, given}
 use Rattle.ratesheet.proofs.print_file.Statement.{statement}
 use Rattle.ratesheet.proofs.print_file.Tie as tie
-
-slice-aggregate-open : tie.Need-slice-aggregate-open
-slice-aggregate-open c = search needs
-
-slice-aggregate-open-2 : tie.Need-slice-aggregate-open-2
-slice-aggregate-open-2 c = search needs
-
-slice-aggregate-open-3 : tie.Need-slice-aggregate-open-3
-slice-aggregate-open-3 c = search needs
-
-open-requires : tie.Need-open-requires
-open-requires c κs = search needs
-
-enum-known-number : tie.Need-enum-known-number
-enum-known-number c = search needs
-
-print-refusal-requires : tie.Need-print-refusal-requires
-print-refusal-requires c κs = search needs
-
-enum-known-shape : tie.Need-enum-known-shape
-enum-known-shape c = search needs
-
-cast-n : tie.Need-cast-n
-cast-n c = search needs
 
 module _ (c : tie.After-known-told2) where
   abbrev opened : tie.After-open
@@ -57,68 +34,48 @@ module _ (c : tie.After-known-told2) where
   facts : Given bytes 64 64 64 head
   facts = given bytes 64 64 64 head (sym (opened .«open» .ensures .0) ∙ answer)
 
-  -- a list after the call
-  filled : {A : Type 0} (first : ℕ → List A) (found : List A) {last : List A} → last ≡ open-list (opened-answer (opened .«open» .result)) first found → last ≡ first (head .count) ++ drop (head .count) found
+  abbrev n : ℕ
+  n = head .count
+
+  abbrev ps : List Point
+  ps = first-points bytes n
+
+  -- a list after the call begins with a field of each point
+  filled : {A : Type 0} (field : Point → A) (found : List A) {l : List A} →
+      l ≡ open-list (opened-answer (opened .«open» .result)) (map field (points-of bytes)) found →
+      take n l ≡ map field ps
   unfolding open-list
-  filled first found e = e ∙ ap (λ a. open-list a first found) answer
+  filled field found e = first-of bytes n field _ (rw (answer, facts .count-is) at e)
 
-  areas-are : opened .«open» .last .1 .0 ≡ areas-of bytes (head .count) ++ drop (head .count) (replicate 64 0)
-  areas-are = filled (areas-of bytes) (replicate 64 0) (opened .«open» .ensures .1 .0)
+  areas-are : take n (opened .«open» .last .1 .0) ≡ map (λ p. p .area) ps
+  areas-are = filled (λ p. p .area) (replicate 64 0) (opened .«open» .ensures .1 .0)
 
-  values-are : opened .«open» .last .1 .1 .0 ≡ values-of bytes (head .count) ++ drop (head .count) (replicate 64 0)
-  values-are = filled (values-of bytes) (replicate 64 0) (opened .«open» .ensures .1 .1 .0)
+  values-are : take n (opened .«open» .last .1 .1 .0) ≡ map (λ p. p .value) ps
+  values-are = filled (λ p. p .value) (replicate 64 0) (opened .«open» .ensures .1 .1 .0)
 
-  slopes-are : opened .«open» .last .1 .1 .1 .0 ≡ slopes-of bytes (head .count) ++ drop (head .count) (replicate 64 (pos 0))
-  slopes-are = filled (slopes-of bytes) (replicate 64 (pos 0)) (opened .«open» .ensures .1 .1 .1)
+  slopes-are : take n (opened .«open» .last .1 .1 .1 .0) ≡ map (λ p. p .slope) ps
+  slopes-are = filled (λ p. p .slope) (replicate 64 (pos 0)) (opened .«open» .ensures .1 .1 .1)
 
 array-share-prefix-areas : tie.Need-array-share-prefix-areas
-array-share-prefix-areas c = omega (arith, facts c .fits .in-areas, opened c .«open» .kept .1 .0)
-
-slice-aggregate-print-curve : tie.Need-slice-aggregate-print-curve
-slice-aggregate-print-curve c = front-length _ _ _ _ (areas-are (c .before))
+array-share-prefix-areas c = omega (arith, facts c .fits, opened c .«open» .kept .1 .0)
 
 array-share-prefix-values : tie.Need-array-share-prefix-values
-array-share-prefix-values c = omega (arith, facts (c .before) .fits .in-values, opened (c .before) .«open» .kept .1 .1 .0)
-
-slice-aggregate-print-curve-2 : tie.Need-slice-aggregate-print-curve-2
-slice-aggregate-print-curve-2 c = front-length _ _ _ _ (values-are (c .before .before))
+array-share-prefix-values c = omega (arith, facts (c .before) .fits, opened (c .before) .«open» .kept .1 .1 .0)
 
 array-share-prefix-slopes : tie.Need-array-share-prefix-slopes
 array-share-prefix-slopes c =
-    omega (arith, facts (c .before .before) .fits .in-slopes, opened (c .before .before) .«open» .kept .1 .1 .1 .0)
-
-slice-aggregate-print-curve-3 : tie.Need-slice-aggregate-print-curve-3
-slice-aggregate-print-curve-3 c = front-length _ _ _ _ (slopes-are (c .before .before .before))
+    omega (arith, facts (c .before .before) .fits, opened (c .before .before) .«open» .kept .1 .1 .1 .0)
 
 print-curve-requires : tie.Need-print-curve-requires
 print-curve-requires c κs =
     let d = c .before .before .before in
-    rw (front _ _ _ _ (areas-are d), front _ _ _ _ (values-are d), front _ _ _ _ (slopes-are d)) (facts d .accepted)
-
-returns : tie.Need-returns
-returns c = search needs
-
-returns-2 : tie.Need-returns-2
-returns-2 c = search needs
+    rw (areas-are d, values-are d, slopes-are d, on-fields (ps d)) (facts d .accepted)
 
 pub print-file-spec : {M : Type 1} → statement M
 print-file-spec =
     tie.close
-    (tie.spec
-    slice-aggregate-open
-    slice-aggregate-open-2
-    slice-aggregate-open-3
-    open-requires
-    enum-known-number
-    print-refusal-requires
-    enum-known-shape
-    cast-n
-    array-share-prefix-areas
-    slice-aggregate-print-curve
-    array-share-prefix-values
-    slice-aggregate-print-curve-2
-    array-share-prefix-slopes
-    slice-aggregate-print-curve-3
-    print-curve-requires
-    returns
-    returns-2)
+    (tie.spec (search needs) (search needs) (search needs) (search needs) (search needs) (search needs)
+    (search needs) (search needs) array-share-prefix-areas (λ c. as-many _ _ _ (areas-are (c .before)))
+    array-share-prefix-values (λ c. as-many _ _ _ (values-are (c .before .before)))
+    array-share-prefix-slopes (λ c. as-many _ _ _ (slopes-are (c .before .before .before)))
+    print-curve-requires (search needs) (search needs))

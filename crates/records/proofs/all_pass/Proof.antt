@@ -1,47 +1,50 @@
 -- `records::all_pass` meets its contract. The loop's invariant: no row refuses the points to `left` or the segments between them.
 -- Assumes nothing.
-use mathlib.Core.Path.{_≡_, refl, sym, _∙_, ap, subst, subst⁻¹}
-use mathlib.Core.List.{List}
+use mathlib.Core.Path.{_≡_, refl, sym, _∙_}
+use mathlib.Core.Bool.{true≢false}
+use mathlib.Core.List.{List, []}
 use mathlib.Core.Option.{none, some}
 use Prim.Native.Nat.{ℕ, _+_, _-_, _≤_, _<_}
 use native.Mathlib.Omega.{arith}
 use borrow.Author.Needs.{needs}
-use mir.Syntax.{w32}
-use mir.Val.{SFits}
-use mir.Facts.{toZ-ofZ}
-use Rattle.model.specs.Answer.{Answer, row, _then_}
+use Rattle.model.specs.Answer.{row, _then_}
+use Rattle.model.specs.Points as model
 use Rattle.model.specs.Points.{shape-of}
-use Rattle.rows.specs.Steps.{earlier}
-use Rattle.rows.proofs.Faults.{passes, area-passed, points-from, point-end, segments-from, segment-end}
-use Rattle.layout.specs.Layout.{area-at, areas-of, values-of, slopes-of}
-use Rattle.records.proofs.Placed.{size, all-lengths, point-is, point-done, segment-done}
+use Rattle.model.specs.Inner.{Limits}
+use Rattle.model.proofs.Rows.{Passed, passed, neighbours}
+use Rattle.point.specs.Inner.{earlier, point-of}
+use Rattle.point.specs.declared.Point.{Point}
+use Rattle.rows.proofs.Faults.{no-fault, passes, limits-of-no-fault}
+use Rattle.rows.proofs.Faults.{points-from, point-turn, point-end, segments-from, segment-turn, segment-end}
+use Rattle.layout.specs.Layout.{record-at, first-points}
+use Rattle.layout.proofs.Points.{size-of-first, point-is}
+use Rattle.records.proofs.Placed.{accepted-of}
 use Rattle.records.proofs.all_pass.Statement.{statement}
 use Rattle.records.proofs.all_pass.Tie as tie
 
+record Passing (bytes : List ℕ) (n code last : ℕ) (p : Point) (left : ℕ) : Type 0 where
+  pub inner : left ≤ last
+  pub last-is : last + 1 ≡ n
+  pub here : point-of p ≡ record-at bytes left
+  pub limits : Limits (point-of p)
+  pub points-pass :
+      points-from (first-points bytes n) (some (p .area)) (left + 1) ≡ points-from (first-points bytes n) none 0
+  pub segments-pass :
+      segments-from (first-points bytes n) (shape-of code) left ≡ segments-from (first-points bytes n) (shape-of code) 0
+
 abbrev Inv-loop : tie.InvT-loop
-Inv-loop bytes n shape last left₀ left =
-    (left ≤ last) × (last + 1 ≡ n) × (area-at bytes left ≤ 20000)
-    × (points-from (areas-of bytes n) (values-of bytes n) (slopes-of bytes n) (some (area-at bytes left)) (left + 1) ≡ points-from (areas-of bytes n) (values-of bytes n) (slopes-of bytes n) none 0)
-    × (segments-from (areas-of bytes n) (values-of bytes n) (slopes-of bytes n) (shape-of shape) left ≡ segments-from (areas-of bytes n) (values-of bytes n) (slopes-of bytes n) (shape-of shape) 0)
+Inv-loop bytes n shape p₀ last left₀ p left = Passing bytes n shape last p left
 
 abbrev μ-loop : tie.MeasureT-loop
-μ-loop bytes n shape last left₀ left = last - left
+μ-loop bytes n shape p₀ last left₀ p left = last - left
 
 record-at-requires : tie.Need-record-at-requires Inv-loop μ-loop
 record-at-requires c κs = record { file = omega arith }
 
-point-fault-requires : tie.Need-point-fault-requires Inv-loop μ-loop
-point-fault-requires c κs = search needs
-
-returns : tie.Need-returns Inv-loop μ-loop
-returns c = λ e. absurd (let z : _≡_ {A = ℕ} 0 1 = cc in omega arith)
-
-sub-last : tie.Need-sub-last Inv-loop μ-loop
-sub-last c = omega arith
-
-module _ (c : tie.Else1 Inv-loop μ-loop) where
+-- the file's points
+module _ (c : tie.Else2 Inv-loop μ-loop) where
   abbrev start : tie.Start Inv-loop μ-loop
-  start = c .before .before .before .before .before
+  start = c .before .before .before .before .before .before
 
   abbrev bytes : List ℕ
   bytes = start .args .bytes .now
@@ -49,88 +52,91 @@ module _ (c : tie.Else1 Inv-loop μ-loop) where
   abbrev n : ℕ
   n = start .args .n
 
-  abbrev points-are : ℕ → ℕ → Answer (Unit {0})
-  points-are area i = points-from (areas-of bytes n) (values-of bytes n) (slopes-of bytes n) (some area) i
+  abbrev ps : List model.Point
+  ps = first-points bytes n
 
 loop-holds : tie.Need-loop-holds Inv-loop μ-loop
 unfolding earlier
 loop-holds c =
-    let p = c .before .before .before .record-at in
-    let h : 0 < n c = omega arith in (
-      omega arith,
-      omega arith,
-      subst (λ (a : ℕ). a ≤ 20000) (p .ensures .0) (area-passed 0 _ _ (c .before .point-fault .ensures 0) (c .if1 .left)),
-      ap (λ (a : ℕ). points-are c a 1) (sym (p .ensures .0)) ∙ sym (passes 0 _ (c .if1 .left))
-          ∙ point-done (bytes c) (n c) (start c .pre) 0 none (c .before .point-fault .result) h
-          (point-is (bytes c) (n c) h (p .ensures .0) (p .ensures .1) (toZ-ofZ {w = w32} {z = p .result .slope} (search needs) ∙ p .ensures .2)) (c .before .point-fault .ensures 0),
-      refl,
-    )
+    let p = c .before .before .record-at in
+    let f = c .before .point-fault .ensures 0 in
+    let first : 0 < n c = omega arith in
+    record {
+      inner = omega arith;
+      last-is = omega arith;
+      here = p .ensures;
+      limits = limits-of-no-fault 0 none (point-of (p .result)) f (c .if2 .left);
+      points-pass =
+          sym (passes 0 _ (c .if2 .left))
+          ∙ point-turn (ps c) none 0 _ (point-of (p .result)) (rw (size-of-first (bytes c) (n c)) first)
+          (p .ensures ∙ sym (point-is (bytes c) (n c) 0 first)) f;
+      segments-pass = refl;
+    }
 
-record-at-requires-2 : tie.Need-record-at-requires-2 Inv-loop μ-loop
-record-at-requires-2 c κs = record { file = omega arith }
+-- the point to the right of `left`
+module _ (c : tie.Else3 Inv-loop μ-loop) where
+  abbrev loop-of : tie.At-loop Inv-loop μ-loop
+  loop-of = c .before .before .before .before
 
-add-right : tie.Need-add-right Inv-loop μ-loop
-add-right c = omega arith
+  abbrev right : ℕ
+  right = loop-of .loop .left + 1
 
-record-at-requires-3 : tie.Need-record-at-requires-3 Inv-loop μ-loop
-record-at-requires-3 c κs = record { file = omega arith }
+  abbrev q : Point
+  q = c .before .before .record-at2 .result
 
-point-fault-requires-2 : tie.Need-point-fault-requires-2 Inv-loop μ-loop
-point-fault-requires-2 c κs =
-    let p = c .before .before .record-at2 in
-    subst⁻¹ (λ (a : ℕ). a ≤ 20000) (p .ensures .0) (c .before .before .before .before .loop .inv .2)
-
-returns-2 : tie.Need-returns-2 Inv-loop μ-loop
-returns-2 c = λ e. absurd (let z : _≡_ {A = ℕ} 0 1 = cc in omega arith)
+  right-passed : Passed right (some (loop-of .loop .p .area)) (point-of q) []
+  unfolding earlier
+  right-passed = passed right _ (point-of q) [] (sym (c .before .point-fault2 .ensures right) ∙ no-fault right (c .if3 .left))
 
 has-shape-requires : tie.Need-has-shape-requires Inv-loop μ-loop
-has-shape-requires c κs = search needs
-
-returns-3 : tie.Need-returns-3 Inv-loop μ-loop
-returns-3 c = λ e. absurd (let z : _≡_ {A = ℕ} 0 1 = cc in omega arith)
-
-loop-less : tie.Need-loop-less Inv-loop μ-loop
-loop-less c = omega arith
-
-left-slope : (c : tie.After-record-at2 Inv-loop μ-loop) → SFits w32 (c .record-at2 .result .slope)
-left-slope c = search needs
-
-right-slope : (c : tie.After-record-at3 Inv-loop μ-loop) → SFits w32 (c .record-at3 .result .slope)
-right-slope c = search needs
+has-shape-requires c κs = neighbours (loop-of c .loop .inv .limits) (right-passed c)
 
 loop-again : tie.Need-loop-again Inv-loop μ-loop
 unfolding earlier row _then_
 loop-again c =
-    let b = c .before .before .before .before in
-    let f = b .before in
-    let q = f .before .before .record-at3 in
-    let p = f .before .before .before .record-at2 in
-    let l = f .before .before .before .before .before in
+    let e = c .before .before in
+    let l = loop-of e in
     let s = l .before in
+    let k = l .loop .inv in
     let i = l .loop .left in
-    let h : i + 1 < n s = omega (arith, f .before .before .before .before .loop-test .taken, l .loop .inv .1) in
-    let right = point-is (bytes s) (n s) h (q .ensures .0) (q .ensures .1) (toZ-ofZ (right-slope (f .before .before)) ∙ q .ensures .2) in
-    let left = point-is (bytes s) (n s) (omega (arith, h)) (p .ensures .0) (p .ensures .1) (toZ-ofZ (left-slope (f .before .before .before)) ∙ p .ensures .2) in (
-      omega (arith, h, l .loop .inv .1),
-      l .loop .inv .1,
-      subst (λ (a : ℕ). a ≤ 20000) (q .ensures .0) (area-passed (i + 1) _ _ (f .point-fault2 .ensures (i + 1)) (b .if2 .left)),
-      ap (λ (a : ℕ). points-are s a (i + 1 + 1)) (sym (q .ensures .0)) ∙ sym (passes (i + 1) _ (b .if2 .left))
-          ∙ point-done (bytes s) (n s) (start s .pre) (i + 1) (some (p .result .area)) (f .point-fault2 .result) h right (f .point-fault2 .ensures (i + 1))
-          ∙ ap (λ (a : ℕ). points-are s a (i + 1)) (p .ensures .0) ∙ l .loop .inv .3,
-      (rw (c .if3 .left) at (segment-done (bytes s) (n s) (start s .pre) i (shape-of (start s .args .shape)) h left right (c .before .has-shape .ensures))) ∙ l .loop .inv .4,
-    )
+    let size = size-of-first (bytes s) (n s) in
+    let t = e .before .before .before .loop-test .taken in
+    let inner : i + 1 < n s = omega arith in
+    let outer : i < n s = omega arith in
+    let left = k .here ∙ sym (point-is (bytes s) (n s) i outer) in
+    let right = e .before .before .record-at2 .ensures ∙ sym (point-is (bytes s) (n s) (i + 1) inner) in
+    record {
+      inner = omega arith;
+      last-is = k .last-is;
+      here = e .before .before .record-at2 .ensures;
+      limits = right-passed e .limits;
+      points-pass =
+          sym (passes (i + 1) _ (e .if3 .left))
+          ∙ point-turn (ps s) _ (i + 1) _ (point-of (q e)) (rw size inner) right (e .before .point-fault2 .ensures (i + 1))
+          ∙ k .points-pass;
+      segments-pass =
+          rw (c .if4 .left) at
+          (segment-turn (ps s) (shape-of (start s .args .shape)) i (point-of (l .loop .p)) (point-of (q e)) (rw size inner)
+          left right (c .before .has-shape .ensures))
+          ∙ k .segments-pass;
+    }
 
-returns-4 : tie.Need-returns-4 Inv-loop μ-loop
-returns-4 c =
+returns-5 : tie.Need-returns-5 Inv-loop μ-loop
+returns-5 c = λ e.
     let l = c .before in
     let s = l .before in
-    let k = all-lengths (bytes s) (n s) (start s .pre) in
-    λ e. record {
-      in-points = sym (l .loop .inv .3) ∙ point-end _ _ _ k (some (area-at (bytes s) (l .loop .left))) (l .loop .left + 1) (omega (arith, size (bytes s) (n s)));
-      in-segments = sym (l .loop .inv .4) ∙ segment-end _ _ _ k (shape-of (start s .args .shape)) (l .loop .left) (omega (arith, size (bytes s) (n s)));
-    }
+    let k = l .loop .inv in
+    let size = size-of-first (bytes s) (n s) in
+    let b = s .before .before .before in
+    accepted-of (bytes s) (n s) (start s .pre) (sym (b .before .bad-code .ensures) ∙ b .if1 .left)
+    (sym (k .points-pass) ∙ point-end (ps s) _ (l .loop .left + 1) (omega arith))
+    (sym (k .segments-pass) ∙ segment-end (ps s) _ (l .loop .left) (omega arith))
 
 pub all-pass-spec : {M : Type 1} → statement M
 all-pass-spec =
     tie.close
-    (tie.spec Inv-loop μ-loop record-at-requires point-fault-requires returns sub-last loop-holds record-at-requires-2 add-right record-at-requires-3 point-fault-requires-2 returns-2 has-shape-requires returns-3 loop-less loop-again returns-4)
+    (tie.spec Inv-loop μ-loop (search needs) (λ c e. absurd (true≢false (sym e))) record-at-requires (search needs)
+    (λ c e. absurd (true≢false (sym e))) (λ c. omega arith) loop-holds (λ c. omega arith)
+    (λ c κs. record { file = omega arith }) (λ c κs. c .before .before .loop .inv .limits .area)
+    (λ c e. absurd (true≢false (sym e))) has-shape-requires (λ c e. absurd (true≢false (sym e)))
+    (λ c. omega arith) loop-again returns-5)

@@ -1,74 +1,109 @@
 -- `rows::curve_fault` meets its contract: the rows in their order, each by the function that tries it.
 -- Assumes nothing.
 use mathlib.Core.Path.{_≡_, sym, _∙_}
+use mathlib.Core.Bool.{false}
+use mathlib.Core.List.{List}
+use mathlib.Core.Option.{none}
 use borrow.Author.Needs.{needs}
+use lib.ListN.{length}
 use Rattle.model.specs.Answer.{Answer, row, _then_}
-use Rattle.model.specs.Points.{points, segments, shape-of}
-use Rattle.model.specs.Check.{segment-rows, curve-rows}
-use Rattle.model.specs.Facts.{fault-answer}
-use Rattle.model.proofs.Accepted.{lengths-passed}
-use Rattle.rows.proofs.Faults.{passes, stops}
+use Rattle.model.specs.Points.{Point, points, segments, shape-of}
+use Rattle.model.specs.Check.{bad-count, point-rows, segment-rows, curve-rows, on-lists}
+use Rattle.model.specs.Inner.{Alike, fault-answer}
+use Rattle.model.proofs.Lists.{fields-of, fields-length}
+use Rattle.model.proofs.Rows.{alike-of-row-1, count-of-row-1}
+use Rattle.rows.specs.Inner.{Lengths}
+use Rattle.rows.proofs.Faults.{no-fault, passes, stops}
 use Rattle.rows.proofs.curve_fault.Statement.{statement}
 use Rattle.rows.proofs.curve_fault.Tie as tie
 
-bad-lengths-requires : tie.Need-bad-lengths-requires
-bad-lengths-requires c κs = search needs
-
 returns : tie.Need-returns
-unfolding curve-rows fault-answer row _then_
-returns c = rw (sym (c .before .bad-lengths .ensures) ∙ c .if1 .taken)
+unfolding on-lists fault-answer row _then_
+returns c = rw (sym (c .before .lengths-differ .ensures) ∙ c .if1 .taken)
 
-bad-code-requires : tie.Need-bad-code-requires
-bad-code-requires c κs = search needs
+-- row 1 of the lists is passed
+module _ (c : tie.Else1) where
+  abbrev start : tie.Start
+  start = c .before .before .before .before
+
+  abbrev ps : List Point
+  ps = points (start .args .areas .now) (start .args .values .now) (start .args .slopes .now)
+
+  alike : Alike (length (start .args .areas .now)) (length (start .args .values .now)) (length (start .args .slopes .now))
+  alike = alike-of-row-1 _ _ _ (sym (c .before .lengths-differ .ensures) ∙ c .if1 .left)
+
+  size : length ps ≡ length (start .args .areas .now)
+  size = fields-length (fields-of _ _ _ alike)
+
+  abbrev all-rows : Answer (Unit {0})
+  all-rows =
+      on-lists (start .args .areas .now) (start .args .values .now) (start .args .slopes .now)
+      (λ ps. curve-rows ps (start .args .shape))
+
+  after-lengths : all-rows ≡ curve-rows ps (start .args .shape)
+  unfolding on-lists row _then_
+  after-lengths = rw (sym (c .before .lengths-differ .ensures) ∙ c .if1 .left)
 
 returns-2 : tie.Need-returns-2
 unfolding curve-rows fault-answer row _then_
 returns-2 c =
-    let b = c .before .before in
-    rw (sym (b .before .bad-lengths .ensures) ∙ b .if1 .left, sym (c .before .bad-code .ensures) ∙ c .if2 .taken)
+    let b = c .before in
+    rw (after-lengths (b .before), size (b .before), sym (b .bad-count .ensures) ∙ c .if2 .taken)
 
-points-fault-requires : tie.Need-points-fault-requires
-points-fault-requires c κs =
-    let b = c .before .before in
-    lengths-passed _ _ _ (sym (b .before .bad-lengths .ensures) ∙ b .if1 .left)
-
-module _ (c : tie.After-points-fault) where
-  abbrev start : tie.Start
-  start = c .before .before .before .before .before .before .before
-
-  abbrev rest : Answer (Unit {0})
-  rest = segment-rows 0 (shape-of (start .args .shape)) (segments (points (start .args .areas .now) (start .args .values .now) (start .args .slopes .now)))
-
-  -- rows 1 and 2 are passed, and the points' fault is known
-  after-points : curve-rows (start .args .areas .now) (start .args .values .now) (start .args .slopes .now) (start .args .shape) ≡ (fault-answer (c .points-fault .result .number) (c .points-fault .result .place) then rest)
-  unfolding curve-rows row _then_
-  after-points =
-      let code = c .before in
-      let lengths = code .before .before in
-      rw (sym (lengths .before .bad-lengths .ensures) ∙ lengths .if1 .left, sym (code .before .bad-code .ensures) ∙ code .if2 .left, sym (c .points-fault .ensures))
+-- row 1 of the points, too
+count-passed : (c : tie.Else2) → bad-count (length (ps (c .before .before))) ≡ false
+count-passed c = rw (size (c .before .before)) (sym (c .before .bad-count .ensures) ∙ c .if2 .left)
 
 returns-3 : tie.Need-returns-3
+unfolding curve-rows fault-answer row _then_
 returns-3 c =
-    let p = c .before .before in
-    rw (after-points p, stops (p .points-fault .result .place) (rest p) (c .if3 .taken))
+    let b = c .before in
+    rw (after-lengths (b .before .before .before), count-passed (b .before), sym (b .bad-code .ensures) ∙ c .if3 .taken)
 
-segments-fault-requires : tie.Need-segments-fault-requires
-segments-fault-requires c κs = points-fault-requires (c .before .before .before) κs
+-- rows 1 and 2 are passed
+module _ (c : tie.Else3) where
+  abbrev first : tie.Else1
+  first = c .before .before .before .before
+
+  lengths : Lengths (length (start first .args .areas .now)) (length (start first .args .values .now))
+      (length (start first .args .slopes .now))
+  lengths =
+      let n = count-of-row-1 _ (rw (size first) at (count-passed (c .before .before))) in
+      record { alike = alike first; least = n .0; most = n .1 }
+
+  after-code : all-rows first ≡ (point-rows 0 none (ps first) then segment-rows 0 (shape-of (start first .args .shape)) (segments (ps first)))
+  unfolding curve-rows row _then_
+  after-code =
+      rw (after-lengths first, count-passed (c .before .before), sym (c .before .bad-code .ensures) ∙ c .if3 .left)
+
+points-fault-requires : tie.Need-points-fault-requires
+points-fault-requires c κs = lengths c
+
+-- the points' fault is known
+after-points : (c : tie.After-points-fault) →
+    (let f = first (c .before) in
+    all-rows f
+    ≡ (fault-answer (c .points-fault .result .number) (c .points-fault .result .place)
+    then segment-rows 0 (shape-of (start f .args .shape)) (segments (ps f))))
+after-points c = rw (after-code (c .before), sym (c .points-fault .ensures))
 
 returns-4 : tie.Need-returns-4
 returns-4 c =
+    let p = c .before .before in
+    rw (after-points p, stops (p .points-fault .result .place) _ (c .if4 .taken))
+
+segments-fault-requires : tie.Need-segments-fault-requires
+segments-fault-requires c κs =
+    let p = c .before .before in
+    record { lengths = lengths (p .before); points-pass = sym (p .points-fault .ensures) ∙ no-fault _ (c .if4 .left) }
+
+returns-5 : tie.Need-returns-5
+returns-5 c =
     let p = c .before .before .before in
-    rw (after-points p, passes (p .points-fault .result .place) (rest p) (c .before .if3 .left)) (c .segments-fault .ensures)
+    rw (after-points p, passes (p .points-fault .result .place) _ (c .before .if4 .left)) (c .segments-fault .ensures)
 
 pub curve-fault-spec : {M : Type 1} → statement M
 curve-fault-spec =
     tie.close
-    (tie.spec
-    bad-lengths-requires
-    returns
-    bad-code-requires
-    returns-2
-    points-fault-requires
-    returns-3
-    segments-fault-requires
-    returns-4)
+    (tie.spec (search needs) returns (search needs) returns-2 (search needs) returns-3 points-fault-requires returns-4
+    segments-fault-requires returns-5)

@@ -1,107 +1,76 @@
 -- `rows::segments_fault` meets its contract. The loop's invariant: the rows from segment `left` on decide as those from the first.
 -- Assumes nothing.
-use mathlib.Core.Path.{_≡_, refl, sym, _∙_, ap}
-use mathlib.Core.Bool.{Bool, not}
-use Prim.Native.Nat.{ℕ, _+_, _-_, _≤_}
+use mathlib.Core.Path.{_≡_, refl, sym, _∙_}
+use mathlib.Core.Bool.{not}
+use mathlib.Core.List.{List}
+use Prim.Native.Nat.{_+_, _-_, _≤_}
+use native.Mathlib.Numerals.{add-one}
 use native.Mathlib.Omega.{arith}
-use borrow.Author.Needs.{needs}
 use lib.ListN.{length}
-use Rattle.model.specs.Answer.{Answer, row, _then_}
-use Rattle.model.specs.Points.{Point, shape-of}
-use Rattle.model.specs.Shape.{has-shape}
-use Rattle.model.specs.Facts.{fault-answer, between}
-use Rattle.exact.proofs.Bits.{element-is}
-use Rattle.model.proofs.Indexed.{point}
+use Rattle.model.specs.Answer.{row, _then_}
+use Rattle.model.specs.Points.{Point, points, shape-of}
+use Rattle.model.specs.Inner.{fault-answer, Neighbours}
+use Rattle.model.proofs.Lists.{fields-of, fields-length}
+use Rattle.model.proofs.Indexed.{chained-at}
+use Rattle.model.proofs.Accepted.{neighbours-of-rows}
+use Rattle.point.specs.Inner.{point-of}
 use Rattle.rows.proofs.Faults.{segments-from, segment-turn, segment-end}
 use Rattle.rows.proofs.segments_fault.Statement.{statement}
 use Rattle.rows.proofs.segments_fault.Tie as tie
 
 abbrev Inv-loop : tie.InvT-loop
 Inv-loop areas values slopes shape last left₀ left =
-    (left ≤ last) × (last + 1 ≡ length areas)
-    × (segments-from areas values slopes (shape-of shape) left ≡ segments-from areas values slopes (shape-of shape) 0)
+    let ps = points areas values slopes in
+    (left ≤ last) × (last + 1 ≡ length areas) × (segments-from ps (shape-of shape) left ≡ segments-from ps (shape-of shape) 0)
 
 abbrev μ-loop : tie.MeasureT-loop
 μ-loop areas values slopes shape last left₀ left = last - left
 
-sub-last : tie.Need-sub-last Inv-loop μ-loop
-sub-last c = omega arith
-
 loop-holds : tie.Need-loop-holds Inv-loop μ-loop
 loop-holds c = (omega arith, omega arith, refl)
 
-add-right : tie.Need-add-right Inv-loop μ-loop
-add-right c = omega arith
-
-mul-has-shape : tie.Need-mul-has-shape Inv-loop μ-loop
-mul-has-shape c = omega arith
-
-shared-slice-read-has-shape : tie.Need-shared-slice-read-has-shape Inv-loop μ-loop
-shared-slice-read-has-shape c = omega arith
-
-mul-has-shape-2 : tie.Need-mul-has-shape-2 Inv-loop μ-loop
-mul-has-shape-2 c = omega arith
-
-shared-slice-read-has-shape-2 : tie.Need-shared-slice-read-has-shape-2 Inv-loop μ-loop
-shared-slice-read-has-shape-2 c = omega arith
-
-mul-has-shape-3 : tie.Need-mul-has-shape-3 Inv-loop μ-loop
-mul-has-shape-3 c = omega arith
-
-shared-slice-copy-out-has-shape : tie.Need-shared-slice-copy-out-has-shape Inv-loop μ-loop
-shared-slice-copy-out-has-shape c = omega arith
-
-mul-has-shape-4 : tie.Need-mul-has-shape-4 Inv-loop μ-loop
-mul-has-shape-4 c = omega arith
-
-shared-slice-read-has-shape-3 : tie.Need-shared-slice-read-has-shape-3 Inv-loop μ-loop
-shared-slice-read-has-shape-3 c = omega arith
-
-mul-has-shape-5 : tie.Need-mul-has-shape-5 Inv-loop μ-loop
-mul-has-shape-5 c = omega arith
-
-shared-slice-read-has-shape-4 : tie.Need-shared-slice-read-has-shape-4 Inv-loop μ-loop
-shared-slice-read-has-shape-4 c = omega arith
-
-mul-has-shape-6 : tie.Need-mul-has-shape-6 Inv-loop μ-loop
-mul-has-shape-6 c = omega arith
-
-shared-slice-copy-out-has-shape-2 : tie.Need-shared-slice-copy-out-has-shape-2 Inv-loop μ-loop
-shared-slice-copy-out-has-shape-2 c = omega arith
-
-has-shape-requires : tie.Need-has-shape-requires Inv-loop μ-loop
-has-shape-requires c κs = search needs
-
+-- the points, and that they are as many as the areas
 module _ (c : tie.At-loop Inv-loop μ-loop) where
   abbrev entry : tie.Start Inv-loop μ-loop
   entry = c .before .before .before
 
-  abbrev rows-from : ℕ → Answer (Unit {0})
-  rows-from = segments-from (entry .args .areas .now) (entry .args .values .now) (entry .args .slopes .now) (shape-of (entry .args .shape))
+  abbrev ps : List Point
+  ps = points (entry .args .areas .now) (entry .args .values .now) (entry .args .slopes .now)
 
-  abbrev at : ℕ → Point
-  at = point (entry .args .areas .now) (entry .args .values .now) (entry .args .slopes .now)
+  size : length ps ≡ length (entry .args .areas .now)
+  size = fields-length (fields-of _ _ _ (entry .pre .lengths .alike))
+
+point-at-requires : tie.Need-point-at-requires Inv-loop μ-loop
+point-at-requires c κs = record { alike = entry (c .before) .pre .lengths .alike; index = omega arith }
+
+point-at-requires-2 : tie.Need-point-at-requires-2 Inv-loop μ-loop
+point-at-requires-2 c κs = record { alike = entry (c .before .before) .pre .lengths .alike; index = omega arith }
+
+abbrev loop-of : tie.After-point-at2 Inv-loop μ-loop → tie.At-loop Inv-loop μ-loop
+loop-of c = c .before .before .before
+
+has-shape-requires : tie.Need-has-shape-requires Inv-loop μ-loop
+has-shape-requires c κs =
+    let l = loop-of c in
+    let k = entry l .pre in
+    let n = neighbours-of-rows (ps l) (rw (size l) (k .lengths .least)) (k .points-pass) in
+    rw (c .before .point-at .ensures, c .point-at2 .ensures, add-one)
+    (chained-at Neighbours (λ s g. g .ordered) n (l .loop .left) (omega (arith, size l)))
 
 -- after the call: this segment's row, then those of the segments after it
-turn : (c : tie.After-has-shape Inv-loop μ-loop) → (let l = c .before .before .before .before .before .before .before .before in (row (not (c .has-shape .result)) 6 (l .loop .left) then rows-from l (l .loop .left + 1)) ≡ rows-from l 0)
+turn : (c : tie.After-has-shape Inv-loop μ-loop) →
+    (let l = loop-of (c .before) in
+    let rows = segments-from (ps l) (shape-of (entry l .args .shape)) in
+    (row (not (c .has-shape .result)) 6 (l .loop .left) then rows (l .loop .left + 1)) ≡ rows 0)
 turn c =
-    let l = c .before .before .before .before .before .before .before .before in
-    let s = entry l in
-    let slopes = s .args .slopes .now in
-    let shaped : c .has-shape .result ≡ has-shape (shape-of (s .args .shape)) (between (at l (l .loop .left)) (at l (l .loop .left + 1))) =
-    rw (element-is slopes (l .loop .left) (c .before .before .before .before .has-shape-arg .given), element-is slopes (l .loop .left + 1) (c .before .has-shape-arg2 .given)) at (c .has-shape .ensures) in
-    ap (λ (b : Bool). row (not b) 6 (l .loop .left) then rows-from l (l .loop .left + 1)) shaped
-    ∙ sym (segment-turn _ _ _ (s .pre) (shape-of (s .args .shape)) (l .loop .left) (omega arith)) ∙ l .loop .inv .2
-
-cast-t29 : tie.Need-cast-t29 Inv-loop μ-loop
-cast-t29 c = omega arith
+    let l = loop-of (c .before) in
+    segment-turn (ps l) (shape-of (entry l .args .shape)) (l .loop .left) (point-of _) (point-of _) (omega (arith, size l))
+    (c .before .before .point-at .ensures) (c .before .point-at2 .ensures) (c .has-shape .ensures)
+    ∙ l .loop .inv .2
 
 returns : tie.Need-returns Inv-loop μ-loop
 unfolding fault-answer row _then_
 returns c = rw (c .if1 .taken) at (turn (c .before))
-
-loop-less : tie.Need-loop-less Inv-loop μ-loop
-loop-less c = omega arith
 
 loop-again : tie.Need-loop-again Inv-loop μ-loop
 unfolding row _then_
@@ -111,9 +80,10 @@ returns-2 : tie.Need-returns-2 Inv-loop μ-loop
 unfolding fault-answer row
 returns-2 c =
     let l = c .before in
-    sym (segment-end _ _ _ (entry l .pre) (shape-of (entry l .args .shape)) (l .loop .left) (omega arith)) ∙ l .loop .inv .2
+    sym (segment-end (ps l) (shape-of (entry l .args .shape)) (l .loop .left) (omega (arith, size l))) ∙ l .loop .inv .2
 
 pub segments-fault-spec : {M : Type 1} → statement M
 segments-fault-spec =
     tie.close
-    (tie.spec Inv-loop μ-loop sub-last loop-holds add-right mul-has-shape shared-slice-read-has-shape mul-has-shape-2 shared-slice-read-has-shape-2 mul-has-shape-3 shared-slice-copy-out-has-shape mul-has-shape-4 shared-slice-read-has-shape-3 mul-has-shape-5 shared-slice-read-has-shape-4 mul-has-shape-6 shared-slice-copy-out-has-shape-2 has-shape-requires cast-t29 returns loop-less loop-again returns-2)
+    (tie.spec Inv-loop μ-loop (λ c. omega arith) loop-holds (λ c. omega arith) point-at-requires point-at-requires-2
+    has-shape-requires (λ c. omega arith) returns (λ c. omega arith) loop-again returns-2)

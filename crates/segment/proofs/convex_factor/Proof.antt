@@ -9,8 +9,8 @@ use mir.Syntax.{w32}
 use mir.Val.{SFits, toZ}
 use mir.Facts.{toZ-ofZ, toZ-pos}
 use Rattle.exact.specs.Rounding.{round}
-use Rattle.exact.proofs.Magnitude.{fits-size}
-use Rattle.exact.proofs.Signed.{natural}
+use Rattle.exact.proofs.Magnitude.{sfits-of-size}
+use Rattle.exact.proofs.Signed.{cast-of-natural}
 use Rattle.model.specs.Points.{slope-most, Segment, convex}
 use Rattle.model.specs.Interpolant.{interpolant}
 use Rattle.model.specs.Inner.{Neighbours}
@@ -34,7 +34,7 @@ module _ (c : tie.Start) where
   facts = convex-inside (c .pre)
 
   d-fits : SFits w32 (c .args .p .slope +ℤ pos slope-most)
-  d-fits = fits-size w32 (c .args .p .slope +ℤ pos slope-most) (omega (arith, facts .input .slope))
+  d-fits = sfits-of-size w32 (c .args .p .slope +ℤ pos slope-most) (omega (arith, facts .input .slope))
 
 -- the places
 abbrev at-a : tie.After-struct-told → tie.After-slopes-of
@@ -65,7 +65,7 @@ sub-a c =
 cast-a : tie.Need-cast-a
 cast-a c =
     let k = at-a c in
-    rw (a-read (n k) (slopes k), toZ-ofZ (a-fits (n k))) (natural tt (a-fits (n k)) (facts (k .before) .above-is))
+    rw (a-read (n k) (slopes k), toZ-ofZ (a-fits (n k))) (cast-of-natural tt (a-fits (n k)) (facts (k .before) .above-is))
 
 sub-b : tie.Need-sub-b
 sub-b c =
@@ -75,7 +75,7 @@ sub-b c =
 cast-b : tie.Need-cast-b
 cast-b c =
     let k = at-b c in
-    rw (b-read (n k) (slopes k), toZ-ofZ (b-fits (n k))) (natural tt (b-fits (n k)) (facts (k .before) .below-is))
+    rw (b-read (n k) (slopes k), toZ-ofZ (b-fits (n k))) (cast-of-natural tt (b-fits (n k)) (facts (k .before) .below-is))
 
 add-d : tie.Need-add-d
 add-d c =
@@ -85,7 +85,7 @@ add-d c =
 cast-d : tie.Need-cast-d
 cast-d c =
     let s = at-d c .before in
-    rw (slope-read (ends s .left), toZ-ofZ (d-fits s)) (natural tt (d-fits s) (facts s .slope-is))
+    rw (slope-read (ends s .left), toZ-ofZ (d-fits s)) (cast-of-natural tt (d-fits s) (facts s .slope-is))
 
 raised-requires : tie.Need-raised-requires
 raised-requires c κs =

@@ -4,7 +4,7 @@ use borrow.Author.Needs.{needs}
 use mathlib.Core.Path.{refl}
 use native.Mathlib.Nat.{mul-pos, div-div-eq-div-mul}
 use native.Mathlib.Omega.{arith}
-use Rattle.exact.proofs.Size.{product-size}
+use Rattle.exact.proofs.Magnitude.{product-size}
 use Rattle.segment.proofs.Sizes.{h-positive, tangent-size, divisor-size, denominator-size}
 use Rattle.segment.proofs.Sizes.{excess-size, raised-size, least-near}
 use Rattle.segment.proofs.raised.Statement.{statement}

@@ -7,7 +7,7 @@ use mir.Syntax.{w32}
 use mir.Val.{SFits}
 use mir.Facts.{toZ-pos}
 use Rattle.exact.specs.Rounding.{round}
-use Rattle.exact.proofs.Signed.{natural}
+use Rattle.exact.proofs.Signed.{cast-of-natural}
 use Rattle.model.specs.Points.{Segment, rising}
 use Rattle.model.specs.Interpolant.{interpolant}
 use Rattle.point.specs.Inner.{segment-of}
@@ -43,12 +43,12 @@ returns c =
 cast-d0 : tie.Need-cast-d0
 cast-d0 c =
     let l = entry (at-d0 c) .pre .good .ends .left in
-    rw (slope-read l) (natural tt (slope-fits l) (facts (at-d0 c) .d₀-is))
+    rw (slope-read l) (cast-of-natural tt (slope-fits l) (facts (at-d0 c) .d₀-is))
 
 cast-d1 : tie.Need-cast-d1
 cast-d1 c =
     let l = entry (at-d1 c) .pre .good .ends .right in
-    rw (slope-read l) (natural tt (slope-fits l) (facts (at-d1 c) .d₁-is))
+    rw (slope-read l) (cast-of-natural tt (slope-fits l) (facts (at-d1 c) .d₁-is))
 
 rising-requires : tie.Need-rising-requires
 rising-requires c κs =

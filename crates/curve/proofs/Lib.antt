@@ -1,0 +1,2 @@
+-- Laws of the calls on three lists.
+pub mod Curve

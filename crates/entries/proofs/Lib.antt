@@ -1,0 +1,2 @@
+-- Laws of a sheet's entries.
+pub mod Reach

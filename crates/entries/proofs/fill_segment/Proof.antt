@@ -1,0 +1,175 @@
+-- `entries::fill_segment` meets its contract. The loop's invariant: the entries from index to i are filled.
+-- Assumes nothing.
+use mathlib.Core.Path.{_≡_, refl, sym, _∙_, ap}
+use mathlib.Core.Bool.{false}
+use mathlib.Core.List.{List}
+use Prim.Native.Nat.{ℕ, suc, _+_, _-_, _≤_, _<_}
+use native.Mathlib.Nat.{le-refl, le-of-lt}
+use native.Mathlib.Numerals.{add-one}
+use native.Mathlib.Omega.{arith}
+use borrow.Author.Tests.{not-true, not-false}
+use lib.IntN.{ℤ, pos}
+use lib.ListN.{length, length-set}
+use mir.Syntax.{w32}
+use mir.Val.{toZ, ofZ}
+use mir.Facts.{toZ-ofZ}
+use Rattle.model.specs.Points.{Point, points}
+use Rattle.model.specs.Read.{outside, reading}
+use Rattle.model.specs.Sheet.{entry-area}
+use Rattle.model.specs.Inner.{segment-at, Filling, Readable}
+use Rattle.model.proofs.Lists.{fields-of}
+use Rattle.model.proofs.Accepted.{area-limit, inside, reading-is}
+use Rattle.model.proofs.Filling.{filling-goes-on}
+use Rattle.point.specs.Inner.{segment-of}
+use Rattle.entries.proofs.Reach.{reached-later, <-of-reached}
+use Rattle.entries.proofs.fill_segment.Statement.{statement}
+use Rattle.entries.proofs.fill_segment.Tie as tie
+
+record FilledFrom (f : ℕ → ℤ) (index i : ℕ) (before after : List ℤ) : Type 0 where
+  pub least : index ≤ i
+  pub most : i ≤ length before
+  pub size : length after ≡ length before
+  pub filled : (found : List ℤ) → Filling f index found before → Filling f i found after
+
+abbrev Inv-loop : tie.InvT-loop
+Inv-loop areas values slopes shape k start step index out₀ p q i₀ out i =
+    FilledFrom (λ j. reading (points areas values slopes) shape (entry-area start step j)) index i out₀ out
+
+abbrev μ-loop : tie.MeasureT-loop
+μ-loop areas values slopes shape k start step index out₀ p q i₀ out i = length out₀ - i
+
+abbrev entry : tie.After-shared-slice-known2 Inv-loop μ-loop → tie.Start Inv-loop μ-loop
+entry c = c .before .before
+
+next-index : (c : tie.After-shared-slice-known2 Inv-loop μ-loop) → entry c .args .k + 1 < length (entry c .args .areas .now)
+next-index c = rw add-one (entry c .pre .taken .reached .inner)
+
+point-at-requires : tie.Need-point-at-requires Inv-loop μ-loop
+point-at-requires c κs = record { alike = entry c .pre .entries .alike; index = omega (arith, next-index c) }
+
+add-point-at : tie.Need-add-point-at Inv-loop μ-loop
+add-point-at c = omega (arith, next-index (c .before), entry (c .before) .good)
+
+point-at-requires-2 : tie.Need-point-at-requires-2 Inv-loop μ-loop
+point-at-requires-2 c κs = record { alike = entry (c .before) .pre .entries .alike; index = next-index (c .before) }
+
+-- the curve, and the segment at k
+module _ (c : tie.After-point-at2 Inv-loop μ-loop) where
+  abbrev start : tie.Start Inv-loop μ-loop
+  start = entry (c .before .before)
+
+  abbrev ps : List Point
+  ps = points (start .args .areas .now) (start .args .values .now) (start .args .slopes .now)
+
+  ends : segment-of (c .before .point-at .result) (c .point-at2 .result) ≡ segment-at ps (start .args .k)
+  ends = rw (c .before .point-at .ensures, c .point-at2 .ensures, add-one)
+
+loop-holds : tie.Need-loop-holds Inv-loop μ-loop
+loop-holds c = record { least = le-refl _; most = le-of-lt (start c .pre .left); size = refl; filled = λ found k. k }
+
+-- the entry in a turn
+module _ (c : tie.In-loop Inv-loop μ-loop) where
+  abbrev begin : tie.After-point-at2 Inv-loop μ-loop
+  begin = c .before .before
+
+  i-below : c .before .loop .i < length (start begin .args .out .now)
+  i-below =
+      let e = c .before .loop .inv .size in
+      let t = c .loop-test .taken in
+      omega arith
+
+  within : outside (ps begin) (entry-area (start begin .args .start) (start begin .args .step) (c .before .loop .i)) ≡ false
+  within = start begin .pre .entries .inside (c .before .loop .i) i-below
+
+area-of-requires : tie.Need-area-of-requires Inv-loop μ-loop
+area-of-requires c κs = area-limit (start (begin c) .pre .entries .accepted) _ (within c)
+
+takes-requires : tie.Need-takes-requires Inv-loop μ-loop
+takes-requires c κs =
+    let s = start (begin (c .before)) in
+    rw (c .area-of .ensures)
+    (reached-later (s .args .start) (s .args .step) (c .before .before .loop .inv .least) (s .pre .taken .reached))
+
+-- the entry at index takes the segment, so another one is after it
+returns : tie.Need-returns Inv-loop μ-loop
+returns c =
+    let a = c .before .before in
+    let s = start (begin (a .before)) in
+    let k = a .before .before .loop .inv in
+    let next = rw (a .area-of .ensures) at (c .before .takes .ensures .no (not-true _ (c .if1 .taken))) in
+    record {
+      more = <-of-reached (s .args .start) (s .args .step) (k .least) (s .pre .taken) next;
+      most = k .most;
+      filled = k .filled;
+    }
+
+-- it takes the segment
+readable : (c : tie.Else1 Inv-loop μ-loop) →
+    (let b = begin (c .before .before .before) in
+    Readable (ps b) (start b .args .shape) (start b .args .k) (c .before .before .area-of .result))
+readable c =
+    let a = c .before .before in
+    let s = start (begin (a .before)) in
+    let fields = fields-of (s .args .areas .now) (s .args .values .now) (s .args .slopes .now) (s .pre .entries .alike) in
+    record {
+      accepted = s .pre .entries .accepted;
+      within = rw (a .area-of .ensures) (within (a .before));
+      taken = rw (fields .areas-are) (c .before .takes .ensures .yes (not-false _ (c .if1 .left)));
+    }
+
+factor-requires : tie.Need-factor-requires Inv-loop μ-loop
+factor-requires c κs = rw (ends (begin (c .before .before .before))) (inside (readable c))
+
+-- what is written is the reading
+abbrev turn : tie.After-factor Inv-loop μ-loop → tie.In-loop Inv-loop μ-loop
+turn c = c .before .before .before .before
+
+reads : (c : tie.After-factor Inv-loop μ-loop) →
+    (let b = begin (turn c) in
+    let s = start b in
+    toZ w32 (ofZ w32 (c .factor .result))
+    ≡ reading (ps b) (s .args .shape) (entry-area (s .args .start) (s .args .step) (turn c .before .loop .i)))
+reads c =
+    let a = c .before .before .before in
+    let b = begin (turn c) in
+    toZ-ofZ (record { sfits = c .factor .ok }) ∙ c .factor .ensures
+    ∙ rw (ends b) (sym (reading-is (readable (c .before)))) ∙ ap (reading (ps b) _) (a .area-of .ensures)
+
+loop-again : tie.Need-loop-again Inv-loop μ-loop
+loop-again c =
+    let b = begin (turn c) in
+    let s = start b in
+    let k = turn c .before .loop .inv in
+    let h = i-below (turn c) in
+    let f : ℕ → ℤ = λ j. reading (ps b) (s .args .shape) (entry-area (s .args .start) (s .args .step) j) in
+    record {
+      least = (let l = k .least in omega arith);
+      most = omega arith;
+      size = simp length-set (k .size);
+      filled = λ found g. filling-goes-on f (pos 0) _ (k .filled found g) (let e = g .size in omega arith) (reads c);
+    }
+
+returns-2 : tie.Need-returns-2 Inv-loop μ-loop
+returns-2 c =
+    let k = c .before .loop .inv in
+    let e = k .size in
+    let n = c .loop-test .left in
+    let l = start (c .before .before) .pre .left in
+    record { more = omega arith; most = k .most; filled = k .filled }
+
+-- an index of the list fits
+index-fits : tie.Need-mul-t15 Inv-loop μ-loop
+index-fits c = let h = i-below (turn c) in omega (arith, start (begin (turn c)) .good)
+
+add-i : tie.Need-add-i Inv-loop μ-loop
+add-i c = let h = i-below (turn c) in omega (arith, start (begin (turn c)) .good)
+
+loop-less : tie.Need-loop-less Inv-loop μ-loop
+loop-less c = let h = i-below (turn c) in omega arith
+
+pub fill-segment-spec : {M : Type 1} → statement M
+fill-segment-spec =
+    tie.close
+    (tie.spec Inv-loop μ-loop point-at-requires add-point-at point-at-requires-2 loop-holds area-of-requires takes-requires
+    (λ c. c .before .before .before .before .loop .inv .size) returns factor-requires index-fits
+    (λ c. turn c .loop-test .taken) add-i loop-less loop-again (λ c. c .before .loop .inv .size) returns-2)

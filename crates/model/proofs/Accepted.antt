@@ -1,0 +1,102 @@
+-- An accepted curve, as a chain of segments that each have their shape.
+--   count-of       2 to 64 points
+--   neighbours-of-rows    points that pass rows 1 and 3 to 5 are a chain; good-of-rows, and row 6 too
+--   chained-of     the points of an accepted curve are a chain of good segments
+--   value-is       the exact value at an area is that of the segment where a walk from the left stops
+--   inside, reading-is    the segment that an area takes, by its index
+-- Assumes nothing.
+use mathlib.Core.Path.{_≡_, _∙_, ap, subst⁻¹}
+use mathlib.Core.Bool.{false, not}
+use mathlib.Core.List.{List, [], _∷_}
+use mathlib.Core.Option.{none, some}
+use Prim.Native.Nat.{ℕ, suc, _≤_}
+use native.Mathlib.Nat.{le-trans}
+use native.Mathlib.Omega.{arith}
+use borrow.Author.Tests.{not-false}
+use lib.Dec.{T}
+use lib.ListN.{length}
+use Rattle.exact.specs.Rounding.{round}
+use Rattle.model.specs.Answer.{gives, row, _then_}
+use Rattle.model.specs.Points.{points-least, points-most, area-most, Point, Segment, segments, Shape, shape-of}
+use Rattle.model.specs.Interpolant.{interpolant}
+use Rattle.model.specs.Shape.{has-shape}
+use Rattle.model.specs.Check.{bad-count, bad-code, point-rows, segment-rows, curve-rows, Accepted}
+use Rattle.model.specs.Read.{value-in, outside, exact-value, reading}
+use Rattle.model.specs.Inner.{between, segment-at, areas-of, Limits, Neighbours, Good, Inside, Taken, Readable}
+use Rattle.model.proofs.Walk.{Chain, end, link, taken-is-stop, good-ordered}
+use Rattle.model.proofs.Indexed.{Chained, chained, stop-in, stop-at, stop-in-inside}
+use Rattle.model.proofs.Rows.{then-first, then-rest, row-passed, count-of-row-1, passed, neighbours}
+
+neighbour-chain : (i : ℕ) (p : Point) (ps : List Point) → Limits p → point-rows i (some (p .area)) ps ≡ gives tt →
+    Chain Neighbours p ps
+neighbour-chain i p [] l e = end
+neighbour-chain i p (q ∷ ps) l e =
+    let m = passed i (some (p .area)) q ps e in
+    link (neighbours l m) (neighbour-chain (suc i) q ps (m .limits) (m .later))
+
+good-chain : (shape : Shape) (i : ℕ) {p : Point} {ps : List Point} → Chain Neighbours p ps →
+    segment-rows i shape (segments (p ∷ ps)) ≡ gives tt → Chain (Good shape) p ps
+unfolding segments segment-rows
+good-chain shape i end e = end
+good-chain shape i (link {p = p} {q = q} n c) e =
+    let shaped = row-passed (not (has-shape shape (between p q))) 6 i _ e in
+    link (record { ends = n; shaped = subst⁻¹ T (not-false (has-shape shape (between p q)) shaped) tt })
+    (good-chain shape (suc i) c (then-rest (row (not (has-shape shape (between p q))) 6 i) _ e))
+
+-- rows 1 and 3 to 5, then 6, as facts
+pub neighbours-of-rows : (ps : List Point) → points-least ≤ length ps → point-rows 0 none ps ≡ gives tt → Chained Neighbours ps
+neighbours-of-rows [] h e = absurd (omega arith)
+neighbours-of-rows (p ∷ []) h e = absurd (omega arith)
+neighbours-of-rows (p ∷ q ∷ ps) h e =
+    let m = passed 0 none p (q ∷ ps) e in
+    chained (neighbour-chain 1 p (q ∷ ps) (m .limits) (m .later))
+
+pub good-of-rows : (shape : Shape) {ps : List Point} → Chained Neighbours ps → segment-rows 0 shape (segments ps) ≡ gives tt →
+    Chained (Good shape) ps
+good-of-rows shape (chained c) e = chained (good-chain shape 0 c e)
+
+module _ {ps : List Point} {code : ℕ} (k : Accepted ps code) where
+  pub count-of : (points-least ≤ length ps) × (length ps ≤ points-most)
+  unfolding curve-rows
+  count-of = count-of-row-1 (length ps) (row-passed (bad-count (length ps)) 1 0 _ (k .none-applies))
+
+  pub chained-of : Chained (Good (shape-of code)) ps
+  unfolding curve-rows
+  chained-of =
+      let after-1 = then-rest (row (bad-count (length ps)) 1 0) _ (k .none-applies) in
+      let after-2 = then-rest (row (bad-code code) 2 0) _ after-1 in
+      good-of-rows (shape-of code) (neighbours-of-rows ps (count-of .0) (then-first (point-rows 0 none ps) _ after-2))
+      (then-rest (point-rows 0 none ps) _ after-2)
+
+  pub stops-inside : (x : ℕ) → outside ps x ≡ false → Inside (Good (shape-of code)) (stop-in ps x) x
+  stops-inside = stop-in-inside (Good (shape-of code)) good-ordered chained-of
+
+  pub area-limit : (x : ℕ) → outside ps x ≡ false → x ≤ area-most
+  area-limit x e =
+      let i = stops-inside x e in
+      le-trans (i .high) (i .good .ends .right .area)
+
+chained-value : {ps : List Point} (code : ℕ) → Chained (Good (shape-of code)) ps → (x : ℕ) →
+    exact-value ps code x ≡ interpolant (shape-of code) (stop-in ps x) x
+unfolding exact-value value-in segments
+chained-value code (chained c) x =
+    ap (λ (s : Segment). interpolant (shape-of code) s x) (taken-is-stop (Good (shape-of code)) good-ordered x c)
+
+pub value-is : {ps : List Point} {code : ℕ} → Accepted ps code → (x : ℕ) →
+    exact-value ps code x ≡ interpolant (shape-of code) (stop-in ps x) x
+value-is {code = code} k x = chained-value code (chained-of k) x
+
+module _ {ps : List Point} {code i x : ℕ} (k : Accepted ps code) (t : Taken (areas-of ps) i x) where
+  stops : stop-in ps x ≡ segment-at ps i
+  stops = stop-at (Good (shape-of code)) good-ordered (chained-of k) i x t
+
+  pub value-at-index : exact-value ps code x ≡ interpolant (shape-of code) (segment-at ps i) x
+  value-at-index = value-is k x ∙ ap (λ (s : Segment). interpolant (shape-of code) s x) stops
+
+module _ {ps : List Point} {code i x : ℕ} (k : Readable ps code i x) where
+  pub inside : Inside (Good (shape-of code)) (segment-at ps i) x
+  inside = rw (stops (k .accepted) (k .taken)) at (stops-inside (k .accepted) x (k .within))
+
+  pub reading-is : reading ps code x ≡ round (interpolant (shape-of code) (segment-at ps i) x)
+  unfolding reading
+  reading-is = ap round (value-at-index (k .accepted) (k .taken))

@@ -1,0 +1,101 @@
+-- What answers of the calls say.
+--   on-lists-is        a call on lists that are equally long is the call on their points
+--   on-lists-gives     and so is one that gives a result
+--   on-lists-refused   calls that refuse alike on points do so on lists
+--   Given              what a factor that Read gives says; reading-given
+--   refused-outside    on an accepted curve Read refuses by row 7 only
+--   refused-before     rows that refuse before a result refuse before whatever follows
+-- Assumes nothing.
+use mathlib.Core.Path.{_≡_, refl, sym}
+use mathlib.Core.Bool.{Bool, true, false}
+use mathlib.Core.List.{List}
+use Prim.Native.Nat.{ℕ}
+use lib.IntN.{ℤ}
+use lib.ListN.{length}
+use Rattle.model.specs.Answer.{Answer, gives, refused, row, _then_}
+use Rattle.model.specs.Points.{Point, points}
+use Rattle.model.specs.Check.{lengths-differ, curve-rows, Accepted, on-lists}
+use Rattle.model.specs.Read.{outside, reading, read-answer}
+use Rattle.model.specs.Inner.{Alike}
+use Rattle.model.proofs.Rows.{gives-injective, refused≢gives, then-first, then-rest, row-passed, alike-of-row-1}
+
+-- ---- calls on lists
+
+module _ (areas values : List ℕ) (slopes : List ℤ) where
+  abbrev differ : Bool
+  differ = lengths-differ (length areas) (length values) (length slopes)
+
+  pub on-lists-is : {A : Type 0} (call : List Point → Answer A) → differ ≡ false →
+      on-lists areas values slopes call ≡ call (points areas values slopes)
+  unfolding on-lists row _then_
+  on-lists-is call e = rw e
+
+  pub record Result {A : Type 0} (call : List Point → Answer A) (x : A) : Type 0 where
+    pub same-lengths : differ ≡ false
+    pub alike : Alike (length areas) (length values) (length slopes)
+    pub result : call (points areas values slopes) ≡ gives x
+
+  pub on-lists-gives : {A : Type 0} {x : A} (call : List Point → Answer A) → on-lists areas values slopes call ≡ gives x →
+      Result call x
+  unfolding on-lists
+  on-lists-gives call e =
+      let same = row-passed differ 1 0 _ e in
+      record { same-lengths = same; alike = alike-of-row-1 _ _ _ same; result = then-rest (row differ 1 0) _ e }
+
+  pub on-lists-refused : {A B : Type 0} {n i : ℕ} (f : List Point → Answer A) (g : List Point → Answer B) →
+      (f (points areas values slopes) ≡ refused n i → g (points areas values slopes) ≡ refused n i) →
+      on-lists areas values slopes f ≡ refused n i →
+      on-lists areas values slopes g ≡ refused n i
+  unfolding on-lists row _then_
+  on-lists-refused {A} {B} {n} {i} f g h = decide differ
+    where
+      decide : (b : Bool) →
+          (row b 1 0 then f (points areas values slopes)) ≡ refused n i →
+          (row b 1 0 then g (points areas values slopes)) ≡ refused n i
+      decide true e = cc
+      decide false e = h e
+
+pub then-refused : {A : Type 0} {n i : ℕ} (rows : Answer (Unit {0})) (rest : Answer A) → rows ≡ refused n i →
+    (rows then rest) ≡ refused n i
+unfolding _then_
+then-refused rows rest e = rw e
+
+-- ---- Read
+
+pub record Given (ps : List Point) (code x : ℕ) (f : ℤ) : Type 0 where
+  pub accepted : Accepted ps code
+  pub within : outside ps x ≡ false
+  pub factor : reading ps code x ≡ f
+
+module _ (ps : List Point) (code x : ℕ) where
+  pub given : {f : ℤ} → read-answer ps code x ≡ gives f → Given ps code x f
+  unfolding read-answer
+  given e =
+      let later = then-rest (curve-rows ps code) _ e in
+      record {
+        accepted = record { none-applies = then-first (curve-rows ps code) _ e };
+        within = row-passed (outside ps x) 7 0 _ later;
+        factor = gives-injective (then-rest (row (outside ps x) 7 0) _ later);
+      }
+
+  pub reading-given : Accepted ps code → outside ps x ≡ false → read-answer ps code x ≡ gives (reading ps code x)
+  unfolding read-answer row _then_
+  reading-given k e = rw (k .none-applies, e)
+
+  pub refused-outside : {n i : ℕ} → Accepted ps code → read-answer ps code x ≡ refused n i → (n ≡ 7) × (outside ps x ≡ true)
+  unfolding read-answer row _then_
+  refused-outside {n} {i} k e = decide (outside ps x) refl (rw (k .none-applies) at e)
+    where
+      decide : (b : Bool) → outside ps x ≡ b → (row b 7 0 then gives (reading ps code x)) ≡ refused n i →
+          (n ≡ 7) × (outside ps x ≡ true)
+      decide true o h = (cc, o)
+      decide false o h = absurd (refused≢gives (sym h))
+
+-- rows that refuse before a result refuse before whatever follows
+pub refused-before : {A B : Type 0} {n i : ℕ} (rows : Answer (Unit {0})) (b : Bool) (m : ℕ) (x : A) (rest : Answer B) →
+    (rows then row b m 0 then gives x) ≡ refused n i →
+    (rows then row b m 0 then rest) ≡ refused n i
+unfolding row _then_
+refused-before (gives u) true m x rest e = cc
+refused-before (gives u) false m x rest e = absurd (refused≢gives (sym e))
+refused-before (refused m i) b n x rest e = cc

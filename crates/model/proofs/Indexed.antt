@@ -1,0 +1,101 @@
+-- A chain of points by the index of its segments.
+--   Chained G ps    the points ps, at least two, are a chain of segments with G
+--   stop-in ps x    where a walk from the left stops at x
+--   chained-at      each segment of the chain has G; stop-at, the segment that an area takes, by its index
+-- Assumes nothing.
+use mathlib.Core.Path.{_≡_, refl, _∙_, ap}
+use mathlib.Core.Bool.{false}
+use mathlib.Core.List.{List, [], _∷_, _++_}
+use mathlib.Core.Logic.{_⊎_, inl, inr}
+use Prim.Native.Nat.{ℕ, zero, suc, _+_, _-_, _≤_, _<_}
+use native.Mathlib.Nat.{le-refl}
+use native.Mathlib.Omega.{arith}
+use borrow.Author.Tests.{le-leb, lt-leb, ltb-false}
+use lib.Dec.{ltb}
+use lib.ListN.{length, getD, length-map}
+use Rattle.model.specs.Points.{Point, Segment, segments}
+use Rattle.model.specs.Read.{last-area, outside}
+use Rattle.model.specs.Inner.{between, origin, point-at, segment-at, areas-of, Inside, Taken}
+use Rattle.exact.proofs.Tests.{or-left, or-right}
+use Rattle.model.proofs.Walk.{Chain, end, link, stop, chain-ordered, stop-inside}
+
+abbrev pub stop-in : List Point → ℕ → Segment
+stop-in [] x = between origin origin
+stop-in (p ∷ []) x = between p p
+stop-in (p ∷ q ∷ ps) x = stop p q ps x
+
+-- the last area, by its index
+pub last-area-at : (p : Point) (ps : List Point) → last-area p ps ≡ getD (areas-of (p ∷ ps)) (length ps) 0
+last-area-at p [] = refl
+last-area-at p (q ∷ ps) = last-area-at q ps
+
+-- a segment fewer than points
+pub segments-length : (ps : List Point) → length (segments ps) ≡ length ps - 1
+unfolding segments
+segments-length [] = refl
+segments-length (p ∷ []) = refl
+segments-length (p ∷ q ∷ ps) = ap suc (segments-length (q ∷ ps)) ∙ omega arith
+
+-- a point, and two neighbouring points, by their index
+pub point-at-append : (before after : List Point) (p : Point) → point-at (before ++ p ∷ after) (length before) ≡ p
+point-at-append [] after p = refl
+point-at-append (b ∷ before) after p = point-at-append before after p
+
+pub segment-at-append : (before after : List Point) (p q : Point) →
+    segment-at (before ++ p ∷ q ∷ after) (length before) ≡ between p q
+segment-at-append [] after p q = refl
+segment-at-append (b ∷ before) after p q = segment-at-append before after p q
+
+-- row 7 passed
+pub low-of : (p : Point) (ps : List Point) (x : ℕ) → outside (p ∷ ps) x ≡ false → p .area ≤ x
+unfolding outside
+low-of p ps x e = ltb-false x (p .area) (or-left _ (ltb (last-area p ps) x) e)
+
+pub high-of : (p : Point) (ps : List Point) (x : ℕ) → outside (p ∷ ps) x ≡ false → x ≤ last-area p ps
+unfolding outside
+high-of p ps x e = ltb-false (last-area p ps) x (or-right (ltb x (p .area)) _ e)
+
+taken-later : {a : ℕ} {areas : List ℕ} {k x : ℕ} → Taken (a ∷ areas) (suc k) x → Taken areas k x
+taken-later t =
+    record {
+      reached = record { inner = (let n = t .reached .inner in omega arith); low = t .reached .low };
+      high = elim (t .high) [ inl h ↦ inl h | inr e ↦ inr (omega arith) ];
+    }
+
+pub data Chained (G : Segment → Type 0) : List Point → Type 0 where
+  chained : {p q : Point} {ps : List Point} → Chain G p (q ∷ ps) → Chained G (p ∷ q ∷ ps)
+
+module _ (G : Segment → Type 0) (ordered : (s : Segment) → G s → s .left .area < s .right .area) where
+  chain-at : {p : Point} {ps : List Point} → Chain G p ps → (i : ℕ) → i < length ps → G (segment-at (p ∷ ps) i)
+  chain-at end i h = absurd (omega arith)
+  chain-at (link g c) zero h = g
+  chain-at (link g c) (suc i) h = chain-at c i (omega arith)
+
+  chain-least : {p : Point} {ps : List Point} → Chain G p ps → (i : ℕ) → i ≤ length ps → p .area ≤ getD (areas-of (p ∷ ps)) i 0
+  chain-least c zero h = le-refl _
+  chain-least end (suc i) h = absurd (omega arith)
+  chain-least (link g c) (suc i) h =
+      let k = ordered _ g in
+      let m = chain-least c i (omega arith) in
+      omega arith
+
+  stop-in-chain : {p q : Point} {ps : List Point} → Chain G p (q ∷ ps) → (k x : ℕ) → Taken (areas-of (p ∷ q ∷ ps)) k x →
+      stop p q ps x ≡ segment-at (p ∷ q ∷ ps) k
+  stop-in-chain (link g end) zero x t = refl
+  stop-in-chain (link g end) (suc k) x t = absurd (let n = t .reached .inner in omega arith)
+  stop-in-chain (link {q = q} g (link g' c)) zero x t =
+      elim (t .high) [ inl h ↦ rw (lt-leb (q .area) x h) | inr e ↦ absurd (omega arith) ]
+  stop-in-chain (link {q = q} g (link {ps = ps} g' c)) (suc k) x t =
+      let r = t .reached in
+      let least = chain-least (link g' c) k (omega (arith, length-map ps (λ p. p .area))) in
+      rw (le-leb (q .area) x (omega arith)) (stop-in-chain (link g' c) k x (taken-later t))
+
+  pub chained-at : {ps : List Point} → Chained G ps → (i : ℕ) → suc i < length ps → G (segment-at ps i)
+  chained-at (chained c) i h = chain-at c i (omega arith)
+
+  pub stop-at : {ps : List Point} → Chained G ps → (k x : ℕ) → Taken (areas-of ps) k x → stop-in ps x ≡ segment-at ps k
+  stop-at (chained c) k x t = stop-in-chain c k x t
+
+  pub stop-in-inside : {ps : List Point} → Chained G ps → (x : ℕ) → outside ps x ≡ false → Inside G (stop-in ps x) x
+  stop-in-inside (chained {p = p} {q = q} {ps = ps} c) x e =
+      stop-inside G ordered x c (low-of p (q ∷ ps) x e) (high-of p (q ∷ ps) x e)

@@ -1,0 +1,278 @@
+-- The laws of an accepted curve, from the relations across it. Those that document 01 states of exact values: segments-meet,
+-- convex-chords (specs/Laws.antt). Of factors, for the demands over every call:
+--   factors-are-near      at most half a unit off; where it is exactly half a unit, upwards
+--   factors-are-ranged    from −200,000 to 200,000
+--   rated-points-read     at a rated point the factor is the point's value
+--   rising-factors        a larger area never reads less, on a rising curve
+--   convex-steps          of three areas equally far apart, the second step is at most one unit smaller, on a convex curve
+-- Assumes nothing.
+use mathlib.Core.Path.{_≡_, sym, _∙_, ap, subst, subst⁻¹, subst₂}
+use mathlib.Core.Bool.{true, false}
+use mathlib.Core.List.{List, [], _∷_, _++_}
+use mathlib.Core.Logic.{_⊎_, inl, inr}
+use Prim.Native.Nat.{ℕ, zero, suc, _+_, _*_, _≤_, _<_}
+use native.Mathlib.Nat.{le-refl, le-of-lt, le-of-eq}
+use native.Mathlib.Omega.{arith}
+use lib.IntN.{ℤ, pos, negℤ, _+ℤ_, _-ℤ_, _*ℤ_}
+use lib.ListN.{length, getD, length-map, length-append, List·getD-map}
+use lib.Signed.{_≤ℤ_, _<ℤ_}
+use Rattle.exact.specs.Fraction.{Fraction, Proper, whole, _+ℚ_, _-ℚ_, _*ℚ_, _/ℚ_, _≈ℚ_, _≤ℚ_, _<ℚ_}
+use Rattle.exact.specs.Rounding.{half, HalfUp}
+use Rattle.exact.proofs.Order as Z
+use Rattle.exact.proofs.Field.{field, ratios, _∷ℚ_}
+use Rattle.exact.proofs.Fractions as Q
+use Rattle.exact.proofs.Fractions.{propers, positivity, <-of-whole-<}
+use Rattle.exact.proofs.Rounding.{round-rounding, round-is-half-up, rounding-at-whole}
+use Rattle.model.specs.Points.{Point, Segment, Shape, rising, convex, shape-of}
+use Rattle.model.specs.Interpolant.{interpolant}
+use Rattle.model.specs.Read.{outside, reading}
+use Rattle.model.specs.Laws.{Curve, Area, exact, factor, chord-slope, Gives, SegmentsMeet, ConvexChords}
+use Rattle.model.specs.Inner.{origin, point-at, segment-at, areas-of, Good, Inside, Taken}
+use Rattle.model.proofs.ClosedForm.{Closed}
+use Rattle.model.proofs.Codes.{is-rising, code-2}
+use Rattle.exact.proofs.Tests.{compare}
+use Rattle.model.proofs.Walk.{good-ordered}
+use Rattle.model.proofs.Segments.{interpolant-proper, interpolant-left, interpolant-right}
+use Rattle.model.proofs.Range.{Ranged, value-range, ReadingRange, reading-range}
+use Rattle.model.proofs.Relations.{values-rise, curve-slope, Supports, tangents-support, curve-slope-proper}
+use Rattle.model.proofs.Indexed.{Chained, chained, stop-in, point-at-append, segment-at-append, chained-at, low-of, high-of}
+use Rattle.model.proofs.Accepted.{count-of, chained-of, stops-inside, value-is, value-at-index}
+
+module _ (c : Curve) where
+  abbrev shape : Shape
+  shape = shape-of (c .code)
+
+  -- the segment that an area takes
+  abbrev segment-of : ℕ → Segment
+  segment-of x = stop-in (c .points) x
+
+  segment-inside : (x : ℕ) → Area c x → Inside (Good shape) (segment-of x) x
+  segment-inside x k = stops-inside (c .accepted) x (k .within)
+
+  good-at : (i : ℕ) → suc i < length (c .points) → Good shape (segment-at (c .points) i)
+  good-at = chained-at (Good shape) good-ordered (chained-of (c .accepted))
+
+-- ---- values and factors
+
+pub values-are-proper : (c : Curve) (x : ℕ) → Area c x → Proper (exact c x)
+values-are-proper c x k = rw (value-is (c .accepted) x) (interpolant-proper (segment-inside c x k))
+
+pub factors-are-near : (c : Curve) (x : ℕ) → Area c x → HalfUp (exact c x) (factor c x)
+unfolding reading
+factors-are-near c x k = round-is-half-up (exact c x) (values-are-proper c x k)
+
+pub factors-are-ranged : (c : Curve) (x : ℕ) → Area c x → ReadingRange (factor c x)
+unfolding reading
+factors-are-ranged c x k =
+    let range : Ranged (exact c x) = rw (value-is (c .accepted) x) (value-range (segment-inside c x k)) in
+    reading-range round-rounding (exact c x) (values-are-proper c x k) range
+
+-- ---- rated points
+
+pub segments-meet : SegmentsMeet
+segments-meet c before after p q e =
+    let n = ap length e ∙ length-append before (p ∷ q ∷ after) in
+    let s = ap (λ (ps : List Point). segment-at ps (length before)) e ∙ segment-at-append before after p q in
+    let g = subst (Good (shape c)) s (good-at c (length before) (omega arith)) in
+    let l = interpolant-left g in
+    let r = interpolant-right g in
+    (record { proper = l .proper; value = l .same }, record { proper = r .proper; value = r .same })
+
+module _ (c : Curve) where
+  -- the area at an index, in the list of areas
+  area-is : (i : ℕ) → getD (areas-of (c .points)) i 0 ≡ point-at (c .points) i .area
+  area-is i = List·getD-map (λ p. p .area) (c .points) i origin
+
+  size : length (areas-of (c .points)) ≡ length (c .points)
+  size = length-map (c .points) (λ p. p .area)
+
+  -- the value at the area of the point at an index is the point's
+  abbrev Rated : ℕ → Type 0
+  Rated i = let p = point-at (c .points) i in Closed (exact c (p .area)) (whole (pos (p .value)))
+
+  -- any point but the last is the left end of the segment that its area takes
+  rated-left : (i : ℕ) → suc i < length (c .points) → Rated i
+  rated-left i n =
+      let g = good-at c i n in
+      let taken : Taken (areas-of (c .points)) i (point-at (c .points) i .area) = record {
+        reached = record { inner = rw size n; low = le-of-eq (area-is i) };
+        high = inl (rw (area-is (suc i)) (g .ends .ordered));
+      } in
+      rw (value-at-index (c .accepted) taken) (interpolant-left g)
+
+  -- the last is the right end of the last segment
+  rated-right : (k : ℕ) → suc (suc k) ≡ length (c .points) → Rated (suc k)
+  rated-right k e =
+      let n : suc k < length (c .points) = omega arith in
+      let g = good-at c k n in
+      let taken : Taken (areas-of (c .points)) k (point-at (c .points) (suc k) .area) = record {
+        reached = record { inner = rw size n; low = rw (area-is k) (le-of-lt (g .ends .ordered)) };
+        high = inr (e ∙ sym size);
+      } in
+      rw (value-at-index (c .accepted) taken) (interpolant-right g)
+
+  rated-last : (i : ℕ) → suc i ≡ length (c .points) → Rated i
+  rated-last zero e = absurd (let n = count-of (c .accepted) .0 in omega arith)
+  rated-last (suc k) e = rated-right k e
+
+  rated-value : (i : ℕ) → i < length (c .points) → Rated i
+  rated-value i h =
+      elim (compare (length (c .points)) (suc i)) [
+        | inl (k, t) ↦ rated-last i (omega arith)
+        | inr (k, t) ↦ rated-left i k
+      ]
+
+pub rated-points-read : (c : Curve) (before after : List Point) (p : Point) → c .points ≡ before ++ p ∷ after →
+    factor c (p .area) ≡ pos (p .value)
+unfolding reading
+rated-points-read c before after p e =
+    let n = ap length e ∙ length-append before (p ∷ after) in
+    let is = ap (λ (ps : List Point). point-at ps (length before)) e ∙ point-at-append before after p in
+    let v = rw is at (rated-value c (length before) (omega arith)) in
+    rounding-at-whole round-rounding (pos (p .value)) _ (v .proper) (v .same)
+
+-- ---- rising
+
+-- the value at x, on a curve of a known shape
+value-as : (c : Curve) {shape : Shape} → shape-of (c .code) ≡ shape → (x : ℕ) → exact c x ≡ interpolant shape (segment-of c x) x
+value-as c e x = value-is (c .accepted) x ∙ ap (λ (sh : Shape). interpolant sh (segment-of c x) x) e
+
+chained-as : (c : Curve) {shape : Shape} → shape-of (c .code) ≡ shape → Chained (Good shape) (c .points)
+chained-as c e = subst (λ (sh : Shape). Chained (Good sh) (c .points)) e (chained-of (c .accepted))
+
+rises-across : {ps : List Point} → Chained (Good rising) ps → (x y : ℕ) → outside ps x ≡ false → outside ps y ≡ false → x ≤ y →
+    interpolant rising (stop-in ps x) x ≤ℚ interpolant rising (stop-in ps y) y
+rises-across (chained {p = p} {q = q} {ps = ps} c) x y kx ky h =
+    values-rise c x y (low-of p (q ∷ ps) x kx) h (high-of p (q ∷ ps) y ky)
+
+pub rising-values : (c : Curve) → c .code ≡ 1 → (x y : ℕ) → Area c x → Area c y → x ≤ y → exact c x ≤ℚ exact c y
+rising-values c e x y kx ky h =
+    subst₂ (λ (v w : Fraction). v ≤ℚ w) (sym (value-as c (is-rising e) x)) (sym (value-as c (is-rising e) y))
+    (rises-across (chained-as c (is-rising e)) x y (kx .within) (ky .within) h)
+
+pub rising-factors : (c : Curve) → c .code ≡ 1 → (x y : ℕ) → Area c x → Area c y → x ≤ y → factor c x ≤ℤ factor c y
+unfolding reading
+rising-factors c e x y kx ky h =
+    round-rounding .keeps-order (exact c x) (exact c y) (values-are-proper c x kx) (values-are-proper c y ky)
+    (rising-values c e x y kx ky h)
+
+-- ---- convex
+
+bends-across : {ps : List Point} → Chained (Good convex) ps → (x y : ℕ) → outside ps x ≡ false → outside ps y ≡ false → x ≤ y →
+    Supports (stop-in ps x) x (stop-in ps y) y
+bends-across (chained {p = p} {q = q} {ps = ps} c) x y kx ky h =
+    tangents-support c x y (low-of p (q ∷ ps) x kx) h (high-of p (q ∷ ps) y ky)
+
+module _ (c : Curve) (e : c .code ≡ 2) where
+  -- the slope at x, and the relation between two areas
+  abbrev σ : ℕ → Fraction
+  σ x = curve-slope (segment-of c x) x
+
+  related : (x y : ℕ) → Area c x → Area c y → x ≤ y → Supports (segment-of c x) x (segment-of c y) y
+  related x y kx ky h = bends-across (chained-as c (code-2 e)) x y (kx .within) (ky .within) h
+
+  σ-proper : (x : ℕ) → Area c x → Proper (σ x)
+  σ-proper x k =
+      curve-slope-proper (subst (λ (sh : Shape). Inside (Good sh) (segment-of c x) x) (code-2 e) (segment-inside c x k))
+
+  -- the tangent at x is nowhere above the curve
+  supports : (x z : ℕ) → Area c x → Area c z → exact c x +ℚ σ x *ℚ whole (pos z -ℤ pos x) ≤ℚ exact c z
+  supports x z kx kz =
+      rw (value-as c (code-2 e) x, value-as c (code-2 e) z)
+      (elim (compare x z) [
+        | inl (h, t) ↦ related x z kx kz h .rightwards
+        | inr (h, t) ↦ related z x kz kx (le-of-lt h) .leftwards
+      ])
+
+-- two chords, the tangents at whose inner ends are below the curve
+module _ (v₁ v₂ v₃ v₄ s₂ s₃ : Fraction) (x₁ x₂ x₃ x₄ : ℤ)
+    (p₁ : Proper v₁) (p₂ : Proper v₂) (p₃ : Proper v₃) (p₄ : Proper v₄) (q₂ : Proper s₂) (q₃ : Proper s₃) where
+  abbrev left-chord : Fraction
+  left-chord = (v₂ -ℚ v₁) /ℚ whole (x₂ -ℤ x₁)
+
+  abbrev right-chord : Fraction
+  right-chord = (v₄ -ℚ v₃) /ℚ whole (x₄ -ℤ x₃)
+
+  -- what the curve is above the tangents at the outer ends, over the chords' lengths, and the tangents' difference
+  abbrev excess : Fraction
+  excess =
+      (v₄ -ℚ (v₃ +ℚ s₃ *ℚ whole (x₄ -ℤ x₃))) /ℚ whole (x₄ -ℤ x₃)
+      +ℚ (v₁ -ℚ (v₂ +ℚ s₂ *ℚ whole (x₁ -ℤ x₂))) /ℚ whole (x₂ -ℤ x₁)
+      +ℚ (s₃ -ℚ s₂)
+
+  chords-certificate : right-chord -ℚ left-chord ≈ℚ excess
+  chords-certificate =
+      field
+      (v₁ ∷ℚ v₂ ∷ℚ v₃ ∷ℚ v₄ ∷ℚ s₂ ∷ℚ s₃ ∷ℚ x₁ ∷ x₂ ∷ x₃ ∷ x₄ ∷ [])
+      (search ratios depth 30 fits 9999) tt
+
+  chords : x₁ <ℤ x₂ → x₃ <ℤ x₄ →
+      v₂ +ℚ s₂ *ℚ whole (x₁ -ℤ x₂) ≤ℚ v₁ →
+      s₂ ≤ℚ s₃ →
+      v₃ +ℚ s₃ *ℚ whole (x₄ -ℤ x₃) ≤ℚ v₄ →
+      Proper left-chord × Proper right-chord × (left-chord ≤ℚ right-chord)
+  chords h h' k m k' =
+      let w = Q.positive-whole (x₂ -ℤ x₁) (Z.positive-difference h) in
+      let w' = Q.positive-whole (x₄ -ℤ x₃) (Z.positive-difference h') in (
+        search propers,
+        search propers,
+        Q.≤-by (search propers) (search propers) excess (search propers depth 9) chords-certificate
+            (Q.nonneg-+ (search propers depth 9) (search propers)
+            (Q.nonneg-+ (search propers depth 9) (search propers depth 9)
+            (Q.nonneg-/ (Q.nonneg-difference k') (search propers)) (Q.nonneg-/ (Q.nonneg-difference k) (search propers)))
+            (Q.nonneg-difference m)),
+      )
+
+pub convex-chords : ConvexChords
+convex-chords c e x₁ x₂ x₃ x₄ k₁ k₂ k₃ k₄ h m h' =
+    let p = values-are-proper c in
+    chords _ _ _ _ _ _ (pos x₁) (pos x₂) (pos x₃) (pos x₄)
+    (p x₁ k₁) (p x₂ k₂) (p x₃ k₃) (p x₄ k₄) (σ-proper c e x₂ k₂) (σ-proper c e x₃ k₃)
+    (Z.pos-<-of-< h) (Z.pos-<-of-< h')
+    (supports c e x₂ x₁ k₂ k₁) (related c e x₂ x₃ k₂ k₃ m .slopes) (supports c e x₃ x₄ k₃ k₄)
+
+-- of three areas equally far apart, twice the middle value is at most the sum of the outer ones
+module _ (v₀ v₁ v₂ s : Fraction) (x k : ℤ) (p₀ : Proper v₀) (p₁ : Proper v₁) (p₂ : Proper v₂) (q : Proper s) where
+  middle : v₁ +ℚ s *ℚ whole (x -ℤ (x +ℤ k)) ≤ℚ v₀ →
+      v₁ +ℚ s *ℚ whole ((x +ℤ pos 2 *ℤ k) -ℤ (x +ℤ k)) ≤ℚ v₂ →
+      whole (pos 2) *ℚ v₁ ≤ℚ v₀ +ℚ v₂
+  middle h m =
+      Q.≤-by (search propers) (search propers)
+      ((v₀ -ℚ (v₁ +ℚ s *ℚ whole (x -ℤ (x +ℤ k)))) +ℚ (v₂ -ℚ (v₁ +ℚ s *ℚ whole ((x +ℤ pos 2 *ℤ k) -ℤ (x +ℤ k)))))
+      (search propers depth 9)
+      (field
+      (v₀ ∷ℚ v₁ ∷ℚ v₂ ∷ℚ s ∷ℚ x ∷ k ∷ [])
+      (search ratios depth 30 fits 9999) tt)
+      (Q.nonneg-+ (search propers) (search propers) (Q.nonneg-difference h) (Q.nonneg-difference m))
+
+-- their roundings: r₀ and r₂ are less than half a unit below, r₁ is at most half a unit above
+module _ (v₀ v₁ v₂ : Fraction) (r₀ r₁ r₂ : ℤ) (p₀ : Proper v₀) (p₁ : Proper v₁) (p₂ : Proper v₂) where
+  abbrev margin : Fraction
+  margin =
+      (whole r₀ -ℚ (v₀ -ℚ half))
+      +ℚ ((whole r₂ -ℚ (v₂ -ℚ half)) +ℚ (whole (pos 2) *ℚ (v₁ +ℚ half -ℚ whole r₁) +ℚ (v₀ +ℚ v₂ -ℚ whole (pos 2) *ℚ v₁)))
+
+  rounded-middle : v₀ -ℚ half <ℚ whole r₀ →
+      whole r₁ ≤ℚ v₁ +ℚ half →
+      v₂ -ℚ half <ℚ whole r₂ →
+      whole (pos 2) *ℚ v₁ ≤ℚ v₀ +ℚ v₂ →
+      (r₁ -ℤ r₀ -ℤ pos 1) ≤ℤ (r₂ -ℤ r₁)
+  rounded-middle h₀ h₁ h₂ m =
+      let q : Proper half = search positivity in
+      Z.≤-of-<-next (<-of-whole-< _ _ (Q.<-by (search propers) (search propers) margin (search positivity depth 9)
+      (field
+      (v₀ ∷ℚ v₁ ∷ℚ v₂ ∷ℚ r₀ ∷ r₁ ∷ r₂ ∷ [])
+      (search ratios depth 30 fits 9999) tt)
+      (Q.positive-+ (search propers) (search propers depth 9) (Q.positive-difference h₀)
+      (Q.nonneg-+ (search propers) (search propers depth 9) (Q.nonneg-of-positive (Q.positive-difference h₂))
+      (Q.nonneg-+ (search propers) (search propers) (Q.nonneg-* (search positivity) (Q.nonneg-difference h₁))
+      (Q.nonneg-difference m))))))
+
+pub convex-steps : (c : Curve) → c .code ≡ 2 → (x k : ℕ) → Area c x → Area c (x + k) → Area c (x + 2 * k) →
+    (factor c (x + k) -ℤ factor c x -ℤ pos 1) ≤ℤ (factor c (x + 2 * k) -ℤ factor c (x + k))
+convex-steps c e x k k₀ k₁ k₂ =
+    let p = values-are-proper c in
+    rounded-middle _ _ _ _ _ _ (p x k₀) (p (x + k) k₁) (p (x + 2 * k) k₂)
+    (factors-are-near c x k₀ .above) (factors-are-near c (x + k) k₁ .below) (factors-are-near c (x + 2 * k) k₂ .above)
+    (middle _ _ _ _ (pos x) (pos k) (p x k₀) (p (x + k) k₁) (p (x + 2 * k) k₂) (σ-proper c e (x + k) k₁)
+    (supports c e (x + k) x k₁ k₀) (supports c e (x + k) (x + 2 * k) k₁ k₂))
