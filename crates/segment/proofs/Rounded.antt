@@ -8,24 +8,18 @@ use Prim.Native.Nat.{ℕ, _+_, _/_, _<_}
 use native.Mathlib.Nat.{mul-pos, div-one}
 use lib.Dec.{lit<}
 use lib.IntN.{ℤ, pos, negsuc, negℤ, _+ℤ_, _-ℤ_, _*ℤ_, +ℤ-comm}
-use lib.Signed.{_≤ℤ_}
 use Rattle.exact.specs.Fraction.{Fraction, Proper, _over_, _+ℚ_, _≈ℚ_}
 use Rattle.exact.specs.Rounding.{floorDiv, floor, half, round}
 use Rattle.exact.proofs.Ring.{ring, terms}
 use Rattle.exact.proofs.Order as Z
 use Rattle.exact.proofs.Fractions as Q
-use Rattle.exact.proofs.Fractions.{positivity}
-use Rattle.exact.proofs.Floor.{floor-greatest, floorDiv-nested}
+use Rattle.exact.proofs.Floor.{floor-keeps-order, floorDiv-nested}
+use Rattle.exact.proofs.Rounding.{proper-half}
 use Rattle.model.proofs.ClosedForm.{Closed}
 
--- equal fractions have one floor
-floor-≤ : {x y : Fraction} → Proper x → Proper y → x ≈ℚ y → floor x ≤ℤ floor y
-floor-≤ {x} {y} px py e =
-    floor-greatest y py .greatest (floor x)
-    (Q.≤-trans (Q.proper-whole (floor x)) px py (floor-greatest x px .not-above) (Q.≤-of-≈ e))
-
 floor-≈ : {x y : Fraction} → Proper x → Proper y → x ≈ℚ y → floor x ≡ floor y
-floor-≈ px py e = Z.≤-antisym (floor-≤ px py e) (floor-≤ py px (Q.≈-sym e))
+floor-≈ {x} {y} px py e =
+    Z.≤-antisym (floor-keeps-order x y px py (Q.≤-of-≈ e)) (floor-keeps-order y x py px (Q.≤-of-≈ (Q.≈-sym e)))
 
 pub round-twice : {v f : Fraction} (x : ℤ) (y : ℕ) {w m : ℕ} →
     Closed v f →
@@ -36,9 +30,8 @@ pub round-twice : {v f : Fraction} (x : ℤ) (y : ℕ) {w m : ℕ} →
     round v ≡ floorDiv (x +ℤ pos (y / w)) m
 unfolding round floor floorDiv _over_
 round-twice {v} {f} x y {w} {m} k pf hw hm e =
-    let ph : Proper half = search positivity in
     let pq = Q.proper-over (x *ℤ pos w +ℤ pos y) (pos w *ℤ pos m) (Z.pos-<-of-< (mul-pos hw hm)) in
-    floor-≈ (Q.proper-+ (k .proper) ph) pq (Q.≈-trans (Q.proper-+ pf ph) (Q.≈-+ (k .same) (Q.≈-refl half)) e)
+    floor-≈ (Q.proper-+ (k .proper) proper-half) pq (Q.≈-trans (Q.proper-+ pf proper-half) (Q.≈-+ (k .same) (Q.≈-refl half)) e)
     ∙ sym (floorDiv-nested x (pos y) hw hm)
 
 floorDiv-one : (z : ℤ) → floorDiv z 1 ≡ z
