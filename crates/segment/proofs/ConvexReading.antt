@@ -3,7 +3,7 @@
 --   raised-slope    the left slope plus 10,000; above, below, the distances of the end slopes from the chord
 --   raised-at       `raised` at an area
 -- Assumes nothing.
-use mathlib.Core.Path.{_≡_, ap}
+use mathlib.Core.Path.{_≡_, sym, _∙_, ap}
 use mathlib.Core.List.{[], _∷_}
 use Prim.Native.Nat.{ℕ, _+_, _*_, _/_, _<_}
 use native.Mathlib.Nat.{mul-pos, zero-mul, zero-div}
@@ -12,7 +12,7 @@ use lib.Dec.{lit<}
 use lib.IntN.{ℤ, pos, natAbs, _+ℤ_, _-ℤ_, _*ℤ_, *ℤ-comm, +ℤ-invr}
 use lib.Signed.{_<ℤ_, ≤ℤ-refl}
 use Rattle.exact.specs.Fraction.{_over_, whole, _+ℚ_, _*ℚ_, _≈ℚ_, _<ℚ_}
-use Rattle.exact.specs.Rounding.{half, round}
+use Rattle.exact.specs.Rounding.{floorDiv, half, round}
 use Rattle.exact.proofs.Ring.{ring, terms}
 use Rattle.exact.proofs.Order as Z
 use Rattle.exact.proofs.Order.{signs}
@@ -32,7 +32,7 @@ use Rattle.model.proofs.Segments.{gap, rise, distance, v₀, v₁, d₀, d₁, 
 use Rattle.segment.specs.Inner.{raised, ConvexInput}
 use Rattle.segment.proofs.Figures.{natural-is, slope-size, gap-is, a-size, b-size}
 use Rattle.segment.proofs.Figures.{t, u, h, from-left, from-right, h-is, distances}
-use Rattle.segment.proofs.Rounded.{round-lowered}
+use Rattle.segment.proofs.Rounded.{round-lowered, same-hundreds}
 
 module _ (s : Segment) where
   abbrev raised-slope : ℕ
@@ -52,7 +52,8 @@ pub record Convex (s : Segment) (x : ℕ) : Type 0 where
   pub above-is : a s ≡ pos (above s)
   pub below-is : b s ≡ pos (below s)
   pub input : ConvexInput (t s x) (u s x) (h s) (s .left .value) (raised-slope s) (above s) (below s)
-  pub reading : round (interpolant convex s x) ≡ pos (raised-at s x / 100) -ℤ pos (100 * t s x)
+  pub reading : (r : ℕ) → r / 100 ≡ raised-at s x / 100 →
+      floorDiv (pos r -ℤ pos (slope-most * t s x)) 100 ≡ round (interpolant convex s x)
 
 -- ---- the end slopes and the chord
 
@@ -69,7 +70,7 @@ module _ (s : Segment) where
 
 -- 100 times the left tangent and 50, raised and lowered again
 abbrev tangent-hundredths : (l d t : ℤ) → ℤ
-tangent-hundredths l d t = pos 50 *ℤ (pos 2 *ℤ l +ℤ pos 1) +ℤ (d +ℤ pos slope-most) *ℤ t -ℤ pos 100 *ℤ t *ℤ pos 100
+tangent-hundredths l d t = pos 50 *ℤ (pos 2 *ℤ l +ℤ pos 1) +ℤ (d +ℤ pos slope-most) *ℤ t -ℤ pos slope-most *ℤ t
 
 straight-half : (l d t : ℤ) →
     whole l +ℚ (d over pos 100) *ℚ whole t +ℚ half ≈ℚ (tangent-hundredths l d t *ℤ pos 1 +ℤ pos 0) over (pos 1 *ℤ pos 100)
@@ -91,7 +92,7 @@ module _ {s : Segment} {x : ℕ} (i : Inside (Good convex) s x) where
   raised-tangent = 50 * (2 * s .left .value + 1) + raised-slope s * t s x
 
   abbrev Reads : Type 0
-  Reads = round (interpolant convex s x) ≡ pos (raised-at s x / 100) -ℤ pos (100 * t s x)
+  Reads = round (interpolant convex s x) ≡ floorDiv (pos (raised-at s x) -ℤ pos (slope-most * t s x)) 100
 
   convex-facts : a s ≡ pos (above s) → b s ≡ pos (below s) → Reads → Convex s x
   convex-facts above-is below-is reads =
@@ -108,7 +109,7 @@ module _ {s : Segment} {x : ℕ} (i : Inside (Good convex) s x) where
           above = a-size n;
           below = b-size n;
         };
-        reading = reads;
+        reading = λ r e. same-hundreds r (raised-at s x) (t s x) e ∙ sym reads;
       }
 
   -- ---- the straight line
@@ -133,7 +134,7 @@ module _ {s : Segment} {x : ℕ} (i : Inside (Good convex) s x) where
     straight-reads : Reads
     straight-reads =
         rw (ap natAbs (below-zero s low)) (simp (zero-mul, zero-div)
-        (round-lowered raised-tangent (100 * t s x) 0 {w = 1} along-slope (search positivity) (lit< tt)
+        (round-lowered raised-tangent (slope-most * t s x) 0 {w = 1} along-slope (search positivity) (lit< tt) (lit< tt)
         (rw slope-is at (straight-half (v₀ s) (s .left .slope) (pos (t s x))))))
 
     straight-facts : Convex s x
@@ -184,8 +185,8 @@ module _ {s : Segment} {x : ℕ} (i : Inside (Good convex) s x) where
         let k : 0 < h s = (let o = i .good .ends .ordered in omega arith) in
         let h-pos : pos 0 <ℤ pos (h s) = Z.pos-<-of-< k in
         let W-pos : pos 0 <ℤ pos divisor = Z.pos-<-of-< divisor-positive in
-        round-lowered raised-tangent (100 * t s x) (w * w) {w = divisor * h s} over-tangent (search (propers, signs) depth 9)
-        (mul-pos divisor-positive k)
+        round-lowered raised-tangent (slope-most * t s x) (w * w) {w = divisor * h s} over-tangent
+        (search (propers, signs) depth 9) (mul-pos divisor-positive k) (lit< tt)
         (rw slope-is at (bent-half (v₀ s) (s .left .slope) (pos (t s x)) (pos (h s)) (pos divisor) (pos w)))
 
     bent-facts : Convex s x
