@@ -1,4 +1,4 @@
--- What contracts of inner functions cite. Nothing here need be believed: the calls' contracts cite the definitions of document 01.
+-- What contracts of inner functions cite. Nothing here need be believed: the calls' contracts cite document 01's definitions.
 --   Fillable      an accepted curve and n entries whose areas are all its own
 --   NextEntry     the next entry of these, and the segment that it takes
 --   FilledUpTo    the entries from an index up to the next to fill are filled too

@@ -16,7 +16,7 @@ use borrow.Author.Tests.{not-false}
 use lib.Dec.{T}
 use lib.ListN.{length}
 use Rattle.exact.specs.Rounding.{round}
-use Rattle.model.specs.Answer.{gives, row, _then_}
+use Rattle.model.specs.Answer.{gives, row}
 use Rattle.model.specs.Points.{points-least, points-most, area-most, Point, Segment, segments, Shape, shape-of}
 use Rattle.model.specs.Interpolant.{interpolant}
 use Rattle.model.specs.Shape.{has-shape}

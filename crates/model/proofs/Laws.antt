@@ -6,17 +6,17 @@
 --   rising-factors        a larger area never reads less, on a rising curve
 --   convex-steps          of three areas equally far apart, the second step is at most one unit smaller, on a convex curve
 -- Assumes nothing.
-use mathlib.Core.Path.{_≡_, sym, _∙_, ap, subst, subst⁻¹, subst₂}
-use mathlib.Core.Bool.{true, false}
+use mathlib.Core.Path.{_≡_, sym, _∙_, ap, subst, subst₂}
+use mathlib.Core.Bool.{false}
 use mathlib.Core.List.{List, [], _∷_, _++_}
-use mathlib.Core.Logic.{_⊎_, inl, inr}
+use mathlib.Core.Logic.{inl, inr}
 use Prim.Native.Nat.{ℕ, zero, suc, _+_, _*_, _≤_, _<_}
-use native.Mathlib.Nat.{le-refl, le-of-lt, le-of-eq}
+use native.Mathlib.Nat.{le-of-lt, le-of-eq}
 use native.Mathlib.Omega.{arith}
-use lib.IntN.{ℤ, pos, negℤ, _+ℤ_, _-ℤ_, _*ℤ_}
+use lib.IntN.{ℤ, pos, _+ℤ_, _-ℤ_, _*ℤ_}
 use lib.ListN.{length, getD, length-map, length-append, List·getD-map}
-use lib.Signed.{_≤ℤ_, _<ℤ_}
-use Rattle.exact.specs.Fraction.{Fraction, Proper, whole, _+ℚ_, _-ℚ_, _*ℚ_, _/ℚ_, _≈ℚ_, _≤ℚ_, _<ℚ_}
+use lib.Signed.{_≤ℤ_}
+use Rattle.exact.specs.Fraction.{Fraction, Proper, whole, _+ℚ_, _-ℚ_, _*ℚ_, _≤ℚ_, _<ℚ_}
 use Rattle.exact.specs.Rounding.{half}
 use Rattle.exact.specs.Inner.{HalfUp}
 use Rattle.exact.proofs.Order as Z
@@ -37,7 +37,8 @@ use Rattle.model.proofs.Segments.{interpolant-proper, interpolant-left,
 use Rattle.model.proofs.Range.{Ranged, value-range, ReadingRange, reading-range}
 use Rattle.model.proofs.Relations.{values-rise, curve-slope, curve-slope-proper, Supports, tangents-support}
 use Rattle.model.proofs.Relations.{Line, _under_, chord-proper, chord-≤-slope, slope-≤-chord}
-use Rattle.model.proofs.Indexed.{Chained, chained, stop-in, point-at-append, segment-at-append, chained-at, low-of, high-of}
+use Rattle.model.proofs.Indexed.{Chained, chained, chained-at, stop-in, low-of, high-of}
+use Rattle.model.proofs.Indexed.{point-at-append, segment-at-append}
 use Rattle.model.proofs.Accepted.{count-of, chained-of, stops-inside, value-is, value-at-index}
 
 module _ (c : Curve) where

@@ -31,7 +31,11 @@ fields-of (a ∷ areas) [] slopes k = absurd (omega arith)
 fields-of (a ∷ areas) (v ∷ values) [] k = absurd (omega arith)
 fields-of (a ∷ areas) (v ∷ values) (s ∷ slopes) k =
     let f = fields-of areas values slopes (record { values-too = omega arith; slopes-too = omega arith }) in
-    record { areas-are = ap (a ∷_) (f .areas-are); values-are = ap (v ∷_) (f .values-are); slopes-are = ap (s ∷_) (f .slopes-are) }
+    record {
+      areas-are = ap (a ∷_) (f .areas-are);
+      values-are = ap (v ∷_) (f .values-are);
+      slopes-are = ap (s ∷_) (f .slopes-are);
+    }
 
 module _ {ps : List Point} {areas values : List ℕ} {slopes : List ℤ} (f : Fields ps areas values slopes) where
   pub fields-length : length ps ≡ length areas

@@ -5,7 +5,8 @@ use Rattle.exact.specs.Fraction.{_over_, whole, _+ℚ_, _-ℚ_, _*ℚ_, _/ℚ_,
 use Rattle.exact.specs.Rounding.{floorDiv, floor, round}
 use Rattle.model.specs.Answer.{row, _then_}
 use Rattle.model.specs.Points.{gradient, points, segments, shape-of}
-use Rattle.model.specs.Interpolant.{chord, p, q, P, Q, rational, r-rising, r-convex, rising-curve, convex-curve, curve, interpolant}
+use Rattle.model.specs.Interpolant.{chord, p, q, P, Q, rational, r-rising, r-convex}
+use Rattle.model.specs.Interpolant.{rising-curve, convex-curve, curve, interpolant}
 use Rattle.model.specs.Shape.{rises, bends, fits, has-shape}
 use Rattle.model.specs.Check.{lengths-differ, bad-count, bad-code, bad-area, bad-value, bad-slope}
 use Rattle.model.specs.Check.{point-rows, segment-rows, curve-rows, check-answer, on-lists}

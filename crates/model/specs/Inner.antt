@@ -1,4 +1,4 @@
--- What contracts of inner functions cite. Nothing here need be believed: the calls' contracts cite the definitions of document 01.
+-- What contracts of inner functions cite. Nothing here need be believed: the calls' contracts cite document 01's definitions.
 --   fault-answer       a fault's number and place, as an answer
 --   Accepted           rows 1 to 6 refuse nothing
 --   Alike              three lists are equally long
@@ -14,7 +14,7 @@ use mathlib.Core.List.{List, map, _++_}
 use mathlib.Core.Logic.{_⊎_}
 use Prim.Native.Nat.{ℕ, suc, _+_, _≤_, _<_}
 use lib.Dec.{T, eqb, ltb}
-use lib.IntN.{ℤ, pos, negℤ}
+use lib.IntN.{pos, negℤ}
 use lib.ListN.{length, getD, drop}
 use lib.Signed.{_≤ℤ_}
 use Rattle.model.specs.Answer.{Answer, gives, row}

@@ -1,13 +1,14 @@
--- The third demand: a factor read, whichever call gives it, is the reading at an area of the curve; the laws of the reading do the rest.
+-- The third demand: a factor read, whichever call gives it, is the reading at an area of the curve; the laws of the reading do
+-- the rest.
 -- Assumes nothing.
-use Prim.Native.Nat.{ℕ, zero, suc, _+_, _*_, _<_, zero-le}
-use mathlib.Core.Path.{_≡_, refl, sym, _∙_, ap, subst, subst₂}
+use Prim.Native.Nat.{ℕ, _*_, _<_, zero-le}
+use mathlib.Core.Path.{_≡_, refl, sym, _∙_, ap, subst}
 use mathlib.Core.Bool.{Bool, true, false}
-use mathlib.Core.List.{List, [], _∷_, _++_}
+use mathlib.Core.List.{List}
 use native.Mathlib.Nat.{zero-add}
 use native.Mathlib.Omega.{arith}
 use lib.Dec.{ltb}
-use lib.IntN.{ℤ, pos, negℤ, _-ℤ_}
+use lib.IntN.{ℤ, pos, negℤ}
 use lib.ListN.{length, getD}
 use lib.Signed.{_≤ℤ_}
 use Rattle.exact.specs.Fraction.{Proper, whole, _+ℚ_, _-ℚ_, _≤ℚ_}
@@ -34,7 +35,6 @@ use Rattle.desk.specs.Laws.{Apart}
 use Rattle.desk.proofs.Apart.{apart}
 use Rattle.pair.specs.Pair.{Factors, factors, pair-answer}
 use Rattle.promises.specs.FactorRead.{FileOf, FactorRead, by-read, by-pair-form, by-pair-plan, by-sheet, by-desk}
-use Rattle.promises.specs.FactorRead.{list-of}
 use Rattle.promises.specs.Demands.{CheckAccepts, ThirdDemand}
 
 -- a factor read is the reading at an area of the curve
@@ -95,7 +95,9 @@ is-entry c start step out entries index e h =
     let count = gives-injective (then-rest rows (gives n) after-8) in
     let f : ℕ → ℤ = λ j. reading (c .points) (c .code) (entry-area start step j) in
     record {
-      area = record { within = rows-inside (c .points) start step 0 n index (then-first rows (gives n) after-8) zero-le (omega (arith, count)) };
+      area = record {
+        within = rows-inside (c .points) start step 0 n index (then-first rows (gives n) after-8) zero-le (omega (arith, count));
+      };
       same = sym (tabulate-at f (pos 0) 0 index entries h ∙ ap f (zero-add index));
     }
 

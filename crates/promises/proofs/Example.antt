@@ -1,22 +1,22 @@
 -- Document 01's 31 bytes, by computation; and a factor read of that curve by each call.
 -- Assumes nothing.
-use mathlib.Core.Path.{_≡_, refl}
-use mathlib.Core.List.{List, [], _∷_}
-use Prim.Native.Nat.{ℕ}
+use mathlib.Core.Path.{refl}
+use mathlib.Core.List.{[], _∷_}
 use lib.Dec.{lit<}
-use lib.IntN.{ℤ, pos, negℤ}
+use lib.IntN.{pos}
 use Rattle.exact.specs.Fraction.{_over_, whole, _+ℚ_, _-ℚ_, _*ℚ_, _/ℚ_, leℚ, ltℚ, eqℚ}
 use Rattle.exact.specs.Rounding.{floorDiv, floor, round}
 use Rattle.model.specs.Answer.{row, _then_}
 use Rattle.model.specs.Points.{gradient, points, segments, shape-of}
-use Rattle.model.specs.Interpolant.{chord, p, q, P, Q, rational, r-rising, r-convex, rising-curve, convex-curve, curve, interpolant}
+use Rattle.model.specs.Interpolant.{chord, p, q, P, Q, rational, r-rising, r-convex}
+use Rattle.model.specs.Interpolant.{rising-curve, convex-curve, curve, interpolant}
 use Rattle.model.specs.Shape.{rises, bends, fits, has-shape}
 use Rattle.model.specs.Check.{lengths-differ, bad-count, bad-code, bad-area, bad-value, bad-slope}
 use Rattle.model.specs.Check.{point-rows, segment-rows, curve-rows, on-lists}
 use Rattle.model.specs.Read.{taken, value-in, outside, exact-value, reading, read-answer}
 use Rattle.model.specs.Sheet.{bad-sheet, entry-rows, tabulate, sheet-answer, sheet-list}
 use Rattle.model.specs.Laws.{Curve}
-use Rattle.layout.specs.Layout.{twos-complement, little-endian, record-at, points-of, shape-code}
+use Rattle.layout.specs.Layout.{twos-complement, little-endian, record-at, points-of}
 use Rattle.layout.specs.Head.{wrong-mark, bad-head, bad-size, head-rows}
 use Rattle.pair.specs.Pair.{factors, pair-answer}
 use Rattle.file.specs.Open.{short-list, open-answer, open-list}
