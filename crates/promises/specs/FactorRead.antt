@@ -23,19 +23,18 @@ pub record FileOf (c : Curve) (bytes : List ℕ) : Type 0 where
   pub code : shape-code bytes ≡ c .code
 
 -- the calls on the curve's lists and code
-module _ (c : Curve) where
-  abbrev pub read-of : ℕ → Answer ℤ
-  read-of x = on-lists-of (c .points) (λ ps. read-answer ps (c .code) x)
+abbrev pub read-of : Curve → ℕ → Answer ℤ
+read-of c x = on-lists-of (c .points) (λ ps. read-answer ps (c .code) x)
 
-  abbrev pub pair-of : ℕ → ℕ → Answer Factors
-  pair-of form plan = on-lists-of (c .points) (λ ps. pair-answer ps (c .code) form plan)
+abbrev pub pair-of : Curve → ℕ → ℕ → Answer Factors
+pair-of c form plan = on-lists-of (c .points) (λ ps. pair-answer ps (c .code) form plan)
 
-  abbrev pub sheet-of : ℕ → ℕ → ℕ → Answer ℕ
-  sheet-of start step entries = on-lists-of (c .points) (λ ps. sheet-answer ps (c .code) start step entries)
+abbrev pub sheet-of : Curve → ℕ → ℕ → ℕ → Answer ℕ
+sheet-of c start step entries = on-lists-of (c .points) (λ ps. sheet-answer ps (c .code) start step entries)
 
-  -- the list after the sheet's call
-  abbrev pub list-of : ℕ → ℕ → List ℤ → List ℤ
-  list-of start step out = sheet-list (c .points) (c .code) start step (sheet-of start step (length out)) out
+-- the list after the sheet's call
+abbrev pub list-of : Curve → ℕ → ℕ → List ℤ → List ℤ
+list-of c start step out = sheet-list (c .points) (c .code) start step (sheet-of c start step (length out)) out
 
 -- the factor f is read at the area x of the curve; the desk's number is a factor unless it is below −1,000,000
 pub data FactorRead (c : Curve) : ℕ → ℤ → Type 0 where
