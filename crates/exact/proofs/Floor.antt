@@ -8,10 +8,11 @@ use mathlib.Core.Path.{_≡_, sym, subst₂}
 use mathlib.Core.List.{[], _∷_}
 use Prim.Native.Nat.{ℕ, _*_, _/_, _<_}
 use native.Mathlib.Nat.{div-mul-le-self, lt-mul-div-succ, mul-comm, mul-pos}
-use lib.IntN.{ℤ, pos, negsuc, natAbs, one, _+ℤ_, _-ℤ_, _*ℤ_, *ℤ-one}
-use lib.Signed.{_≤ℤ_, _<ℤ_, yes-nonNeg, pos-natAbs}
+use lib.IntN.{ℤ, pos, negsuc, natAbs, _+ℤ_, _-ℤ_, _*ℤ_}
+use lib.Signed.{_≤ℤ_, _<ℤ_}
 use Rattle.exact.specs.Fraction.{Fraction, Proper, whole, _≤ℚ_, _<ℚ_}
 use Rattle.exact.specs.Rounding.{floorDiv, floor, FloorIsGreatest}
+use Rattle.exact.proofs.Integer.{*-one}
 use Rattle.exact.proofs.Ring.{ring, terms}
 use Rattle.exact.proofs.Order as Z
 use Rattle.exact.proofs.Order.{signs}
@@ -87,23 +88,23 @@ floorDiv-nested x y hw hm =
 
 module _ (x : Fraction) (px : Proper x) where
   den-natural : pos (natAbs (x .den)) ≡ x .den
-  den-natural = pos-natAbs (x .den) (yes-nonNeg (Z.≤-of-< (px .above-0)))
+  den-natural = sym (Z.natural-of-nonneg (Z.≤-of-< (px .above-0)))
 
   floor-quotient : Quotient (x .num) (natAbs (x .den)) (floor x)
   unfolding floor
   floor-quotient = floorDiv-quotient (x .num) (Z.<-of-pos-< (rw den-natural (px .above-0)))
 
   pub floor-next : x <ℚ whole (floor x +ℤ pos 1)
-  unfolding whole one
-  floor-next = record { cross = rw (*ℤ-one (x .num)) (rw den-natural at (floor-quotient .high)) }
+  unfolding whole
+  floor-next = record { cross = rw (*-one (x .num)) (rw den-natural at (floor-quotient .high)) }
 
 pub floor-greatest : FloorIsGreatest
-unfolding whole one
+unfolding whole
 floor-greatest x px =
     let q = floor-quotient x px in
     record {
-      not-above = record { cross = rw (*ℤ-one (x .num)) (rw (den-natural x px) at (q .low)) };
-      greatest = λ z h. quotient-greatest z q (rw (den-natural x px) (rw (*ℤ-one (x .num)) at (h .cross)));
+      not-above = record { cross = rw (*-one (x .num)) (rw (den-natural x px) at (q .low)) };
+      greatest = λ z h. quotient-greatest z q (rw (den-natural x px) (rw (*-one (x .num)) at (h .cross)));
     }
 
 pub floor-keeps-order : (x y : Fraction) → Proper x → Proper y → x ≤ℚ y → floor x ≤ℤ floor y

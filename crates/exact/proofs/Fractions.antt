@@ -3,6 +3,7 @@
 --   propers, positivity    what `search` goes by for `Proper`, and for all three
 --   ≤-by, <-by             the certificate: y − x is, by the field tactic, a c that is not negative (above 0)
 --   ≈-.., ≤-.., <-..       the same number, and the order
+--   nonneg-of-≤            from 0 ≤ x; ≡-of-keeps-order, what keeps order takes equal fractions to equal numbers
 --   ≤-of-leℚ, ..           from the tests to the comparisons, and back
 -- Assumes nothing.
 use mathlib.Core.Path.{_≡_, refl, sym, subst}
@@ -15,6 +16,7 @@ use lib.Signed.{_≤ℤ_, _<ℤ_, clashℤ}
 use Rattle.exact.specs.Fraction.{Fraction, Proper, _over_, whole, _+ℚ_, _-ℚ_, _*ℚ_, _/ℚ_, _≈ℚ_, _≤ℚ_, _<ℚ_}
 use Rattle.exact.specs.Fraction.{leℚ, ltℚ, eqℚ}
 use Rattle.exact.proofs.Tests.{true-or-false, T-true, and-left, and-right}
+use Rattle.exact.proofs.Integer.{*-one}
 use Rattle.exact.proofs.Ring.{ring, terms, ≡-of-combination}
 use Rattle.exact.proofs.Order as Z
 use Rattle.exact.proofs.Order.{signs}
@@ -172,6 +174,10 @@ module _ {x y : Fraction} (px : Proper x) (py : Proper y) (e : x ≈ℚ y) where
 
 -- ---- order
 
+pub nonneg-of-≤ : {x : Fraction} → whole (pos 0) ≤ℚ x → NonNeg x
+unfolding whole
+nonneg-of-≤ {x} h = record { sign = rw (zero-*ℤ, *-one) at (h .cross) }
+
 pub ≤-of-≈ : {x y : Fraction} → x ≈ℚ y → x ≤ℚ y
 ≤-of-≈ h = record { cross = Z.≤-of-≡ (h .cross) }
 
@@ -180,6 +186,12 @@ pub ≤-antisym : {x y : Fraction} → x ≤ℚ y → y ≤ℚ x → x ≈ℚ y
 
 pub ≤-of-< : {x y : Fraction} → x <ℚ y → x ≤ℚ y
 ≤-of-< h = record { cross = Z.≤-of-< (h .cross) }
+
+-- what keeps order takes equal fractions to equal numbers
+pub ≡-of-keeps-order : {f : Fraction → ℤ} → ((x y : Fraction) → Proper x → Proper y → x ≤ℚ y → f x ≤ℤ f y) →
+    {x y : Fraction} → Proper x → Proper y → x ≈ℚ y → f x ≡ f y
+≡-of-keeps-order keeps {x} {y} px py e =
+    Z.≤-antisym (keeps x y px py (≤-of-≈ e)) (keeps y x py px (≤-of-≈ (≈-sym e)))
 
 pub ≤-or-< : (x y : Fraction) → (x ≤ℚ y) ⊎ (y <ℚ x)
 ≤-or-< x y = elim (Z.≤-or-< (x .num *ℤ y .den) (y .num *ℤ x .den)) [
@@ -202,18 +214,12 @@ pub ≤-trans : {x y z : Fraction} → Proper x → Proper y → Proper z → x 
     (field (x ∷ℚ y ∷ℚ z ∷ℚ []) (search ratios depth 20 fits 9999) tt)
     (search positivity)
 
-pub ≤-cancel : {x y k : Fraction} → Proper x → Proper y → Proper k → Positive k → x *ℚ k ≤ℚ y *ℚ k → x ≤ℚ y
-≤-cancel {x} {y} {k} px py pk hk h =
-    ≤-by px py ((y *ℚ k -ℚ x *ℚ k) /ℚ k) (search positivity)
-    (field (x ∷ℚ y ∷ℚ k ∷ℚ []) (search ratios depth 20 fits 9999) tt)
+pub ≤-+ : {x y x' y' : Fraction} → Proper x → Proper y → Proper x' → Proper y' →
+    x ≤ℚ x' → y ≤ℚ y' → x +ℚ y ≤ℚ x' +ℚ y'
+≤-+ {x} {y} {x'} {y'} px py px' py' h k =
+    ≤-by (search propers) (search propers) ((x' -ℚ x) +ℚ (y' -ℚ y)) (search propers)
+    (field (x ∷ℚ y ∷ℚ x' ∷ℚ y' ∷ℚ []) (search ratios depth 20 fits 9999) tt)
     (search positivity)
-
-module _ {x y x' y' : Fraction} (px : Proper x) (py : Proper y) (px' : Proper x') (py' : Proper y') where
-  pub ≤-+ : x ≤ℚ x' → y ≤ℚ y' → x +ℚ y ≤ℚ x' +ℚ y'
-  ≤-+ h k =
-      ≤-by (search propers) (search propers) ((x' -ℚ x) +ℚ (y' -ℚ y)) (search propers)
-      (field (x ∷ℚ y ∷ℚ x' ∷ℚ y' ∷ℚ []) (search ratios depth 20 fits 9999) tt)
-      (search positivity)
 
 pub whole-≤-of-≤ : (a b : ℤ) → a ≤ℤ b → whole a ≤ℚ whole b
 unfolding whole

@@ -2,12 +2,12 @@
 --   +-left-comm        a + (b + c) = b + (a + c)
 --   +-exchange         (a + b) + (c + d) = (a + c) + (b + d)
 --   +-*, *-+           a sum times k, and k times a sum
---   one-*              1 a = a
+--   *-one, one-*       a 1 = a, 1 a = a
 --   neg-*              (−a) b = −(a b)
 --   *-assoc            (a b) c = a (b c)
 --   ≡-of-difference    a − b = 0 → a = b
 -- Assumes nothing.
-use mathlib.Core.Path.{_≡_, sym, _≡⟨_⟩_, _∎}
+use mathlib.Core.Path.{_≡_, sym, _∙_, _≡⟨_⟩_, _∎}
 use Prim.Native.Nat.{zero}
 use lib.IntN.{ℤ, pos, negℤ, one, _+ℤ_, _-ℤ_, _*ℤ_, ℤ-ind, +ℤ-idl, +ℤ-idr, +ℤ-assoc, +ℤ-comm, +ℤ-invl, +ℤ-invr}
 use lib.IntN.{+ℤ-one, -ℤ-one, sucℤ-+ℤ, predℤ-+ℤ, *ℤ-comm, *ℤ-one, zero-*ℤ, sucℤ-*ℤ, predℤ-*ℤ}
@@ -39,9 +39,12 @@ pub +-* : (a b k : ℤ) → (a +ℤ b) *ℤ k ≡ a *ℤ k +ℤ b *ℤ k
 pub *-+ : (k a b : ℤ) → k *ℤ (a +ℤ b) ≡ k *ℤ a +ℤ k *ℤ b
 *-+ k a b = rw (*ℤ-comm k (a +ℤ b), *ℤ-comm k a, *ℤ-comm k b) (+-* a b k)
 
-pub one-* : (a : ℤ) → pos 1 *ℤ a ≡ a
+pub *-one : (a : ℤ) → a *ℤ pos 1 ≡ a
 unfolding one
-one-* a = rw (*ℤ-comm (pos 1) a) (*ℤ-one a)
+*-one a = *ℤ-one a
+
+pub one-* : (a : ℤ) → pos 1 *ℤ a ≡ a
+one-* a = *ℤ-comm (pos 1) a ∙ *-one a
 
 -- what sums to 0 with a is −a
 negation : (a b : ℤ) → a +ℤ b ≡ pos zero → b ≡ negℤ a

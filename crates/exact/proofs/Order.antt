@@ -1,4 +1,5 @@
 -- The order of ℤ (`lib.Signed`).
+--   natural-of-nonneg         what is not negative is natural; difference-of-≤, so is m − n where n ≤ m
 --   ≤-by c e h, <-by c e h    the certificate: b − a is c, which is not negative (above 0)
 --   nonneg-.., positive-..    what is not negative, above 0; `search signs` goes by these
 --   next                      a + 1: a < b is a + 1 ≤ b
@@ -36,8 +37,15 @@ pos-injective e = ap natAbs e
 pub nonneg-pos : (n : ℕ) → pos 0 ≤ℤ pos n
 nonneg-pos n = pos-≤-of-≤ zero-le
 
+pub natural-of-nonneg : {z : ℤ} → pos 0 ≤ℤ z → z ≡ pos (natAbs z)
+natural-of-nonneg {z} h = sym (pos-natAbs z (yes-nonNeg h))
+
 pub pos-of-nonneg : {z : ℤ} → pos 0 ≤ℤ z → (n : ℕ) × (z ≡ pos n)
-pos-of-nonneg {z} h = (natAbs z, sym (pos-natAbs z (yes-nonNeg h)))
+pos-of-nonneg {z} h = (natAbs z, natural-of-nonneg h)
+
+pub difference-of-≤ : {m n : ℕ} → n ≤ m → pos m -ℤ pos n ≡ pos (m - n)
+difference-of-≤ {m} {n = zero} h = ap pos (omega arith)
+difference-of-≤ {m} {n = suc n} h = rw (le-ltb m (suc n) h)
 
 -- ---- a ≤ b says that b − a is not negative
 
@@ -54,10 +62,8 @@ pub ≤-by : {a b : ℤ} (c : ℤ) → b -ℤ a ≡ c → pos 0 ≤ℤ c → a �
     subst (λ x. a ≤ℤ x) (rw (← n .1, ← e) (ring (a ∷ b ∷ []) (search terms depth 20 fits 9999) tt)) (≤-sum a (n .0))
 
 leZ-difference : (a b : ℤ) → T (leZ a b) → pos 0 ≤ℤ (b -ℤ a)
-leZ-difference (pos zero) (pos b) t = nonneg-pos (b + 0)
-leZ-difference (pos (suc a)) (pos b) t = rw (le-ltb b (suc a) (leb→le (suc a) b t)) (nonneg-pos (b - suc a))
-leZ-difference (pos zero) (negsuc b) t = absurd t
-leZ-difference (pos (suc a)) (negsuc b) t = absurd t
+leZ-difference (pos a) (pos b) t = rw (difference-of-≤ (leb→le a b t)) (nonneg-pos (b - a))
+leZ-difference (pos a) (negsuc b) t = absurd t
 leZ-difference (negsuc a) (pos b) t = nonneg-pos (b + suc a)
 leZ-difference (negsuc a) (negsuc b) t = rw (le-ltb (suc a) (suc b) (suc-le-suc (leb→le b a t))) (nonneg-pos (suc a - suc b))
 

@@ -18,35 +18,35 @@ pub data Poly : Type 0 where
   con : ℤ → Poly
   _·x+_ : Poly → Poly → Poly
 
-abbrev pub first : List ℤ → ℤ
-first [] = pos 0
-first (x ∷ xs) = x
+abbrev pub head : List ℤ → ℤ
+head [] = pos 0
+head (x ∷ xs) = x
 
-abbrev pub later : List ℤ → List ℤ
-later [] = []
-later (x ∷ xs) = xs
+abbrev pub tail : List ℤ → List ℤ
+tail [] = []
+tail (x ∷ xs) = xs
 
 abbrev pub value : Poly → List ℤ → ℤ
 value (con c) ρ = c
-value (p ·x+ q) ρ = value p ρ *ℤ first ρ +ℤ value q (later ρ)
+value (p ·x+ q) ρ = value p ρ *ℤ head ρ +ℤ value q (tail ρ)
 
 abbrev pub isNull : ℤ → Bool
 isNull (pos n) = eqb n 0
 isNull (negsuc n) = false
 
-null : (c : ℤ) → T (isNull c) → c ≡ pos 0
-null (pos n) t = ap pos (eqb→eq n 0 t)
-null (negsuc n) t = absurd t
+zero-of-isNull : (c : ℤ) → T (isNull c) → c ≡ pos 0
+zero-of-isNull (pos n) t = ap pos (eqb→eq n 0 t)
+zero-of-isNull (negsuc n) t = absurd t
 
 abbrev pub isZero : Poly → Bool
 isZero (con c) = isNull c
 isZero (p ·x+ q) = isZero p && isZero q
 
 pub zero-value : (p : Poly) (ρ : List ℤ) → T (isZero p) → value p ρ ≡ pos 0
-zero-value (con c) ρ t = null c t
+zero-value (con c) ρ t = zero-of-isNull c t
 zero-value (p ·x+ q) ρ t =
     let both = and-yes (isZero p) (isZero q) t in
-    rw (zero-value p ρ (both .0), zero-value q (later ρ) (both .1), zero-*ℤ (first ρ))
+    rw (zero-value p ρ (both .0), zero-value q (tail ρ) (both .1), zero-*ℤ (head ρ))
 
 -- p · x + q, where a constant stays one
 abbrev pub horner : Poly → Poly → Poly
@@ -56,12 +56,12 @@ horner (p ·x+ q) r = (p ·x+ q) ·x+ r
 
 horner-con : (b : Bool) (c d : ℤ) (ρ : List ℤ) →
     (T b → c ≡ pos 0) →
-    value (cond b (con d) (con c ·x+ con d)) ρ ≡ c *ℤ first ρ +ℤ d
-horner-con true c d ρ h = rw (h tt, zero-*ℤ (first ρ)) (sym (+ℤ-idl d))
+    value (cond b (con d) (con c ·x+ con d)) ρ ≡ c *ℤ head ρ +ℤ d
+horner-con true c d ρ h = rw (h tt, zero-*ℤ (head ρ)) (sym (+ℤ-idl d))
 horner-con false c d ρ h = refl
 
-horner-value : (p q : Poly) (ρ : List ℤ) → value (horner p q) ρ ≡ value p ρ *ℤ first ρ +ℤ value q (later ρ)
-horner-value (con c) (con d) ρ = horner-con (isNull c) c d ρ (null c)
+horner-value : (p q : Poly) (ρ : List ℤ) → value (horner p q) ρ ≡ value p ρ *ℤ head ρ +ℤ value q (tail ρ)
+horner-value (con c) (con d) ρ = horner-con (isNull c) c d ρ (zero-of-isNull c)
 horner-value (con c) (p ·x+ q) ρ = refl
 horner-value (p ·x+ q) r ρ = refl
 
@@ -72,7 +72,7 @@ plus-con c (p ·x+ q) = p ·x+ plus-con c q
 plus-con-value : (c : ℤ) (p : Poly) (ρ : List ℤ) → value (plus-con c p) ρ ≡ c +ℤ value p ρ
 plus-con-value c (con d) ρ = refl
 plus-con-value c (p ·x+ q) ρ =
-    rw (plus-con-value c q (later ρ)) (+-left-comm (value p ρ *ℤ first ρ) c (value q (later ρ)))
+    rw (plus-con-value c q (tail ρ)) (+-left-comm (value p ρ *ℤ head ρ) c (value q (tail ρ)))
 
 abbrev pub plus : Poly → Poly → Poly
 plus (con c) r = plus-con c r
@@ -83,8 +83,8 @@ pub plus-value : (p r : Poly) (ρ : List ℤ) → value (plus p r) ρ ≡ value 
 plus-value (con c) r ρ = plus-con-value c r ρ
 plus-value (p ·x+ q) (con d) ρ = plus-con-value d (p ·x+ q) ρ ∙ +ℤ-comm d (value (p ·x+ q) ρ)
 plus-value (p ·x+ q) (p' ·x+ q') ρ =
-    rw (horner-value (plus p p') (plus q q') ρ, plus-value p p' ρ, plus-value q q' (later ρ), +-*)
-    (+-exchange (value p ρ *ℤ first ρ) (value p' ρ *ℤ first ρ) (value q (later ρ)) (value q' (later ρ)))
+    rw (horner-value (plus p p') (plus q q') ρ, plus-value p p' ρ, plus-value q q' (tail ρ), +-*)
+    (+-exchange (value p ρ *ℤ head ρ) (value p' ρ *ℤ head ρ) (value q (tail ρ)) (value q' (tail ρ)))
 
 abbrev pub scale : ℤ → Poly → Poly
 scale c (con d) = con (c *ℤ d)
@@ -93,7 +93,7 @@ scale c (p ·x+ q) = horner (scale c p) (scale c q)
 pub scale-value : (c : ℤ) (p : Poly) (ρ : List ℤ) → value (scale c p) ρ ≡ c *ℤ value p ρ
 scale-value c (con d) ρ = refl
 scale-value c (p ·x+ q) ρ =
-    rw (horner-value (scale c p) (scale c q) ρ, scale-value c p ρ, scale-value c q (later ρ), *-assoc) (sym (*-+ c _ _))
+    rw (horner-value (scale c p) (scale c q) ρ, scale-value c p ρ, scale-value c q (tail ρ), *-assoc) (sym (*-+ c _ _))
 
 -- a product with a factor over the later variables, whose own products f gives
 abbrev widen : (Poly → Poly) → Poly → Poly
@@ -102,11 +102,11 @@ widen f (p ·x+ q) = horner (widen f p) (f q)
 
 widen-value : (f : Poly → Poly) (r : Poly) →
     ((p : Poly) (ρ : List ℤ) → value (f p) ρ ≡ value r ρ *ℤ value p ρ) →
-    (p : Poly) (ρ : List ℤ) → value (widen f p) ρ ≡ value r (later ρ) *ℤ value p ρ
+    (p : Poly) (ρ : List ℤ) → value (widen f p) ρ ≡ value r (tail ρ) *ℤ value p ρ
 widen-value f r h (con d) ρ =
-    rw (horner-value (con (pos 0)) (f (con d)) ρ, zero-*ℤ (first ρ), h (con d) (later ρ)) (+ℤ-idl (value r (later ρ) *ℤ d))
+    rw (horner-value (con (pos 0)) (f (con d)) ρ, zero-*ℤ (head ρ), h (con d) (tail ρ)) (+ℤ-idl (value r (tail ρ) *ℤ d))
 widen-value f r h (p ·x+ q) ρ =
-    rw (horner-value (widen f p) (f q) ρ, widen-value f r h p ρ, h q (later ρ), *-assoc) (sym (*-+ (value r (later ρ)) _ _))
+    rw (horner-value (widen f p) (f q) ρ, widen-value f r h p ρ, h q (tail ρ), *-assoc) (sym (*-+ (value r (tail ρ)) _ _))
 
 abbrev pub times : Poly → Poly → Poly
 times (con c) r = cond (isNull c) (con (pos 0)) (scale c r)
@@ -125,7 +125,7 @@ horner-product : (p q p' q' x : ℤ) → let r = p' *ℤ x +ℤ q' in
 horner-product p q p' q' x = simp (+-*, *-+, *-assoc, +ℤ-assoc, *ℤ-comm x)
 
 pub times-value : (p r : Poly) (ρ : List ℤ) → value (times p r) ρ ≡ value p ρ *ℤ value r ρ
-times-value (con c) r ρ = times-con (isNull c) c r ρ (null c)
+times-value (con c) r ρ = times-con (isNull c) c r ρ (zero-of-isNull c)
 times-value (p ·x+ q) (con d) ρ = scale-value d (p ·x+ q) ρ ∙ *ℤ-comm d (value (p ·x+ q) ρ)
 times-value (p ·x+ q) (p' ·x+ q') ρ =
     rw (
@@ -133,6 +133,6 @@ times-value (p ·x+ q) (p' ·x+ q') ρ =
       plus-value (times p (p' ·x+ q')) (widen (λ s. times q s) p') ρ,
       times-value p (p' ·x+ q') ρ,
       widen-value (λ s. times q s) q (times-value q) p' ρ,
-      times-value q q' (later ρ),
+      times-value q q' (tail ρ),
     )
-    (horner-product (value p ρ) (value q (later ρ)) (value p' ρ) (value q' (later ρ)) (first ρ))
+    (horner-product (value p ρ) (value q (tail ρ)) (value p' ρ) (value q' (tail ρ)) (head ρ))

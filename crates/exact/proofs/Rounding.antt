@@ -1,5 +1,5 @@
 -- The rounding rule.
---   rounding-..         what holds of any `Rounding`: equal fractions round alike, and whole bounds are kept
+--   rounding-at-whole   any `Rounding` of what is the whole number k is k
 --   round-is-half-up    `round` is at most one half off, halves up, and nothing else is (`half-up-unique`)
 --   round-rounding      `round` is a `Rounding`
 -- Assumes nothing.
@@ -7,7 +7,7 @@ use mathlib.Core.Path.{_≡_, _∙_}
 use mathlib.Core.List.{[], _∷_}
 use lib.IntN.{ℤ, pos, _+ℤ_}
 use lib.Signed.{_≤ℤ_}
-use Rattle.exact.specs.Fraction.{Fraction, Proper, whole, _+ℚ_, _-ℚ_, _≈ℚ_, _≤ℚ_}
+use Rattle.exact.specs.Fraction.{Fraction, Proper, whole, _+ℚ_, _-ℚ_, _≈ℚ_}
 use Rattle.exact.specs.Rounding.{half, round}
 use Rattle.exact.specs.Inner.{Rounding, HalfUp}
 use Rattle.exact.proofs.Order as Z
@@ -16,20 +16,8 @@ use Rattle.exact.proofs.Fractions as Q
 use Rattle.exact.proofs.Fractions.{propers, positivity}
 use Rattle.exact.proofs.Floor.{floor-next, floor-greatest, floor-keeps-order}
 
-module _ {rnd : Fraction → ℤ} (r : Rounding rnd) where
-  pub rounding-≈ : (x y : Fraction) → Proper x → Proper y → x ≈ℚ y → rnd x ≡ rnd y
-  rounding-≈ x y px py e =
-      Z.≤-antisym (r .keeps-order x y px py (Q.≤-of-≈ e)) (r .keeps-order y x py px (Q.≤-of-≈ (Q.≈-sym e)))
-
-  module _ (k : ℤ) (v : Fraction) (pv : Proper v) where
-    pub rounding-low : whole k ≤ℚ v → k ≤ℤ rnd v
-    rounding-low h = rw (r .keeps-whole k) at (r .keeps-order (whole k) v (Q.proper-whole k) pv h)
-
-    pub rounding-high : v ≤ℚ whole k → rnd v ≤ℤ k
-    rounding-high h = rw (r .keeps-whole k) at (r .keeps-order v (whole k) pv (Q.proper-whole k) h)
-
-    pub rounding-at-whole : v ≈ℚ whole k → rnd v ≡ k
-    rounding-at-whole e = rounding-≈ v (whole k) pv (Q.proper-whole k) e ∙ r .keeps-whole k
+pub rounding-at-whole : {rnd : Fraction → ℤ} {v : Fraction} → Rounding rnd → (k : ℤ) → Proper v → v ≈ℚ whole k → rnd v ≡ k
+rounding-at-whole r k pv e = Q.≡-of-keeps-order (r .keeps-order) pv (Q.proper-whole k) e ∙ r .keeps-whole k
 
 -- ---- halves up
 

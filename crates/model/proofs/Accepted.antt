@@ -87,15 +87,15 @@ pub value-is : {ps : List Point} {code : ℕ} → Accepted ps code → (x : ℕ)
 value-is {code = code} k x = chained-value code (chained-of k) x
 
 module _ {ps : List Point} {code i x : ℕ} (k : Accepted ps code) (t : Taken (areas-of ps) i x) where
-  stops : stop-in ps x ≡ segment-at ps i
-  stops = stop-at (Good (shape-of code)) good-ordered (chained-of k) i x t
+  stop-is : stop-in ps x ≡ segment-at ps i
+  stop-is = stop-at (Good (shape-of code)) good-ordered (chained-of k) i x t
 
   pub value-at-index : exact-value ps code x ≡ interpolant (shape-of code) (segment-at ps i) x
-  value-at-index = value-is k x ∙ ap (λ (s : Segment). interpolant (shape-of code) s x) stops
+  value-at-index = value-is k x ∙ ap (λ (s : Segment). interpolant (shape-of code) s x) stop-is
 
 module _ {ps : List Point} {code i x : ℕ} (k : Readable ps code i x) where
   pub inside : Inside (Good (shape-of code)) (segment-at ps i) x
-  inside = rw (stops (k .accepted) (k .taken)) at (stops-inside (k .accepted) x (k .within))
+  inside = rw (stop-is (k .accepted) (k .taken)) at (stops-inside (k .accepted) x (k .within))
 
   pub reading-is : reading ps code x ≡ round (interpolant (shape-of code) (segment-at ps i) x)
   unfolding reading

@@ -7,19 +7,22 @@
 --   refused-outside    on an accepted curve Read refuses by row 7 only
 --   refused-before     rows that refuse before a result refuse before whatever follows
 -- Assumes nothing.
-use mathlib.Core.Path.{_≡_, refl, sym, _∙_, ap}
+use mathlib.Core.Path.{_≡_, sym, _∙_, ap}
 use mathlib.Core.Bool.{Bool, true, false}
 use mathlib.Core.List.{List, map}
+use mathlib.Core.Logic.{inl, inr}
 use Prim.Native.Nat.{ℕ}
 use lib.IntN.{ℤ}
 use lib.ListN.{length}
+use Rattle.exact.proofs.Tests.{true-or-false}
 use Rattle.model.specs.Answer.{Answer, gives, refused, row, _then_}
 use Rattle.model.specs.Points.{Point, points}
 use Rattle.model.specs.Check.{lengths-differ, curve-rows, on-lists, on-lists-of}
 use Rattle.model.specs.Read.{outside, reading, read-answer}
 use Rattle.model.specs.Inner.{Accepted, Alike}
 use Rattle.model.proofs.Lists.{points-of-fields, same-lengths-of}
-use Rattle.model.proofs.Rows.{gives-injective, refused≢gives, then-first, then-rest, row-passed, alike-of-row-1}
+use Rattle.model.proofs.Rows.{gives-injective, refused≢gives, then-first, then-rest, row-passed, row-refused}
+use Rattle.model.proofs.Rows.{alike-of-row-1}
 
 -- ---- calls on lists
 
@@ -49,13 +52,10 @@ module _ (areas values : List ℕ) (slopes : List ℤ) where
       on-lists areas values slopes f ≡ refused n i →
       on-lists areas values slopes g ≡ refused n i
   unfolding on-lists row _then_
-  on-lists-refused {A} {B} {n} {i} f g h = decide differ
-    where
-      decide : (b : Bool) →
-          (row b 1 0 then f (points areas values slopes)) ≡ refused n i →
-          (row b 1 0 then g (points areas values slopes)) ≡ refused n i
-      decide true e = cc
-      decide false e = h e
+  on-lists-refused f g h e = elim (true-or-false differ) [
+    | inl d ↦ let own = rw d at e in rw d (cc)
+    | inr d ↦ rw d (h (rw d at e))
+  ]
 
 -- the lists of some points are equally long, and their points are these
 pub on-lists-of-is : {A : Type 0} (ps : List Point) (call : List Point → Answer A) → on-lists-of ps call ≡ call ps
@@ -91,13 +91,8 @@ module _ (ps : List Point) (code x : ℕ) where
   reading-given k e = rw (k .none-applies, e)
 
   pub refused-outside : {n i : ℕ} → Accepted ps code → read-answer ps code x ≡ refused n i → (n ≡ 7) × (outside ps x ≡ true)
-  unfolding read-answer row _then_
-  refused-outside {n} {i} k e = decide (outside ps x) refl (rw (k .none-applies) at e)
-    where
-      decide : (b : Bool) → outside ps x ≡ b → (row b 7 0 then gives (reading ps code x)) ≡ refused n i →
-          (n ≡ 7) × (outside ps x ≡ true)
-      decide true o h = (cc, o)
-      decide false o h = absurd (refused≢gives (sym h))
+  unfolding read-answer _then_
+  refused-outside k e = row-refused (outside ps x) 7 0 _ (rw (k .none-applies) at e)
 
 -- rows that refuse before a result refuse before whatever follows
 pub refused-before : {A B : Type 0} {n i : ℕ} (rows : Answer (Unit {0})) (b : Bool) (m : ℕ) (x : A) (rest : Answer B) →

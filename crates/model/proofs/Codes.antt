@@ -6,13 +6,13 @@ use native.Mathlib.Omega.{arith}
 use borrow.Author.Tests.{eq-eqb, ne-eqb}
 use Rattle.model.specs.Points.{rising, convex, shape-of}
 
-pub is-rising : {code : ℕ} → code ≡ 1 → shape-of code ≡ rising
+pub rising-of-1 : {code : ℕ} → code ≡ 1 → shape-of code ≡ rising
 unfolding shape-of
-is-rising {code} e = rw (eq-eqb code 1 e)
+rising-of-1 {code} e = rw (eq-eqb code 1 e)
 
-pub is-convex : {code : ℕ} → (code ≡ 1 → ⊥) → shape-of code ≡ convex
+pub convex-of-not-1 : {code : ℕ} → (code ≡ 1 → ⊥) → shape-of code ≡ convex
 unfolding shape-of
-is-convex {code} n = rw (ne-eqb code 1 n)
+convex-of-not-1 {code} n = rw (ne-eqb code 1 n)
 
-pub code-2 : {code : ℕ} → code ≡ 2 → shape-of code ≡ convex
-code-2 e = is-convex (λ o. omega arith)
+pub convex-of-2 : {code : ℕ} → code ≡ 2 → shape-of code ≡ convex
+convex-of-2 e = convex-of-not-1 (λ o. omega arith)

@@ -10,7 +10,7 @@ use mathlib.Core.Bool.{cond, _&&_}
 use mathlib.Core.Logic.{inl, inr}
 use mir.Facts.{and-yes, or-yes}
 use lib.Dec.{T}
-use lib.IntN.{ℤ, pos, one, _-ℤ_, zero-*ℤ, *ℤ-one}
+use lib.IntN.{ℤ, pos, _-ℤ_}
 use lib.Signed.{_<ℤ_}
 use Rattle.exact.specs.Fraction.{Fraction, Proper, _over_, whole, _≈ℚ_, _≤ℚ_, _<ℚ_, leℚ, ltℚ, eqℚ}
 use Rattle.exact.proofs.Integer.{≡-of-difference}
@@ -34,10 +34,6 @@ pub data Bend (c d₀ d₁ : Fraction) : Type 0 where
   bent : d₀ <ℚ c → c <ℚ d₁ → Bend c d₀ d₁
   straight : d₀ ≈ℚ c → c ≈ℚ d₁ → Bend c d₀ d₁
 
-pub nonneg-of-≤ : {x : Fraction} → 0ℚ ≤ℚ x → NonNeg x
-unfolding whole one
-nonneg-of-≤ h = record { sign = rw (zero-*ℤ, *ℤ-one) at (h .cross) }
-
 pub rise-kind : (h left right : ℤ) {d₀ d₁ : Fraction} → T (rises h (right -ℤ left) d₀ d₁) → Rise left right d₀ d₁
 unfolding rises whole
 rise-kind h left right {d₀} {d₁} t =
@@ -47,7 +43,7 @@ rise-kind h left right {d₀} {d₁} t =
           let (v, k₁) = and-yes (ltℚ 0ℚ F && leℚ 0ℚ d₀) (leℚ 0ℚ d₁) u in
           let (f, k₀) = and-yes (ltℚ 0ℚ F) (leℚ 0ℚ d₀) v in
           climbs (Z.<-cancel (Z.nonneg-pos 1) (Q.<-of-ltℚ f .cross))
-          (nonneg-of-≤ (Q.≤-of-leℚ k₀)) (nonneg-of-≤ (Q.≤-of-leℚ k₁))
+          (Q.nonneg-of-≤ (Q.≤-of-leℚ k₀)) (Q.nonneg-of-≤ (Q.≤-of-leℚ k₁))
       | inr u ↦
           let (v, k₁) = and-yes (eqℚ F 0ℚ && eqℚ d₀ 0ℚ) (eqℚ d₁ 0ℚ) u in
           let (f, k₀) = and-yes (eqℚ F 0ℚ) (eqℚ d₀ 0ℚ) v in

@@ -47,13 +47,13 @@ segment-at-append [] after p q = refl
 segment-at-append (b ∷ before) after p q = segment-at-append before after p q
 
 -- row 7 passed
-pub low-of : (p : Point) (ps : List Point) (x : ℕ) → outside (p ∷ ps) x ≡ false → p .area ≤ x
+pub first-≤-of-row-7 : (p : Point) (ps : List Point) (x : ℕ) → outside (p ∷ ps) x ≡ false → p .area ≤ x
 unfolding outside
-low-of p ps x e = ltb-false x (p .area) (or-left _ (ltb (last-area p ps) x) e)
+first-≤-of-row-7 p ps x e = ltb-false x (p .area) (or-left _ (ltb (last-area p ps) x) e)
 
-pub high-of : (p : Point) (ps : List Point) (x : ℕ) → outside (p ∷ ps) x ≡ false → x ≤ last-area p ps
+pub ≤-last-of-row-7 : (p : Point) (ps : List Point) (x : ℕ) → outside (p ∷ ps) x ≡ false → x ≤ last-area p ps
 unfolding outside
-high-of p ps x e = ltb-false (last-area p ps) x (or-right (ltb x (p .area)) _ e)
+≤-last-of-row-7 p ps x e = ltb-false (last-area p ps) x (or-right (ltb x (p .area)) _ e)
 
 taken-later : {a : ℕ} {areas : List ℕ} {k x : ℕ} → Taken (a ∷ areas) (suc k) x → Taken areas k x
 taken-later t =
@@ -98,4 +98,4 @@ module _ (G : Segment → Type 0) (ordered : (s : Segment) → G s → s .left .
 
   pub stop-in-inside : {ps : List Point} → Chained G ps → (x : ℕ) → outside ps x ≡ false → Inside G (stop-in ps x) x
   stop-in-inside (chained {p = p} {q = q} {ps = ps} c) x e =
-      stop-inside G ordered x c (low-of p (q ∷ ps) x e) (high-of p (q ∷ ps) x e)
+      stop-inside G ordered x c (first-≤-of-row-7 p (q ∷ ps) x e) (≤-last-of-row-7 p (q ∷ ps) x e)

@@ -30,20 +30,20 @@ use Rattle.model.specs.Read.{outside, reading}
 use Rattle.model.specs.Laws.{Curve, Area, exact, SegmentsMeet, ConvexChords}
 use Rattle.model.specs.Inner.{Accepted, origin, point-at, segment-at, areas-of, Good, Inside, Taken}
 use Rattle.model.proofs.ClosedForm.{Closed}
-use Rattle.model.proofs.Codes.{is-rising, code-2}
+use Rattle.model.proofs.Codes.{rising-of-1, convex-of-2}
 use Rattle.exact.proofs.Tests.{compare}
 use Rattle.model.proofs.Walk.{good-ordered}
 use Rattle.model.proofs.Segments.{interpolant-proper, interpolant-left, interpolant-right}
 use Rattle.model.proofs.Range.{Ranged, value-range, ReadingRange, reading-range}
 use Rattle.model.proofs.Relations.{values-rise, curve-slope, curve-slope-proper, Supports, tangents-support}
 use Rattle.model.proofs.Relations.{Line, _under_, chord-proper, chord-≤-slope, slope-≤-chord}
-use Rattle.model.proofs.Indexed.{Chained, chained, chained-at, stop-in, low-of, high-of}
+use Rattle.model.proofs.Indexed.{Chained, chained, chained-at, stop-in, first-≤-of-row-7, ≤-last-of-row-7}
 use Rattle.model.proofs.Indexed.{point-at-append, segment-at-append}
 use Rattle.model.proofs.Accepted.{count-of, chained-of, stops-inside, value-is, value-at-index}
 
 module _ (c : Curve) where
-  pub accepted-of : Accepted (c .points) (c .code)
-  accepted-of = record { none-applies = c .accepted }
+  pub curve-accepted : Accepted (c .points) (c .code)
+  curve-accepted = record { none-applies = c .accepted }
 
   abbrev pub factor : ℕ → ℤ
   factor x = reading (c .points) (c .code) x
@@ -52,19 +52,19 @@ module _ (c : Curve) where
   shape = shape-of (c .code)
 
   -- the segment that an area takes
-  abbrev segment-of : ℕ → Segment
-  segment-of x = stop-in (c .points) x
+  abbrev segment-taken : ℕ → Segment
+  segment-taken x = stop-in (c .points) x
 
-  segment-inside : (x : ℕ) → Area c x → Inside (Good shape) (segment-of x) x
-  segment-inside x k = stops-inside accepted-of x (k .within)
+  segment-inside : (x : ℕ) → Area c x → Inside (Good shape) (segment-taken x) x
+  segment-inside x k = stops-inside curve-accepted x (k .within)
 
   good-at : (i : ℕ) → suc i < length (c .points) → Good shape (segment-at (c .points) i)
-  good-at = chained-at (Good shape) good-ordered (chained-of accepted-of)
+  good-at = chained-at (Good shape) good-ordered (chained-of curve-accepted)
 
 -- ---- values and factors
 
 pub values-are-proper : (c : Curve) (x : ℕ) → Area c x → Proper (exact c x)
-values-are-proper c x k = rw (value-is (accepted-of c) x) (interpolant-proper (segment-inside c x k))
+values-are-proper c x k = rw (value-is (curve-accepted c) x) (interpolant-proper (segment-inside c x k))
 
 pub factors-are-near : (c : Curve) (x : ℕ) → Area c x → HalfUp (exact c x) (factor c x)
 unfolding reading
@@ -73,7 +73,7 @@ factors-are-near c x k = round-is-half-up (exact c x) (values-are-proper c x k)
 pub factors-are-ranged : (c : Curve) (x : ℕ) → Area c x → ReadingRange (factor c x)
 unfolding reading
 factors-are-ranged c x k =
-    let range : Ranged (exact c x) = rw (value-is (accepted-of c) x) (value-range (segment-inside c x k)) in
+    let range : Ranged (exact c x) = rw (value-is (curve-accepted c) x) (value-range (segment-inside c x k)) in
     reading-range round-rounding (exact c x) (values-are-proper c x k) range
 
 -- ---- rated points
@@ -89,11 +89,11 @@ segments-meet c before after p q e =
 
 module _ (c : Curve) where
   -- the area at an index, in the list of areas
-  area-is : (i : ℕ) → getD (areas-of (c .points)) i 0 ≡ point-at (c .points) i .area
-  area-is i = List·getD-map (λ p. p .area) (c .points) i origin
+  areas-at : (i : ℕ) → getD (areas-of (c .points)) i 0 ≡ point-at (c .points) i .area
+  areas-at i = List·getD-map (λ p. p .area) (c .points) i origin
 
-  size : length (areas-of (c .points)) ≡ length (c .points)
-  size = length-map (c .points) (λ p. p .area)
+  areas-length : length (areas-of (c .points)) ≡ length (c .points)
+  areas-length = length-map (c .points) (λ p. p .area)
 
   -- the value at the area of the point at an index is the point's
   abbrev Rated : ℕ → Type 0
@@ -104,10 +104,10 @@ module _ (c : Curve) where
   rated-left i n =
       let g = good-at c i n in
       let taken : Taken (areas-of (c .points)) i (point-at (c .points) i .area) = record {
-        reached = record { inner = rw size n; low = le-of-eq (area-is i) };
-        high = inl (rw (area-is (suc i)) (g .ends .ordered));
+        reached = record { inner = rw areas-length n; low = le-of-eq (areas-at i) };
+        high = inl (rw (areas-at (suc i)) (g .ends .ordered));
       } in
-      rw (value-at-index (accepted-of c) taken) (interpolant-left g)
+      rw (value-at-index (curve-accepted c) taken) (interpolant-left g)
 
   -- the last is the right end of the last segment
   rated-right : (k : ℕ) → suc (suc k) ≡ length (c .points) → Rated (suc k)
@@ -115,13 +115,13 @@ module _ (c : Curve) where
       let n : suc k < length (c .points) = omega arith in
       let g = good-at c k n in
       let taken : Taken (areas-of (c .points)) k (point-at (c .points) (suc k) .area) = record {
-        reached = record { inner = rw size n; low = rw (area-is k) (le-of-lt (g .ends .ordered)) };
-        high = inr (e ∙ sym size);
+        reached = record { inner = rw areas-length n; low = rw (areas-at k) (le-of-lt (g .ends .ordered)) };
+        high = inr (e ∙ sym areas-length);
       } in
-      rw (value-at-index (accepted-of c) taken) (interpolant-right g)
+      rw (value-at-index (curve-accepted c) taken) (interpolant-right g)
 
   rated-last : (i : ℕ) → suc i ≡ length (c .points) → Rated i
-  rated-last zero e = absurd (let n = count-of (accepted-of c) .0 in omega arith)
+  rated-last zero e = absurd (let n = count-of (curve-accepted c) .0 in omega arith)
   rated-last (suc k) e = rated-right k e
 
   rated-value : (i : ℕ) → i < length (c .points) → Rated i
@@ -138,26 +138,26 @@ rated-points-read c before after p e =
     let n = ap length e ∙ length-append before (p ∷ after) in
     let is = ap (λ (ps : List Point). point-at ps (length before)) e ∙ point-at-append before after p in
     let v = rw is at (rated-value c (length before) (omega arith)) in
-    rounding-at-whole round-rounding (pos (p .value)) _ (v .proper) (v .same)
+    rounding-at-whole round-rounding (pos (p .value)) (v .proper) (v .same)
 
 -- ---- rising
 
 -- the value at x, on a curve of a known shape
-value-as : (c : Curve) {shape : Shape} → shape-of (c .code) ≡ shape → (x : ℕ) → exact c x ≡ interpolant shape (segment-of c x) x
-value-as c e x = value-is (accepted-of c) x ∙ ap (λ (sh : Shape). interpolant sh (segment-of c x) x) e
+value-as : (c : Curve) {shape : Shape} → shape-of (c .code) ≡ shape → (x : ℕ) → exact c x ≡ interpolant shape (segment-taken c x) x
+value-as c e x = value-is (curve-accepted c) x ∙ ap (λ (sh : Shape). interpolant sh (segment-taken c x) x) e
 
 chained-as : (c : Curve) {shape : Shape} → shape-of (c .code) ≡ shape → Chained (Good shape) (c .points)
-chained-as c e = subst (λ (sh : Shape). Chained (Good sh) (c .points)) e (chained-of (accepted-of c))
+chained-as c e = subst (λ (sh : Shape). Chained (Good sh) (c .points)) e (chained-of (curve-accepted c))
 
 rises-across : {ps : List Point} → Chained (Good rising) ps → (x y : ℕ) → outside ps x ≡ false → outside ps y ≡ false → x ≤ y →
     interpolant rising (stop-in ps x) x ≤ℚ interpolant rising (stop-in ps y) y
 rises-across (chained {p = p} {q = q} {ps = ps} c) x y kx ky h =
-    values-rise c x y (low-of p (q ∷ ps) x kx) h (high-of p (q ∷ ps) y ky)
+    values-rise c x y (first-≤-of-row-7 p (q ∷ ps) x kx) h (≤-last-of-row-7 p (q ∷ ps) y ky)
 
 pub rising-values : (c : Curve) → c .code ≡ 1 → (x y : ℕ) → Area c x → Area c y → x ≤ y → exact c x ≤ℚ exact c y
 rising-values c e x y kx ky h =
-    subst₂ (λ (v w : Fraction). v ≤ℚ w) (sym (value-as c (is-rising e) x)) (sym (value-as c (is-rising e) y))
-    (rises-across (chained-as c (is-rising e)) x y (kx .within) (ky .within) h)
+    subst₂ (λ (v w : Fraction). v ≤ℚ w) (sym (value-as c (rising-of-1 e) x)) (sym (value-as c (rising-of-1 e) y))
+    (rises-across (chained-as c (rising-of-1 e)) x y (kx .within) (ky .within) h)
 
 pub rising-factors : (c : Curve) → c .code ≡ 1 → (x y : ℕ) → Area c x → Area c y → x ≤ y → factor c x ≤ℤ factor c y
 unfolding reading
@@ -170,31 +170,31 @@ rising-factors c e x y kx ky h =
 bends-across : {ps : List Point} → Chained (Good convex) ps → (x y : ℕ) → outside ps x ≡ false → outside ps y ≡ false → x ≤ y →
     Supports (stop-in ps x) x (stop-in ps y) y
 bends-across (chained {p = p} {q = q} {ps = ps} c) x y kx ky h =
-    tangents-support c x y (low-of p (q ∷ ps) x kx) h (high-of p (q ∷ ps) y ky)
+    tangents-support c x y (first-≤-of-row-7 p (q ∷ ps) x kx) h (≤-last-of-row-7 p (q ∷ ps) y ky)
 
 module _ (c : Curve) (e : c .code ≡ 2) where
   -- the slope at x, and the relation between two areas
   abbrev σ : ℕ → Fraction
-  σ x = curve-slope (segment-of c x) x
+  σ x = curve-slope (segment-taken c x) x
 
-  related : (x y : ℕ) → Area c x → Area c y → x ≤ y → Supports (segment-of c x) x (segment-of c y) y
-  related x y kx ky h = bends-across (chained-as c (code-2 e)) x y (kx .within) (ky .within) h
+  supports-across : (x y : ℕ) → Area c x → Area c y → x ≤ y → Supports (segment-taken c x) x (segment-taken c y) y
+  supports-across x y kx ky h = bends-across (chained-as c (convex-of-2 e)) x y (kx .within) (ky .within) h
 
   σ-proper : (x : ℕ) → Area c x → Proper (σ x)
   σ-proper x k =
-      curve-slope-proper (subst (λ (sh : Shape). Inside (Good sh) (segment-of c x) x) (code-2 e) (segment-inside c x k))
+      curve-slope-proper (subst (λ (sh : Shape). Inside (Good sh) (segment-taken c x) x) (convex-of-2 e) (segment-inside c x k))
 
   abbrev tangent-at : (x : ℕ) → Area c x → Line
   tangent-at x k =
       record { x = pos x; v = exact c x; σ = σ x; v-proper = values-are-proper c x k; σ-proper = σ-proper x k }
 
   -- the tangent at x is nowhere above the curve
-  supports : (x z : ℕ) (kx : Area c x) (kz : Area c z) → tangent-at x kx under tangent-at z kz
-  supports x z kx kz =
-      rw (value-as c (code-2 e) x, value-as c (code-2 e) z)
+  tangent-under : (x z : ℕ) (kx : Area c x) (kz : Area c z) → tangent-at x kx under tangent-at z kz
+  tangent-under x z kx kz =
+      rw (value-as c (convex-of-2 e) x, value-as c (convex-of-2 e) z)
       (elim (compare x z) [
-        | inl (h, t) ↦ related x z kx kz h .rightwards
-        | inr (h, t) ↦ related z x kz kx (le-of-lt h) .leftwards
+        | inl (h, t) ↦ supports-across x z kx kz h .rightwards
+        | inr (h, t) ↦ supports-across z x kz kx (le-of-lt h) .leftwards
       ])
 
 -- the chord to the left, the slopes at its right end and at the other's left end, the chord to the right
@@ -205,16 +205,16 @@ convex-chords c e x₁ x₂ x₃ x₄ k₁ k₂ k₃ k₄ h m h' =
     let q₃ = σ-proper c e x₃ k₃ in
     let p = chord-proper (l x₁ k₁) (l x₂ k₂) (Z.pos-<-of-< h) in
     let p' = chord-proper (l x₃ k₃) (l x₄ k₄) (Z.pos-<-of-< h') in
-    let to-left = chord-≤-slope (l x₁ k₁) (l x₂ k₂) (Z.pos-<-of-< h) (supports c e x₂ x₁ k₂ k₁) in
-    let to-right = slope-≤-chord (l x₃ k₃) (l x₄ k₄) (Z.pos-<-of-< h') (supports c e x₃ x₄ k₃ k₄) in
-    (p, p', Q.≤-trans p q₂ p' to-left (Q.≤-trans q₂ q₃ p' (related c e x₂ x₃ k₂ k₃ m .slopes) to-right))
+    let to-left = chord-≤-slope (l x₁ k₁) (l x₂ k₂) (Z.pos-<-of-< h) (tangent-under c e x₂ x₁ k₂ k₁) in
+    let to-right = slope-≤-chord (l x₃ k₃) (l x₄ k₄) (Z.pos-<-of-< h') (tangent-under c e x₃ x₄ k₃ k₄) in
+    (p, p', Q.≤-trans p q₂ p' to-left (Q.≤-trans q₂ q₃ p' (supports-across c e x₂ x₃ k₂ k₃ m .slopes) to-right))
 
 -- of three areas equally far apart, twice the middle value is at most the sum of the outer ones
 module _ (v₀ v₁ v₂ s : Fraction) (x k : ℤ) (p₀ : Proper v₀) (p₁ : Proper v₁) (p₂ : Proper v₂) (q : Proper s) where
-  middle : v₁ +ℚ s *ℚ whole (x -ℤ (x +ℤ k)) ≤ℚ v₀ →
+  twice-middle-≤ : v₁ +ℚ s *ℚ whole (x -ℤ (x +ℤ k)) ≤ℚ v₀ →
       v₁ +ℚ s *ℚ whole ((x +ℤ pos 2 *ℤ k) -ℤ (x +ℤ k)) ≤ℚ v₂ →
       whole (pos 2) *ℚ v₁ ≤ℚ v₀ +ℚ v₂
-  middle h m =
+  twice-middle-≤ h m =
       Q.≤-by (search propers) (search propers)
       ((v₀ -ℚ (v₁ +ℚ s *ℚ whole (x -ℤ (x +ℤ k)))) +ℚ (v₂ -ℚ (v₁ +ℚ s *ℚ whole ((x +ℤ pos 2 *ℤ k) -ℤ (x +ℤ k)))))
       (search propers depth 9)
@@ -230,12 +230,12 @@ module _ (v₀ v₁ v₂ : Fraction) (r₀ r₁ r₂ : ℤ) (p₀ : Proper v₀)
       (whole r₀ -ℚ (v₀ -ℚ half))
       +ℚ ((whole r₂ -ℚ (v₂ -ℚ half)) +ℚ (whole (pos 2) *ℚ (v₁ +ℚ half -ℚ whole r₁) +ℚ (v₀ +ℚ v₂ -ℚ whole (pos 2) *ℚ v₁)))
 
-  rounded-middle : v₀ -ℚ half <ℚ whole r₀ →
+  rounded-steps : v₀ -ℚ half <ℚ whole r₀ →
       whole r₁ ≤ℚ v₁ +ℚ half →
       v₂ -ℚ half <ℚ whole r₂ →
       whole (pos 2) *ℚ v₁ ≤ℚ v₀ +ℚ v₂ →
       (r₁ -ℤ r₀ -ℤ pos 1) ≤ℤ (r₂ -ℤ r₁)
-  rounded-middle h₀ h₁ h₂ m =
+  rounded-steps h₀ h₁ h₂ m =
       let q : Proper half = search positivity in
       Z.≤-of-<-next (<-of-whole-< _ _ (Q.<-by (search propers) (search propers) margin (search positivity depth 9)
       (field
@@ -250,7 +250,7 @@ pub convex-steps : (c : Curve) → c .code ≡ 2 → (x k : ℕ) → Area c x �
     (factor c (x + k) -ℤ factor c x -ℤ pos 1) ≤ℤ (factor c (x + 2 * k) -ℤ factor c (x + k))
 convex-steps c e x k k₀ k₁ k₂ =
     let p = values-are-proper c in
-    rounded-middle _ _ _ _ _ _ (p x k₀) (p (x + k) k₁) (p (x + 2 * k) k₂)
+    rounded-steps _ _ _ _ _ _ (p x k₀) (p (x + k) k₁) (p (x + 2 * k) k₂)
     (factors-are-near c x k₀ .above) (factors-are-near c (x + k) k₁ .below) (factors-are-near c (x + 2 * k) k₂ .above)
-    (middle _ _ _ _ (pos x) (pos k) (p x k₀) (p (x + k) k₁) (p (x + 2 * k) k₂) (σ-proper c e (x + k) k₁)
-    (supports c e (x + k) x k₁ k₀) (supports c e (x + k) (x + 2 * k) k₁ k₂))
+    (twice-middle-≤ _ _ _ _ (pos x) (pos k) (p x k₀) (p (x + k) k₁) (p (x + 2 * k) k₂) (σ-proper c e (x + k) k₁)
+    (tangent-under c e (x + k) x k₁ k₀) (tangent-under c e (x + k) (x + 2 * k) k₁ k₂))

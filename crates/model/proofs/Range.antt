@@ -23,7 +23,6 @@ use Rattle.model.specs.Shape.{0ℚ}
 use Rattle.model.specs.Inner.{Neighbours, Good, Inside}
 use Rattle.model.proofs.ClosedForm.{In}
 use Rattle.model.proofs.Inside.{Rises, Bends, end-left, end-right}
-use Rattle.model.proofs.Curves.{nonneg-of-≤}
 use Rattle.model.proofs.Segments.{gap, segment-rises, segment-bends, distance-in}
 
 pub record Ranged (v : Fraction) : Type 0 where
@@ -80,7 +79,7 @@ module _ {h left right : ℤ} {d₀ d₁ : Fraction} {v σ : ℤ → Fraction}
       let q = b .proper i in
       elim (Q.≤-or-< 0ℚ (σ t)) [
         | inl s ↦
-            let up = nonneg-of-≤ s in
+            let up = Q.nonneg-of-≤ s in
             ≤-of-end p₁ p (b .joins .at-right) (≤-of-sum p (search propers) p₁ (b .below i j₁) (search positivity)) l₁
         | inr s ↦
             let up = Q.nonneg-≈ (search propers) (search propers) (backwards (σ t) t) (search positivity) in

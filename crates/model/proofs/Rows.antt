@@ -1,12 +1,13 @@
 -- What rows that refuse nothing say.
 --   then-first, then-rest     the parts of `first then rest` that gives a result
 --   row-passed                a row before a result does not apply
+--   row-refused               where it refuses, it does so by its own number
 --   alike-of-row-1            the three lists are equally long
 --   count-of-row-1            2 to 64 points
 --   Passed                    rows 3 to 5 at one point, and the rows of the points after it
 --   neighbours                two points that pass rows 3 to 5
 -- Assumes nothing.
-use mathlib.Core.Path.{_≡_, refl}
+use mathlib.Core.Path.{_≡_, refl, sym}
 use mathlib.Core.Bool.{Bool, true, false, not, _||_}
 use mathlib.Core.List.{List, _∷_}
 use mathlib.Core.Option.{Option, none, some}
@@ -46,6 +47,12 @@ pub row-passed : {A : Type 0} {x : A} (b : Bool) (n i : ℕ) (rest : Answer A) �
 unfolding row
 row-passed true n i rest e = absurd (refused≢gives (then-first (refused n i) rest e))
 row-passed false n i rest e = refl
+
+pub row-refused : {A : Type 0} {m j : ℕ} (b : Bool) (n i : ℕ) (x : A) → (row b n i then gives x) ≡ refused m j →
+    (m ≡ n) × (b ≡ true)
+unfolding row _then_
+row-refused true n i x e = (cc, refl)
+row-refused false n i x e = absurd (refused≢gives (sym e))
 
 -- ---- row 1
 

@@ -79,9 +79,9 @@ module _ (s : Segment) where
   pub gap-positive : s .left .area < s .right .area → pos 0 <ℤ gap
   gap-positive h = Z.positive-difference (Z.pos-<-of-< h)
 
-  pub normal : s .left .area < s .right .area → Normal gap v₀ v₁ d₀ d₁ S e₀ g e₁
+  pub segment-normal : s .left .area < s .right .area → Normal gap v₀ v₁ d₀ d₁ S e₀ g e₁
   unfolding gradient
-  normal h =
+  segment-normal h =
       let h-positive = gap-positive h in
       record {
         h-positive = h-positive;
@@ -95,11 +95,11 @@ module _ (s : Segment) where
 
   pub segment-rises : Good rising s → Rises gap v₀ v₁ (curve-at rising)
   unfolding curve has-shape fits
-  segment-rises k = rising-rises (normal (k .ends .ordered)) (rise-kind gap v₀ v₁ (k .shaped))
+  segment-rises k = rising-rises (segment-normal (k .ends .ordered)) (rise-kind gap v₀ v₁ (k .shaped))
 
   pub segment-bends : Good convex s → Bends gap v₀ v₁ d₀ d₁ (curve-at convex) slope-at
   unfolding curve has-shape fits
-  segment-bends k = convex-bends (normal (k .ends .ordered)) (bend-kind gap rise (k .shaped))
+  segment-bends k = convex-bends (segment-normal (k .ends .ordered)) (bend-kind gap rise (k .shaped))
 
   segment-joins : (shape : Shape) → Good shape s → Joins gap v₀ v₁ (curve-at shape)
   segment-joins rising k = segment-rises k .joins

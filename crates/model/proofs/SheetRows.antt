@@ -2,7 +2,7 @@
 --   rows-first     it refuses at the first entry outside, or not at all
 --   rows-inside    where it refuses nothing, each entry is inside; rows-pass, and back
 -- Assumes nothing.
-use mathlib.Core.Path.{_≡_, refl, subst}
+use mathlib.Core.Path.{_≡_, refl}
 use mathlib.Core.Bool.{true, false}
 use mathlib.Core.List.{List}
 use mathlib.Core.Logic.{inl, inr}
@@ -18,9 +18,6 @@ use Rattle.model.specs.Sheet.{entry-area, entry-rows}
 use Rattle.model.specs.Inner.{first-answer}
 use Rattle.model.proofs.Rows.{row-passed, then-rest}
 
-≡-of-≤-< : (i r : ℕ) → i ≤ r → r < suc i → i ≡ r
-≡-of-≤-< i r h k = omega arith
-
 module _ (ps : List Point) (start step : ℕ) where
   module _ (r n : ℕ)
       (before : (j : ℕ) → j < r → outside ps (entry-area start step j) ≡ false)
@@ -31,7 +28,7 @@ module _ (ps : List Point) (start step : ℕ) where
     rows-from (suc m) i e h =
         elim (compare (suc i) r) [
           | inl (k, t) ↦ rw (before i k) (rows-from m (suc i) (omega arith) k)
-          | inr (k, t) ↦ rw (≡-of-≤-< i r h k, first (omega arith), lt-ltb r n (omega arith))
+          | inr (k, t) ↦ let same : i ≡ r = omega arith in rw (same, first (omega arith), lt-ltb r n (omega arith))
         ]
 
     pub rows-first : first-answer r n ≡ entry-rows ps start step 0 n
@@ -46,8 +43,7 @@ module _ (ps : List Point) (start step : ℕ) where
         | inl (k, t) ↦
             rows-inside (suc j) n i (then-rest (row (outside ps (entry-area start step j)) 7 j) _ e) k (omega arith)
         | inr (k, t) ↦
-            subst (λ (m : ℕ). outside ps (entry-area start step m) ≡ false) (≡-of-≤-< j i low k)
-            (row-passed (outside ps (entry-area start step j)) 7 j _ e)
+            let same : i ≡ j = omega arith in rw same (row-passed (outside ps (entry-area start step j)) 7 j _ e)
       ]
 
   pub rows-pass : (j n : ℕ) → ((i : ℕ) → i < j + n → outside ps (entry-area start step i) ≡ false) →

@@ -24,7 +24,7 @@ use Rattle.model.specs.Sheet.{bad-sheet, entry-area, entry-rows, sheet-answer, 
 use Rattle.model.proofs.Rows.{gives-injective, refused≢gives, then-first, then-rest, row-passed}
 use Rattle.model.proofs.Answers.{on-lists-of-is, on-lists-gives, given, reading-given}
 use Rattle.model.proofs.Lists.{fields-of}
-use Rattle.model.proofs.Laws.{accepted-of, factor, values-are-proper, factors-are-near, segments-meet, rated-points-read}
+use Rattle.model.proofs.Laws.{curve-accepted, factor, values-are-proper, factors-are-near, segments-meet, rated-points-read}
 use Rattle.model.proofs.Laws.{rising-factors, convex-chords, convex-steps}
 use Rattle.model.proofs.Filling.{tabulate-at}
 use Rattle.model.proofs.SheetRows.{rows-inside, rows-pass}
@@ -132,7 +132,7 @@ is {c} (by-desk bytes x scratch f k e h) =
 
 module _ (c : Curve) where
   reads : (x : ℕ) → Area c x → read-answer (c .points) (c .code) x ≡ gives (factor c x)
-  reads x k = reading-given (c .points) (c .code) x (accepted-of c) (k .within)
+  reads x k = reading-given (c .points) (c .code) x (curve-accepted c) (k .within)
 
   pair-reads : (form plan : ℕ) → Area c form → Area c plan →
       pair-answer (c .points) (c .code) form plan ≡ gives (factors (factor c form) (factor c plan))

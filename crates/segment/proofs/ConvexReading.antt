@@ -28,9 +28,9 @@ use Rattle.model.specs.Inner.{Good, Inside}
 use Rattle.model.proofs.ClosedForm.{Closed, congruence, Bending, W, W-positive, convex-form}
 use Rattle.model.proofs.ClosedForm.{bending-of-normal, bent-value, straight-value}
 use Rattle.model.proofs.Curves.{bent, straight, bend-kind}
-use Rattle.model.proofs.Segments.{gap, rise, distance, v₀, v₁, d₀, d₁, S, g, e₀, e₁, a, b, normal, gap-positive, distance-in}
+use Rattle.model.proofs.Segments.{gap, rise, distance, v₀, v₁, d₀, d₁, S, g, e₀, e₁, a, b, segment-normal, gap-positive, distance-in}
 use Rattle.segment.specs.Inner.{raised, ConvexInput}
-use Rattle.segment.proofs.Figures.{natural-is, slope-size, gap-is, a-size, b-size}
+use Rattle.segment.proofs.Figures.{slope-size, gap-is, a-size, b-size}
 use Rattle.segment.proofs.Figures.{t, u, h, from-left, from-right, h-is, distances}
 use Rattle.segment.proofs.Rounded.{round-lowered, same-hundreds}
 
@@ -84,8 +84,8 @@ bent-half l d t h W w = field (l ∷ d ∷ t ∷ w ∷ h ∷ W ∷ []) (search r
 -- ---- the reading
 
 module _ {s : Segment} {x : ℕ} (i : Inside (Good convex) s x) where
-  slope-is : s .left .slope +ℤ pos slope-most ≡ pos (raised-slope s)
-  slope-is = natural-is (Z.≤-+ (i .good .ends .left .slope-low) (≤ℤ-refl (pos slope-most)))
+  raised-slope-is : s .left .slope +ℤ pos slope-most ≡ pos (raised-slope s)
+  raised-slope-is = Z.natural-of-nonneg (Z.≤-+ (i .good .ends .left .slope-low) (≤ℤ-refl (pos slope-most)))
 
   -- the left tangent, as in `raised`
   abbrev raised-tangent : ℕ
@@ -98,7 +98,7 @@ module _ {s : Segment} {x : ℕ} (i : Inside (Good convex) s x) where
   convex-facts above-is below-is reads =
       let n = i .good .ends in
       record {
-        slope-is = slope-is;
+        slope-is = raised-slope-is;
         above-is = above-is;
         below-is = below-is;
         input = record {
@@ -118,7 +118,7 @@ module _ {s : Segment} {x : ℕ} (i : Inside (Good convex) s x) where
     straight-closed : Closed (interpolant convex s x)
         (whole (v₀ s) +ℚ (rise s over gap s) *ℚ whole (distance s x))
     unfolding I.interpolant I.curve
-    straight-closed = straight-value (normal s (i .good .ends .ordered)) (distance s x) low
+    straight-closed = straight-value (segment-normal s (i .good .ends .ordered)) (distance s x) low
 
     along-slope : Closed (interpolant convex s x)
         (whole (v₀ s) +ℚ (s .left .slope over pos 100) *ℚ whole (pos (t s x)))
@@ -135,7 +135,7 @@ module _ {s : Segment} {x : ℕ} (i : Inside (Good convex) s x) where
     straight-reads =
         rw (ap natAbs (below-zero s low)) (simp (zero-mul, zero-div)
         (round-lowered raised-tangent (slope-most * t s x) 0 {w = 1} along-slope (search positivity) (lit< tt) (lit< tt)
-        (rw slope-is at (straight-half (v₀ s) (s .left .slope) (pos (t s x))))))
+        (rw raised-slope-is at (straight-half (v₀ s) (s .left .slope) (pos (t s x))))))
 
     straight-facts : Convex s x
     straight-facts = convex-facts (rw (above-zero s high)) (rw (below-zero s low)) straight-reads
@@ -144,7 +144,7 @@ module _ {s : Segment} {x : ℕ} (i : Inside (Good convex) s x) where
 
   module _ (low : d₀ s <ℚ rise s over gap s) (high : rise s over gap s <ℚ d₁ s) where
     bending : Bending (gap s) (v₀ s) (v₁ s) (d₀ s) (d₁ s) (S s) (a s) (g s) (b s)
-    bending = bending-of-normal (normal s (i .good .ends .ordered)) low high
+    bending = bending-of-normal (segment-normal s (i .good .ends .ordered)) low high
 
     bent-closed : Closed (interpolant convex s x)
         (convex-form (gap s) (v₀ s) (distance s x) (S s) (a s) (g s) (b s))
@@ -152,10 +152,10 @@ module _ {s : Segment} {x : ℕ} (i : Inside (Good convex) s x) where
     bent-closed = bent-value bending (distance-in i)
 
     above-is : a s ≡ pos (above s)
-    above-is = natural-is (Z.≤-of-< (bending .a-positive))
+    above-is = Z.natural-of-nonneg (Z.≤-of-< (bending .a-positive))
 
     below-is : b s ≡ pos (below s)
-    below-is = natural-is (Z.≤-of-< (bending .b-positive))
+    below-is = Z.natural-of-nonneg (Z.≤-of-< (bending .b-positive))
 
     abbrev w : ℕ
     w = below s * t s x
@@ -187,7 +187,7 @@ module _ {s : Segment} {x : ℕ} (i : Inside (Good convex) s x) where
         let W-pos : pos 0 <ℤ pos divisor = Z.pos-<-of-< divisor-positive in
         round-lowered raised-tangent (slope-most * t s x) (w * w) {w = divisor * h s} over-tangent
         (search (propers, signs) depth 9) (mul-pos divisor-positive k) (lit< tt)
-        (rw slope-is at (bent-half (v₀ s) (s .left .slope) (pos (t s x)) (pos (h s)) (pos divisor) (pos w)))
+        (rw raised-slope-is at (bent-half (v₀ s) (s .left .slope) (pos (t s x)) (pos (h s)) (pos divisor) (pos w)))
 
     bent-facts : Convex s x
     bent-facts = convex-facts above-is below-is bent-reads

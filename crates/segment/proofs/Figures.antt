@@ -10,13 +10,13 @@ use mathlib.Core.List.{[], _∷_}
 use Prim.Native.Nat.{ℕ, _+_, _-_, _*_, _≤_}
 use native.Mathlib.Nat.{mul-le-mul}
 use native.Mathlib.Omega.{arith}
-use lib.IntN.{ℤ, pos, natAbs, _+ℤ_, _-ℤ_, _*ℤ_}
-use lib.Signed.{_≤ℤ_, yes-nonNeg, pos-natAbs}
+use lib.IntN.{ℤ, pos, natAbs, _-ℤ_, _*ℤ_}
 use mir.Syntax.{w32}
 use mir.Val.{SFits, toZ, ofZ}
 use mir.Facts.{toZ-ofZ, toZ-pos}
 use Rattle.exact.specs.Rounding.{round}
 use Rattle.exact.proofs.Ring.{ring, terms}
+use Rattle.exact.proofs.Order as Z
 use Rattle.exact.proofs.Magnitude.{size-between, size--, size-*, size-difference, sfits-of-size}
 use Rattle.model.specs.Points.{gap-most, value-most, slope-most, Point, Segment, Shape}
 use Rattle.model.specs.Inner.{Limits, Neighbours, Good, Inside}
@@ -26,19 +26,6 @@ use Rattle.exact.proofs.Rounding.{round-rounding}
 use Rattle.model.proofs.Range.{value-range, reading-range}
 use Rattle.segment.specs.Inner.{Distances, over-most, SlopesOver}
 use Rattle.segment.specs.declared.Slopes.{Slopes}
-
--- a difference that is not negative
-pub difference-pos : {m n : ℕ} → n ≤ m → pos m -ℤ pos n ≡ pos (m - n)
-difference-pos {m} {n} k = rw (sum k) at (cancel n (m - n))
-  where
-    sum : n ≤ m → n + (m - n) ≡ m
-    sum k = omega arith
-
-    cancel : (n d : ℕ) → pos (n + d) -ℤ pos n ≡ pos d
-    cancel n d = ring (pos n ∷ pos d ∷ []) {a = pos n +ℤ pos d -ℤ pos n} (search terms depth 20 fits 9999) tt
-
-pub natural-is : {z : ℤ} → pos 0 ≤ℤ z → z ≡ pos (natAbs z)
-natural-is {z} k = sym (pos-natAbs z (yes-nonNeg k))
 
 -- ---- a point
 
@@ -65,7 +52,7 @@ over-fits z k = sfits-of-size w32 z (omega arith)
 
 module _ {s : Segment} (n : Neighbours s) where
   pub gap-is : gap s ≡ pos (h s)
-  gap-is = difference-pos (let k = n .ordered in omega arith)
+  gap-is = Z.difference-of-≤ (let k = n .ordered in omega arith)
 
   pub gap-read : toZ w32 (h s) ≡ gap s
   gap-read = toZ-pos w32 (let k = n .near in omega arith) ∙ sym gap-is
@@ -128,10 +115,10 @@ u s x = s .right .area - x
 
 module _ {G : Segment → Type 0} {s : Segment} {x : ℕ} (i : Inside G s x) where
   pub from-left : distance s x ≡ pos (t s x)
-  from-left = difference-pos (i .low)
+  from-left = Z.difference-of-≤ (i .low)
 
   pub from-right : gap s -ℤ distance s x ≡ pos (u s x)
-  from-right = ends-difference ∙ difference-pos (i .high)
+  from-right = ends-difference ∙ Z.difference-of-≤ (i .high)
     where
       ends-difference : gap s -ℤ distance s x ≡ pos (s .right .area) -ℤ pos x
       ends-difference = ring (pos (s .right .area) ∷ pos (s .left .area) ∷ pos x ∷ []) (search terms depth 20 fits 9999) tt

@@ -25,10 +25,9 @@ use Rattle.model.specs.Shape.{fits, has-shape}
 use Rattle.model.specs.Inner.{Good, Inside}
 use Rattle.model.proofs.ClosedForm.{Closed, Climbing, A, B, B-positive, rising-form, climbing-of-normal, flat-value, rising-value}
 use Rattle.model.proofs.Curves.{climbs, flat, rise-kind}
-use Rattle.model.proofs.Segments.{gap, rise, distance, v₀, v₁, d₀, d₁, S, e₀, e₁, g, normal, distance-in}
+use Rattle.model.proofs.Segments.{gap, rise, distance, v₀, v₁, d₀, d₁, S, e₀, e₁, g, segment-normal, distance-in}
 use Rattle.segment.specs.Inner.{part, whole-part, RisingInput, rising-reading}
-use Rattle.segment.proofs.Figures.{difference-pos, natural-is, slope-size, gap-is}
-use Rattle.segment.proofs.Figures.{t, u, h-is, from-left, from-right, distances}
+use Rattle.segment.proofs.Figures.{slope-size, gap-is, t, u, h-is, from-left, from-right, distances}
 use Rattle.segment.proofs.Rounded.{round-twice}
 
 module _ (s : Segment) where
@@ -42,7 +41,7 @@ module _ (s : Segment) where
   D₁ = natAbs (s .right .slope)
 
 pub record Rising (s : Segment) (x : ℕ) : Type 0 where
-  pub up : s .left .value ≤ s .right .value
+  pub values-≤ : s .left .value ≤ s .right .value
   pub d₀-is : s .left .slope ≡ pos (D₀ s)
   pub d₁-is : s .right .slope ≡ pos (D₁ s)
   pub input : RisingInput (t s x) (u s x) (s .left .value) (F s) (D₀ s) (D₁ s)
@@ -58,9 +57,9 @@ rising-half l f a b = field (l ∷ f ∷ a ∷ b ∷ []) (search ratios depth 20
 
 -- ---- where the value changes
 
-slope-is : (p : Point) → NonNeg (gradient p) → p .slope ≡ pos (natAbs (p .slope))
+slope-natural : (p : Point) → NonNeg (gradient p) → p .slope ≡ pos (natAbs (p .slope))
 unfolding gradient _over_
-slope-is p k = natural-is (k .sign)
+slope-natural p k = Z.natural-of-nonneg (k .sign)
 
 module _ {s : Segment} {x : ℕ}
     (i : Inside (Good rising) s x)
@@ -68,24 +67,24 @@ module _ {s : Segment} {x : ℕ}
     (k₀ : NonNeg (d₀ s))
     (k₁ : NonNeg (d₁ s)) where
   climbing : Climbing (gap s) (v₀ s) (v₁ s) (d₀ s) (d₁ s) (S s) (e₀ s) (g s) (e₁ s)
-  climbing = climbing-of-normal (normal s (i .good .ends .ordered)) climb k₀ k₁
+  climbing = climbing-of-normal (segment-normal s (i .good .ends .ordered)) climb k₀ k₁
 
-  closed : Closed (interpolant rising s x)
+  rising-closed : Closed (interpolant rising s x)
       (rising-form (gap s) (v₀ s) (v₁ s) (distance s x) (e₀ s) (g s) (e₁ s))
   unfolding I.interpolant I.curve
-  closed = rising-value climbing (distance-in i)
+  rising-closed = rising-value climbing (distance-in i)
 
-  up : s .left .value < s .right .value
-  up = Z.<-of-pos-< (Z.<-by (rise s) refl climb)
+  values-≤ : s .left .value ≤ s .right .value
+  values-≤ = Z.≤-of-pos-≤ (Z.≤-of-< (Z.<-by (rise s) refl climb))
 
   rise-is : rise s ≡ pos (F s)
-  rise-is = difference-pos (let k = up in omega arith)
+  rise-is = Z.difference-of-≤ values-≤
 
   e₀-is : e₀ s ≡ pos ((t s x + u s x) * D₀ s)
-  e₀-is = rw (gap-is (i .good .ends), h-is i, slope-is (s .left) k₀)
+  e₀-is = rw (gap-is (i .good .ends), h-is i, slope-natural (s .left) k₀)
 
   e₁-is : e₁ s ≡ pos ((t s x + u s x) * D₁ s)
-  e₁-is = rw (gap-is (i .good .ends), h-is i, slope-is (s .right) k₁)
+  e₁-is = rw (gap-is (i .good .ends), h-is i, slope-natural (s .right) k₁)
 
   abbrev part-at : ℕ
   part-at = part (t s x) (u s x) (100 * F s) ((t s x + u s x) * D₀ s)
@@ -99,39 +98,39 @@ module _ {s : Segment} {x : ℕ}
   B-is : B (gap s) (distance s x) (e₀ s) (g s) (e₁ s) ≡ pos whole-at
   B-is = rw (from-right i, from-left i, e₀-is, e₁-is, rise-is) (ap pos (two-parts _ _ _ _ _))
 
-  same : Closed (interpolant rising s x) (whole (v₀ s) +ℚ whole (pos (F s)) *ℚ (pos part-at over pos whole-at))
-  same = rw (A-is, B-is, rise-is) at closed
+  closed-by-parts : Closed (interpolant rising s x) (whole (v₀ s) +ℚ whole (pos (F s)) *ℚ (pos part-at over pos whole-at))
+  closed-by-parts = rw (A-is, B-is, rise-is) at rising-closed
 
-  positive : 0 < whole-at
-  positive = Z.<-of-pos-< (rw B-is at (B-positive climbing (distance-in i)))
+  whole-at-positive : 0 < whole-at
+  whole-at-positive = Z.<-of-pos-< (rw B-is at (B-positive climbing (distance-in i)))
 
-  reading : round (interpolant rising s x) ≡ pos (rising-reading (t s x) (u s x) (s .left .value) (F s) (D₀ s) (D₁ s))
+  rising-reads : round (interpolant rising s x) ≡ pos (rising-reading (t s x) (u s x) (s .left .value) (F s) (D₀ s) (D₁ s))
   unfolding floorDiv
-  reading =
-      let b-pos : pos 0 <ℤ pos whole-at = Z.pos-<-of-< positive in
-      round-twice (pos (s .left .value * whole-at + part-at * F s)) whole-at {w = 2} {m = whole-at} same
-      (search propers) (lit< tt) positive
+  rising-reads =
+      let b-pos : pos 0 <ℤ pos whole-at = Z.pos-<-of-< whole-at-positive in
+      round-twice (pos (s .left .value * whole-at + part-at * F s)) whole-at {w = 2} {m = whole-at} closed-by-parts
+      (search propers) (lit< tt) whole-at-positive
       (rising-half (v₀ s) (pos (F s)) (pos part-at) (pos whole-at))
       ∙ ap pos (ap (λ n. n / whole-at) (add-assoc (s .left .value * whole-at) (part-at * F s) (whole-at / 2))
-      ∙ mul-add-div-right positive (s .left .value) (part-at * F s + whole-at / 2))
+      ∙ mul-add-div-right whole-at-positive (s .left .value) (part-at * F s + whole-at / 2))
 
   rising-facts : Rising s x
   rising-facts =
       let n = i .good .ends in
       let v = n .right .value in
       record {
-        up = (let k = up in omega arith);
-        d₀-is = slope-is (s .left) k₀;
-        d₁-is = slope-is (s .right) k₁;
+        values-≤ = values-≤;
+        d₀-is = slope-natural (s .left) k₀;
+        d₁-is = slope-natural (s .right) k₁;
         input = record {
           distances = distances i n;
           value = n .left .value;
           rise = omega arith;
           left-slope = slope-size (n .left);
           right-slope = slope-size (n .right);
-          above-0 = positive;
+          above-0 = whole-at-positive;
         };
-        reading = reading;
+        reading = rising-reads;
       }
 
 -- ---- inside
@@ -148,5 +147,5 @@ pub flat-inside : {s : Segment} {x : ℕ} → Inside (Good rising) s x → s .ri
     round (interpolant rising s x) ≡ pos (s .left .value)
 unfolding I.interpolant I.curve
 flat-inside {s} {x} i e =
-    let v = flat-value (normal s (i .good .ends .ordered)) (distance s x) (ap pos e) in
-    rounding-at-whole round-rounding (v₀ s) _ (v .proper) (v .same)
+    let v = flat-value (segment-normal s (i .good .ends .ordered)) (distance s x) (ap pos e) in
+    rounding-at-whole round-rounding (v₀ s) (v .proper) (v .same)

@@ -18,10 +18,6 @@ use Rattle.exact.proofs.Floor.{floor-keeps-order, floorDiv-nested}
 use Rattle.exact.proofs.Rounding.{proper-half}
 use Rattle.model.proofs.ClosedForm.{Closed}
 
-floor-≈ : {x y : Fraction} → Proper x → Proper y → x ≈ℚ y → floor x ≡ floor y
-floor-≈ {x} {y} px py e =
-    Z.≤-antisym (floor-keeps-order x y px py (Q.≤-of-≈ e)) (floor-keeps-order y x py px (Q.≤-of-≈ (Q.≈-sym e)))
-
 pub round-twice : {v f : Fraction} (x : ℤ) (y : ℕ) {w m : ℕ} →
     Closed v f →
     Proper f →
@@ -32,7 +28,8 @@ pub round-twice : {v f : Fraction} (x : ℤ) (y : ℕ) {w m : ℕ} →
 unfolding round floor floorDiv _over_
 round-twice {v} {f} x y {w} {m} k pf hw hm e =
     let pq = Q.proper-over (x *ℤ pos w +ℤ pos y) (pos w *ℤ pos m) (Z.pos-<-of-< (mul-pos hw hm)) in
-    floor-≈ (Q.proper-+ (k .proper) proper-half) pq (Q.≈-trans (Q.proper-+ pf proper-half) (Q.≈-+ (k .same) (Q.≈-refl half)) e)
+    Q.≡-of-keeps-order floor-keeps-order (Q.proper-+ (k .proper) proper-half) pq
+    (Q.≈-trans (Q.proper-+ pf proper-half) (Q.≈-+ (k .same) (Q.≈-refl half)) e)
     ∙ sym (floorDiv-nested x (pos y) hw hm)
 
 -- the same where n is k too much

@@ -9,12 +9,13 @@ use mathlib.Core.Bool.{Bool, true, false, cond, not, _&&_, _||_, or-false, and-f
 use Prim.Native.Nat.{ℕ, _<_}
 use native.Mathlib.Omega.{arith}
 use lib.Dec.{T, eqb}
-use lib.IntN.{ℤ, pos, _*ℤ_, one, *ℤ-one, *ℤ-comm, +ℤ-invr}
+use lib.IntN.{ℤ, pos, *ℤ-comm, +ℤ-invr}
 use lib.Signed.{leZ, ltZ}
 use mir.Syntax.{w32}
 use mir.Val.{toZ, ofZ}
 use Rattle.exact.specs.Fraction.{_over_, whole, leℚ, ltℚ, eqℚ}
 use Rattle.exact.proofs.Bits.{zero-fits, lt-bits, eq-bits}
+use Rattle.exact.proofs.Integer.{*-one}
 use Rattle.exact.proofs.Order as Z
 use Rattle.exact.proofs.Tests.{leZ-not-ltZ, same-test, T-true}
 use Rattle.model.specs.Points.{gradient, Segment, rising, convex}
@@ -29,25 +30,21 @@ use Rattle.segment.proofs.Figures.{slope-fits, slope-read, e₀-fits, g
 abbrev bits : ℤ → ℕ
 bits z = ofZ w32 z
 
-abbrev read : ℤ → ℤ
-read z = toZ w32 (bits z)
+abbrev read-back : ℤ → ℤ
+read-back z = toZ w32 (bits z)
 
-first-or : (t x y : Bool) → (t ≡ true → y ≡ false) → (t && x || y) ≡ cond t x y
-first-or true x y h = rw (h refl) (or-false x)
-first-or false x y h = refl
-
-times-one : (z : ℤ) → z *ℤ pos 1 ≡ z
-unfolding one
-times-one = *ℤ-one
+or-as-cond : (t x y : Bool) → (t ≡ true → y ≡ false) → (t && x || y) ≡ cond t x y
+or-as-cond true x y h = rw (h refl) (or-false x)
+or-as-cond false x y h = refl
 
 module _ {s : Segment} (n : Neighbours s) where
   pub climbing-test : s .left .value < s .right .value →
-      has-shape rising s ≡ (not (ltZ (read (s .left .slope)) (pos 0)) && leZ (pos 0) (read (s .right .slope)))
+      has-shape rising s ≡ (not (ltZ (read-back (s .left .slope)) (pos 0)) && leZ (pos 0) (read-back (s .right .slope)))
   unfolding has-shape fits rises gradient leℚ ltℚ eqℚ whole _over_
   climbing-test h =
       let up : ltZ (pos 0) (rise s) ≡ true = T-true _ (Z.positive-difference (Z.pos-<-of-< h) .lt) in
       rw (slope-read (n .left), slope-read (n .right), sym (leZ-not-ltZ (pos 0) (s .left .slope)))
-      (rw (times-one (rise s), times-one (s .left .slope), times-one (s .right .slope), leZ-not-ltZ (rise s) (pos 0), up)
+      (rw (*-one (rise s), *-one (s .left .slope), *-one (s .right .slope), leZ-not-ltZ (rise s) (pos 0), up)
       (or-false _))
 
   pub level-test : s .left .value ≡ s .right .value →
@@ -56,7 +53,7 @@ module _ {s : Segment} (n : Neighbours s) where
   level-test e =
       let level : rise s ≡ pos 0 = rw e (+ℤ-invr (pos (s .right .value))) in
       rw (eq-bits (slope-fits (n .left)) (zero-fits w32), eq-bits (slope-fits (n .right)) (zero-fits w32))
-      (rw (level, times-one (s .left .slope), times-one (s .right .slope)))
+      (rw (level, *-one (s .left .slope), *-one (s .right .slope)))
 
   pub falling-test : s .right .value < s .left .value → has-shape rising s ≡ false
   unfolding has-shape fits
@@ -71,11 +68,11 @@ module _ {s : Segment} (n : Neighbours s) where
 
   pub convex-test : {e : Slopes} → SlopesOver s e →
       has-shape convex s ≡
-      cond (ltZ (read (e .left)) (read (e .chord))) (ltZ (read (e .chord)) (read (e .right)))
+      cond (ltZ (read-back (e .left)) (read-back (e .chord))) (ltZ (read-back (e .chord)) (read-back (e .right)))
       (eqb (bits (e .left)) (bits (e .chord)) && eqb (bits (e .chord)) (bits (e .right)))
   unfolding has-shape fits bends gradient leℚ ltℚ eqℚ _over_
   convex-test k =
       rw (k .left, k .chord, k .right, lt-bits (e₀-fits n) (g-fits n), lt-bits (g-fits n) (e₁-fits n))
       (rw (eq-bits (e₀-fits n) (g-fits n), eq-bits (g-fits n) (e₁-fits n))
       (rw (*ℤ-comm (s .left .slope) (gap s), *ℤ-comm (rise s) (pos 100), *ℤ-comm (s .right .slope) (gap s))
-      (first-or (ltZ (e₀ s) (g s)) _ _ (λ e. rw (leZ-not-ltZ (g s) (e₀ s), e, and-false (leZ (e₀ s) (g s)))))))
+      (or-as-cond (ltZ (e₀ s) (g s)) _ _ (λ e. rw (leZ-not-ltZ (g s) (e₀ s), e, and-false (leZ (e₀ s) (g s)))))))

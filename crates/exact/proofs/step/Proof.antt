@@ -23,14 +23,14 @@ module _ {x y c k q r : ℕ} (h : Step x y c k q r) where
   room = omega (arith, mul-le-mul-right k remainder-below, mul-le-mul (h .part) (le-of-lt (mod-lt y (h .base))), h .room)
 
   -- x times the digits before, from what was divided
-  before : x * (y / k) ≡ q * c + r
-  before = sym (div-add-mod' (x * (y / k)) c) ∙ cc
+  product-before : x * (y / k) ≡ q * c + r
+  product-before = sym (div-add-mod' (x * (y / k)) c) ∙ cc
 
   product-split : x * y ≡ q * k * c + n
   product-split =
       x * y ≡⟨ ap (λ (z : ℕ). x * z) (sym (div-add-mod' y k)) ⟩
       x * (y / k * k + y % k) ≡⟨ ring-ℕ (x ∷ y / k ∷ y % k ∷ k ∷ []) (search terms depth 20 fits 9999) tt ⟩
-      x * (y / k) * k + x * (y % k) ≡⟨ ap (λ (z : ℕ). z * k + x * (y % k)) before ⟩
+      x * (y / k) * k + x * (y % k) ≡⟨ ap (λ (z : ℕ). z * k + x * (y % k)) product-before ⟩
       (q * c + r) * k + x * (y % k) ≡⟨ ring-ℕ (x ∷ y % k ∷ c ∷ k ∷ q ∷ r ∷ []) (search terms depth 20 fits 9999) tt ⟩
       q * k * c + n ∎
 

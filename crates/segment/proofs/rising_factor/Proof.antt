@@ -77,4 +77,4 @@ pub rising-factor-spec : {M : Type 1} → statement M
 rising-factor-spec =
     tie.close
     (tie.spec (search needs) returns (search needs) (search needs) (search needs) (search needs) (search needs)
-    (λ c. facts (at-rise c) .up) (search needs) cast-d0 cast-d1 (search needs) rising-requires read-fits returns-2)
+    (λ c. facts (at-rise c) .values-≤) (search needs) cast-d0 cast-d1 (search needs) rising-requires read-fits returns-2)
