@@ -1,6 +1,6 @@
 -- Laws of rows 1 to 6, for the functions that try them.
 --   no-fault, a-fault           the answer of a fault
---   passes, stops               what comes after it decides, or nothing does
+--   passes, fault-then          what comes after it decides, or nothing does
 --   points-from, segments-from  the rows from an index on; point-turn, segment-turn, one turn of a loop over them
 -- Assumes nothing.
 use mathlib.Core.Path.{_≡_, refl, sym, _∙_}
@@ -36,28 +36,28 @@ pub passes : {number : ℕ} (place : ℕ) (rest : Answer (Unit {0})) → number 
 unfolding _then_
 passes place rest e = rw (no-fault place e)
 
-pub stops : {number : ℕ} (place : ℕ) (rest : Answer (Unit {0})) → (number ≡ 0 → ⊥) →
+pub fault-then : {number : ℕ} (place : ℕ) (rest : Answer (Unit {0})) → (number ≡ 0 → ⊥) →
     (fault-answer number place then rest) ≡ fault-answer number place
 unfolding _then_
-stops place rest n = rw (a-fault place n)
+fault-then place rest n = rw (a-fault place n)
 
 -- ---- one turn of a loop over points, or over segments
 
-pub after-first : (area : ℕ) (i : ℕ) → earlier (eqb (i + 1) 0) area ≡ some area
+pub earlier-of-next : (area : ℕ) (i : ℕ) → earlier (eqb (i + 1) 0) area ≡ some area
 unfolding earlier
-after-first area i = rw (ne-eqb (i + 1) 0 (omega arith))
+earlier-of-next area i = rw (ne-eqb (i + 1) 0 (omega arith))
 
 -- a point without a fault keeps its limits
 pub limits-of-no-fault : {number : ℕ} (i : ℕ) (before : Option ℕ) (p : Point) →
     fault-answer number i ≡ point-rows i before (p ∷ []) → number ≡ 0 → Limits p
 limits-of-no-fault i before p e z = passed i before p [] (sym e ∙ no-fault i z) .limits
 
-regroup : (x y z rest : Answer (Unit {0})) → (x then y then z then rest) ≡ ((x then y then z then gives tt) then rest)
+then-regroup : (x y z rest : Answer (Unit {0})) → (x then y then z then rest) ≡ ((x then y then z then gives tt) then rest)
 unfolding _then_
-regroup (refused n i) y z rest = refl
-regroup (gives u) (refused n i) z rest = refl
-regroup (gives u) (gives v) (refused n i) rest = refl
-regroup (gives u) (gives v) (gives w) rest = refl
+then-regroup (refused n i) y z rest = refl
+then-regroup (gives u) (refused n i) z rest = refl
+then-regroup (gives u) (gives v) (refused n i) rest = refl
+then-regroup (gives u) (gives v) (gives w) rest = refl
 
 module _ (ps : List Point) where
   abbrev pub points-from : Option ℕ → ℕ → Answer (Unit {0})
@@ -72,7 +72,7 @@ module _ (ps : List Point) where
       fault-answer number i ≡ point-rows i before (p ∷ []) →
       (fault-answer number i then points-from (some (p .area)) (i + 1)) ≡ points-from before i
   unfolding point-rows
-  point-turn before i number p h e f = rw (f, e, drop-cons ps i origin h, add-one i) (sym (regroup _ _ _ _))
+  point-turn before i number p h e f = rw (f, e, drop-cons ps i origin h, add-one i) (sym (then-regroup _ _ _ _))
 
   pub point-end : (before : Option ℕ) (i : ℕ) → i ≡ length ps → points-from before i ≡ gives tt
   unfolding point-rows

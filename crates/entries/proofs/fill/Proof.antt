@@ -1,6 +1,6 @@
 -- `entries::fill` meets its contract. The loop's invariant: the first entries are filled, and the next reaches the segment at k.
 -- Assumes nothing.
-use mathlib.Core.Path.{_≡_, _∙_}
+use mathlib.Core.Path.{_∙_}
 use mathlib.Core.List.{List}
 use Prim.Native.Nat.{ℕ, _-_, _≤_, _<_}
 use native.Mathlib.Nat.{le-of-lt}
@@ -53,10 +53,7 @@ module _ (c : tie.In-loop Inv-loop μ-loop) where
   begin = c .before .before .before .before
 
   index-below : c .before .loop .index < length (begin .args .out .now)
-  index-below =
-      let e = c .before .loop .inv .filling .size in
-      let t = c .loop-test .taken in
-      omega arith
+  index-below = omega (arith, c .before .loop .inv .filling .size, c .loop-test .taken)
 
 area-of-requires : tie.Need-area-of-requires Inv-loop μ-loop
 area-of-requires c κs =
@@ -77,12 +74,6 @@ fill-segment-requires c κs =
 abbrev area-known : tie.After-fill-segment Inv-loop μ-loop → tie.After-area-of Inv-loop μ-loop
 area-known c = c .before .before .before
 
-loop-less : tie.Need-loop-less Inv-loop μ-loop
-loop-less c =
-    let h = index-below (area-known (c .before) .before) in
-    let n = c .before .fill-segment .ensures .more in
-    omega arith
-
 loop-again : tie.Need-loop-again Inv-loop μ-loop
 loop-again c =
     let a = area-known (c .before) in
@@ -99,14 +90,12 @@ loop-again c =
 returns : tie.Need-returns Inv-loop μ-loop
 returns c =
     let k = c .before .loop .inv in
-    filled-up _ (k .filling) (≡-of-≤ (k .most) (k .filling .size) (c .loop-test .left))
+    filled-up _ (k .filling) (omega (arith, k .most, k .filling .size, c .loop-test .left))
     ∙ fill-all _ (c .before .before .before .before .args .out .now)
-  where
-    ≡-of-≤ : {i n m : ℕ} → i ≤ n → m ≡ n → m ≤ i → i ≡ n
-    ≡-of-≤ h e k = omega arith
 
 pub fill-spec : {M : Type 1} → statement M
 fill-spec =
     tie.close
-    (tie.spec Inv-loop μ-loop loop-holds area-of-requires find-requires fill-segment-requires loop-less loop-again
+    (tie.spec Inv-loop μ-loop loop-holds area-of-requires find-requires fill-segment-requires
+    (λ c. omega (arith, index-below (area-known (c .before) .before), c .before .fill-segment .ensures .more)) loop-again
     (λ c. c .before .loop .inv .filling .size) returns)

@@ -73,10 +73,7 @@ module _ (c : tie.In-loop Inv-loop μ-loop) where
   begin = c .before .before
 
   i-below : c .before .loop .i < length (start begin .args .out .now)
-  i-below =
-      let e = c .before .loop .inv .size in
-      let t = c .loop-test .taken in
-      omega arith
+  i-below = omega (arith, c .before .loop .inv .size, c .loop-test .taken)
 
   within : outside (ps begin) (entry-area (start begin .args .start) (start begin .args .step) (c .before .loop .i)) ≡ false
   within = start begin .pre .entries .inside (c .before .loop .i) i-below
@@ -124,12 +121,12 @@ factor-requires c κs = rw (ends (begin (c .before .before .before))) (inside (r
 abbrev turn : tie.After-factor Inv-loop μ-loop → tie.In-loop Inv-loop μ-loop
 turn c = c .before .before .before .before
 
-reads : (c : tie.After-factor Inv-loop μ-loop) →
+written-is : (c : tie.After-factor Inv-loop μ-loop) →
     (let b = begin (turn c) in
     let s = start b in
     toZ w32 (ofZ w32 (c .factor .result))
     ≡ reading (ps b) (s .args .shape) (entry-area (s .args .start) (s .args .step) (turn c .before .loop .i)))
-reads c =
+written-is c =
     let a = c .before .before .before in
     let b = begin (turn c) in
     toZ-ofZ (record { sfits = c .factor .ok }) ∙ c .factor .ensures
@@ -146,7 +143,7 @@ loop-again c =
       least = (let l = k .least in omega arith);
       most = omega arith;
       size = simp length-set (k .size);
-      filled = λ found g. filling-goes-on f (pos 0) _ (k .filled found g) (let e = g .size in omega arith) (reads c);
+      filled = λ found g. filling-goes-on f (pos 0) _ (k .filled found g) (let e = g .size in omega arith) (written-is c);
     }
 
 returns-2 : tie.Need-returns-2 Inv-loop μ-loop
@@ -157,19 +154,11 @@ returns-2 c =
     let l = start (c .before .before) .pre .left in
     record { more = omega arith; most = k .most; filled = k .filled }
 
--- an index of the list fits
-index-fits : tie.Need-mul-t15 Inv-loop μ-loop
-index-fits c = let h = i-below (turn c) in omega (arith, start (begin (turn c)) .good)
-
-add-i : tie.Need-add-i Inv-loop μ-loop
-add-i c = let h = i-below (turn c) in omega (arith, start (begin (turn c)) .good)
-
-loop-less : tie.Need-loop-less Inv-loop μ-loop
-loop-less c = let h = i-below (turn c) in omega arith
-
 pub fill-segment-spec : {M : Type 1} → statement M
 fill-segment-spec =
     tie.close
     (tie.spec Inv-loop μ-loop point-at-requires add-point-at point-at-requires-2 loop-holds area-of-requires takes-requires
-    (λ c. c .before .before .before .before .loop .inv .size) returns factor-requires index-fits
-    (λ c. turn c .loop-test .taken) add-i loop-less loop-again (λ c. c .before .loop .inv .size) returns-2)
+    (λ c. c .before .before .before .before .loop .inv .size) returns factor-requires
+    (λ c. omega (arith, i-below (turn c), start (begin (turn c)) .good)) (λ c. turn c .loop-test .taken)
+    (λ c. omega (arith, i-below (turn c), start (begin (turn c)) .good)) (λ c. omega (arith, i-below (turn c)))
+    loop-again (λ c. c .before .loop .inv .size) returns-2)

@@ -36,34 +36,26 @@ module _ (ps : List Point) {areas : List ℕ} (are : areas-of ps ≡ areas) (som
 
 returns : tie.Need-returns
 returns c ps e n =
-    let s = c .before .before .before in
-    let first : outside ps (s .args .start + 0 * s .args .step) ≡ true =
-    (rw (zero-mul, add-zero) (sym (c .before .outside .ensures ps e) ∙ c .if1 .taken)) in
-    rows-first ps _ _ 0 n (λ j h. absurd (omega arith)) (λ h. first)
+    rows-first ps _ _ 0 n (λ j h. absurd (omega arith))
+    (λ h. rw (zero-mul, add-zero) (sym (c .before .outside .ensures ps e) ∙ c .if1 .taken))
 
 -- the first entry is inside
 start-inside : (c : tie.Else1) (ps : List Point) → areas-of ps ≡ c .before .before .before .args .areas .now →
     outside ps (c .before .before .before .args .start) ≡ false
 start-inside c ps e = sym (c .before .outside .ensures ps e) ∙ c .if1 .left
 
-start-low : (c : tie.Else1) → (let k = c .before .before .before .args in k .start ≤ last (k .areas .now))
-start-low c =
+start-≤-last : (c : tie.Else1) → (let k = c .before .before .before .args in k .start ≤ last (k .areas .now))
+start-≤-last c =
     let s = c .before .before .before in
     let areas = s .args .areas .now in
     not-beyond (flat-points areas) (flat-areas areas) (s .pre .0) (s .args .start) (start-inside c _ (flat-areas areas))
 
-steps-few : (c : tie.After-shared-slice-known2) →
+steps-fit : (c : tie.After-shared-slice-known2) →
     (let k = c .before .before .before .before .args in steps (k .areas .now) (k .start) (k .step) < 4294967296)
-steps-few c =
+steps-fit c =
     let s = c .before .before .before .before in
     let areas = s .args .areas .now in
     omega (arith, div-le-self (last areas - s .args .start) (s .args .step), c .shared-slice-known2 .given (length areas - 1))
-
-cast-result : tie.Need-cast-result
-cast-result c = let n = steps-few c in omega arith
-
-add-result : tie.Need-add-result
-add-result c = let n = steps-few c in omega arith
 
 returns-2 : tie.Need-returns-2
 returns-2 c ps e n =
@@ -75,5 +67,5 @@ returns-2 c ps e n =
 pub first-outside-spec : {M : Type 1} → statement M
 first-outside-spec =
     tie.close
-    (tie.spec (search needs) returns (search needs) (search needs) (search needs) (λ c. start-low (c .before)) (search needs)
-    cast-result add-result returns-2)
+    (tie.spec (search needs) returns (search needs) (search needs) (search needs) (λ c. start-≤-last (c .before)) (search needs)
+    (λ c. omega (arith, steps-fit c)) (λ c. omega (arith, steps-fit c)) returns-2)

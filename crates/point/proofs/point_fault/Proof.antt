@@ -22,10 +22,12 @@ area-passed : (c : tie.Else1) →
     (let k = c .before .before .args in bad-area (earlier (k .first) (k .before)) (k .p .area) ≡ false)
 area-passed c = sym (c .before .bad-area .ensures) ∙ c .if1 .left
 
+abbrev entry : tie.After-struct-told → tie.Start
+entry c = c .before .before .before .before .before .before
+
 -- the slope, read back from its bits
-slope-is : (c : tie.After-struct-told) →
-    (let k = c .before .before .before .before .before .before .args .p .slope in toZ w32 (ofZ w32 k) ≡ k)
-slope-is c = toZ-ofZ (search needs)
+slope-back : (c : tie.After-struct-told) → toZ w32 (ofZ w32 (entry c .args .p .slope)) ≡ entry c .args .p .slope
+slope-back c = toZ-ofZ (search needs)
 
 returns : tie.Need-returns
 unfolding fault-answer point-rows row _then_
@@ -43,7 +45,7 @@ returns-3 : tie.Need-returns-3
 unfolding fault-answer point-rows row _then_ bad-value bad-slope
 returns-3 c i =
     let b = value-passed (c .before) in
-    rw (area-passed (b .before .before), le-ltb _ _ (b .if2 .left), rw (slope-is (c .before)) at (c .if3 .taken))
+    rw (area-passed (b .before .before), le-ltb _ _ (b .if2 .left), rw (slope-back (c .before)) at (c .if3 .taken))
 
 -- and the first test of row 5
 abbrev not-low : tie.After-struct-told2 → tie.Else3
@@ -54,8 +56,8 @@ unfolding fault-answer point-rows row _then_ bad-value bad-slope
 returns-4 c i =
     let l = not-low (c .before) in
     let b = value-passed (l .before) in
-    let f = slope-is (l .before) in
-    let steep : ltZ (pos slope-most) (b .before .before .before .before .args .p .slope) ≡ true = rw f at (c .if4 .taken) in
+    let f = slope-back (l .before) in
+    let steep : ltZ (pos slope-most) (entry (l .before) .args .p .slope) ≡ true = rw f at (c .if4 .taken) in
     rw (area-passed (b .before .before), le-ltb _ _ (b .if2 .left), rw f at (l .if3 .left), steep)
 
 returns-5 : tie.Need-returns-5
@@ -63,7 +65,7 @@ unfolding fault-answer point-rows row _then_ bad-value bad-slope
 returns-5 c i =
     let l = not-low (c .before) in
     let b = value-passed (l .before) in
-    let f = slope-is (l .before) in
+    let f = slope-back (l .before) in
     rw (area-passed (b .before .before), le-ltb _ _ (b .if2 .left), rw f at (l .if3 .left), rw f at (c .if4 .left))
 
 pub point-fault-spec : {M : Type 1} → statement M

@@ -13,7 +13,7 @@ use Rattle.model.specs.Inner.{Alike, fault-answer}
 use Rattle.model.proofs.Lists.{fields-of, fields-length}
 use Rattle.model.proofs.Rows.{alike-of-row-1, count-of-row-1}
 use Rattle.rows.specs.Inner.{Lengths}
-use Rattle.rows.proofs.Faults.{no-fault, passes, stops}
+use Rattle.rows.proofs.Faults.{no-fault, passes, fault-then}
 use Rattle.rows.proofs.curve_fault.Statement.{statement}
 use Rattle.rows.proofs.curve_fault.Tie as tie
 
@@ -62,27 +62,27 @@ returns-3 c =
 
 -- rows 1 and 2 are passed
 module _ (c : tie.Else3) where
-  abbrev first : tie.Else1
-  first = c .before .before .before .before
+  abbrev at-lengths : tie.Else1
+  at-lengths = c .before .before .before .before
 
-  lengths : Lengths (length (start first .args .areas .now)) (length (start first .args .values .now))
-      (length (start first .args .slopes .now))
+  lengths : Lengths (length (start at-lengths .args .areas .now)) (length (start at-lengths .args .values .now))
+      (length (start at-lengths .args .slopes .now))
   lengths =
-      let n = count-of-row-1 _ (rw (size first) at (count-passed (c .before .before))) in
-      record { alike = alike first; least = n .0; most = n .1 }
+      let n = count-of-row-1 _ (rw (size at-lengths) at (count-passed (c .before .before))) in
+      record { alike = alike at-lengths; least = n .0; most = n .1 }
 
-  after-code : all-rows first
-      ≡ (point-rows 0 none (ps first) then segment-rows 0 (shape-of (start first .args .shape)) (segments (ps first)))
+  after-code : all-rows at-lengths
+      ≡ (point-rows 0 none (ps at-lengths) then segment-rows 0 (shape-of (start at-lengths .args .shape)) (segments (ps at-lengths)))
   unfolding curve-rows row _then_
   after-code =
-      rw (after-lengths first, count-passed (c .before .before), sym (c .before .bad-code .ensures) ∙ c .if3 .left)
+      rw (after-lengths at-lengths, count-passed (c .before .before), sym (c .before .bad-code .ensures) ∙ c .if3 .left)
 
 points-fault-requires : tie.Need-points-fault-requires
 points-fault-requires c κs = lengths c
 
 -- the points' fault is known
 after-points : (c : tie.After-points-fault) →
-    (let f = first (c .before) in
+    (let f = at-lengths (c .before) in
     all-rows f
     ≡ (fault-answer (c .points-fault .result .number) (c .points-fault .result .place)
     then segment-rows 0 (shape-of (start f .args .shape)) (segments (ps f))))
@@ -91,7 +91,7 @@ after-points c = rw (after-code (c .before), sym (c .points-fault .ensures))
 returns-4 : tie.Need-returns-4
 returns-4 c =
     let p = c .before .before in
-    rw (after-points p, stops (p .points-fault .result .place) _ (c .if4 .taken))
+    rw (after-points p, fault-then (p .points-fault .result .place) _ (c .if4 .taken))
 
 segments-fault-requires : tie.Need-segments-fault-requires
 segments-fault-requires c κs =

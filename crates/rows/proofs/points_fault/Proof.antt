@@ -2,7 +2,7 @@
 -- Assumes nothing.
 use mathlib.Core.Path.{_≡_, refl, sym, _∙_, ap}
 use mathlib.Core.List.{List}
-use mathlib.Core.Logic.{⊎-elim}
+use mathlib.Core.Logic.{inl, inr}
 use mathlib.Core.Option.{none, some}
 use Prim.Native.Nat.{ℕ, _+_, _-_, _≤_}
 use native.Mathlib.Omega.{arith}
@@ -14,8 +14,8 @@ use Rattle.model.specs.Points.{area-most, Point, points}
 use Rattle.model.specs.Inner.{fault-answer}
 use Rattle.model.proofs.Lists.{fields-of, fields-length}
 use Rattle.point.specs.Inner.{earlier, point-of}
-use Rattle.rows.proofs.Faults.{no-fault, passes, stops, limits-of-no-fault}
-use Rattle.rows.proofs.Faults.{points-from, after-first, point-turn, point-end}
+use Rattle.rows.proofs.Faults.{no-fault, passes, fault-then, limits-of-no-fault}
+use Rattle.rows.proofs.Faults.{points-from, earlier-of-next, point-turn, point-end}
 use Rattle.rows.proofs.points_fault.Statement.{statement}
 use Rattle.rows.proofs.points_fault.Tie as tie
 
@@ -66,23 +66,24 @@ loop-again c =
     let a = c .before in
     let i = loop-of a .loop .i in
     let limits = limits-of-no-fault i _ (point-of (a .before .point-at .result)) (a .point-fault .ensures i) (c .if1 .left) in
-    (omega arith, c .if1 .left, limits .area, rw (after-first _ i) (sym (passes i _ (c .if1 .left)) ∙ turn a))
+    (omega arith, c .if1 .left, limits .area, rw (earlier-of-next _ i) (sym (passes i _ (c .if1 .left)) ∙ turn a))
 
 returns : tie.Need-returns Inv-loop μ-loop
 returns c =
     let l = c .before in
     let i = l .loop .i in
     let before = earlier (eqb i 0) (l .loop .before) in
-    ⊎-elim
-    (λ w.
-    no-fault i (w .1 ∙ l .loop .inv .1) ∙ sym (point-end (ps l) before i (omega (arith, w .0 .left, size l))) ∙ l .loop .inv .3)
-    (λ w.
-    let a : tie.After-point-fault Inv-loop μ-loop = record {
-      before = record { before = record { before = l; loop-test = w .0 }; point-at = w .1 };
-      point-fault = w .2;
-    } in
-    ap (λ (n : ℕ). fault-answer n i) (w .4) ∙ sym (stops i _ (w .3 .taken)) ∙ turn a)
-    (c .loop-test .came)
+    elim (c .loop-test .came) [
+      | inl w ↦
+          no-fault i (w .1 ∙ l .loop .inv .1)
+          ∙ sym (point-end (ps l) before i (omega (arith, w .0 .left, size l))) ∙ l .loop .inv .3
+      | inr w ↦
+          let a : tie.After-point-fault Inv-loop μ-loop = record {
+            before = record { before = record { before = l; loop-test = w .0 }; point-at = w .1 };
+            point-fault = w .2;
+          } in
+          ap (λ (n : ℕ). fault-answer n i) (w .4) ∙ sym (fault-then i _ (w .3 .taken)) ∙ turn a
+    ]
 
 pub points-fault-spec : {M : Type 1} → statement M
 points-fault-spec =

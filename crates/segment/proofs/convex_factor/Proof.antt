@@ -126,19 +126,19 @@ module _ (c : tie.After-raised) where
 sub-n : tie.Need-sub-n
 sub-n c = rw (n-read c) (n-fits c)
 
-reads : (c : tie.After-floor-div) →
+result-is : (c : tie.After-floor-div) →
     (let s = start (c .before) in
     toZ w64 (ofZ w64 (c .floor-div .result)) ≡ round (interpolant convex (segment s) (s .args .area)))
-reads c =
+result-is c =
     toZ-ofZ (record { sfits = c .floor-div .ok })
     ∙ (rw (n-read (c .before), toZ-ofZ (n-fits (c .before))) at (c .floor-div .ensures))
     ∙ facts (start (c .before)) .reading (c .before .raised .result) (raised-is (c .before))
 
 cast-result : tie.Need-cast-result
-cast-result c = rw (reads c) (reading-fits (start (c .before) .pre))
+cast-result c = rw (result-is c) (reading-fits (start (c .before) .pre))
 
 returns : tie.Need-returns
-returns c = rw (reads c, toZ-ofZ (reading-fits (start (c .before) .pre)))
+returns c = rw (result-is c, toZ-ofZ (reading-fits (start (c .before) .pre)))
 
 pub convex-factor-spec : {M : Type 1} → statement M
 convex-factor-spec =

@@ -61,20 +61,20 @@ module _ (c : tie.After-rising) where
   abbrev start : tie.Start
   start = entry (at-d1 (c .before .before))
 
-  read : pos (c .rising .result) ≡ round (interpolant rising (segment start) (start .args .area))
-  read =
+  result-is : pos (c .rising .result) ≡ round (interpolant rising (segment start) (start .args .area))
+  result-is =
       let n = start .pre .good .ends in
-      ap pos (rw (u-read (start .pre), slope-read (n .left), slope-read (n .right)) at (c .rising .ensures))
-      ∙ sym (facts (at-d1 (c .before .before)) .reading)
+      rw (c .rising .ensures, u-read (start .pre), slope-read (n .left), slope-read (n .right))
+      (sym (facts (at-d1 (c .before .before)) .reading))
 
-  read-fits : SFits w32 (pos (c .rising .result))
-  read-fits = subst⁻¹ (SFits w32) read (reading-fits (start .pre))
+  result-fits : SFits w32 (pos (c .rising .result))
+  result-fits = rw result-is (reading-fits (start .pre))
 
 returns-2 : tie.Need-returns-2
-returns-2 c = toZ-pos w32 (read-fits c .sfits) ∙ read c
+returns-2 c = toZ-pos w32 (result-fits c .sfits) ∙ result-is c
 
 pub rising-factor-spec : {M : Type 1} → statement M
 rising-factor-spec =
     tie.close
     (tie.spec (search needs) returns (search needs) (search needs) (search needs) (search needs) (search needs)
-    (λ c. facts (at-rise c) .values-≤) (search needs) cast-d0 cast-d1 (search needs) rising-requires read-fits returns-2)
+    (λ c. facts (at-rise c) .values-≤) (search needs) cast-d0 cast-d1 (search needs) rising-requires result-fits returns-2)
