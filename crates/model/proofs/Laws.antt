@@ -143,7 +143,8 @@ rated-points-read c before after p e =
 -- ---- rising
 
 -- the value at x, on a curve of a known shape
-value-as : (c : Curve) {shape : Shape} → shape-of (c .code) ≡ shape → (x : ℕ) → exact c x ≡ interpolant shape (segment-taken c x) x
+value-as : (c : Curve) {shape : Shape} → shape-of (c .code) ≡ shape → (x : ℕ) →
+    exact c x ≡ interpolant shape (segment-taken c x) x
 value-as c e x = value-is (curve-accepted c) x ∙ ap (λ (sh : Shape). interpolant sh (segment-taken c x) x) e
 
 chained-as : (c : Curve) {shape : Shape} → shape-of (c .code) ≡ shape → Chained (Good shape) (c .points)

@@ -20,7 +20,8 @@ bad-area-of-large none area h = lt-ltb area-most area h
 bad-area-of-large (some before) area h = rw (lt-ltb area-most area h)
 
 -- a difference of 32 bits that wraps is too large
-pub wrapped-gap-test : {before area r : ℕ} → before ≤ area-most → area ≤ area-most → r < 2 ^ 32 → (r + (before + 1)) % 2 ^ 32 ≡ area →
+pub wrapped-gap-test : {before area r : ℕ} → before ≤ area-most → area ≤ area-most → r < 2 ^ 32 →
+    (r + (before + 1)) % 2 ^ 32 ≡ area →
     leb gap-most r ≡ (leb area before || ltb (before + gap-most) area)
 wrapped-gap-test {before} {area} {r} h k f e = elim (compare area before) [
   | inl (m, t) ↦ rw (t, le-leb gap-most r (omega arith))

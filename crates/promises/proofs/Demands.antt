@@ -3,7 +3,6 @@
 -- Assumes nothing.
 use Prim.Native.Nat.{ℕ, _*_, _<_, zero-le}
 use mathlib.Core.Path.{_≡_, refl, sym, _∙_, ap, subst}
-use mathlib.Core.Bool.{Bool, true, false}
 use mathlib.Core.List.{List}
 use native.Mathlib.Nat.{zero-add}
 use native.Mathlib.Omega.{arith}
@@ -21,7 +20,7 @@ use Rattle.model.specs.Check.{curve-rows, check-answer, on-lists-of}
 use Rattle.model.specs.Laws.{Curve, Area, exact}
 use Rattle.model.specs.Read.{outside, reading, read-answer}
 use Rattle.model.specs.Sheet.{bad-sheet, entry-area, entry-rows, sheet-answer, sheet-list}
-use Rattle.model.proofs.Rows.{gives-injective, refused≢gives, then-first, then-rest, row-passed}
+use Rattle.model.proofs.Rows.{gives-injective, then-first, then-rest, row-passed, row-refused}
 use Rattle.model.proofs.Answers.{on-lists-of-is, on-lists-gives, given, reading-given}
 use Rattle.model.proofs.Lists.{fields-of}
 use Rattle.model.proofs.Laws.{curve-accepted, factor, values-are-proper, factors-are-near, segments-meet, rated-points-read}
@@ -37,8 +36,8 @@ use Rattle.pair.specs.Pair.{Factors, factors, pair-answer}
 use Rattle.promises.specs.FactorRead.{FileOf, FactorRead, by-read, by-pair-form, by-pair-plan, by-sheet, by-desk}
 use Rattle.promises.specs.Demands.{CheckAccepts, ThirdDemand}
 
--- a factor read is the reading at an area of the curve
-record Is (c : Curve) (x : ℕ) (f : ℤ) : Type 0 where
+-- f is the reading at the area x of the curve
+record Reads (c : Curve) (x : ℕ) (f : ℤ) : Type 0 where
   pub area : Area c x
   pub same : factor c x ≡ f
 
@@ -56,18 +55,19 @@ check-accepts areas values slopes code n e =
 
 -- ---- Read and Pair
 
-is-read : (c : Curve) (x : ℕ) (f : ℤ) → read-answer (c .points) (c .code) x ≡ gives f → Is c x f
-is-read c x f e =
+reads-of-read : (c : Curve) (x : ℕ) (f : ℤ) → read-answer (c .points) (c .code) x ≡ gives f → Reads c x f
+reads-of-read c x f e =
     let k = given (c .points) (c .code) x e in
     record { area = record { within = k .within }; same = k .factor }
 
 record Both (c : Curve) (form plan : ℕ) (r : Factors) : Type 0 where
-  pub at-form : Is c form (r .form)
-  pub at-plan : Is c plan (r .plan)
+  pub at-form : Reads c form (r .form)
+  pub at-plan : Reads c plan (r .plan)
 
-is-pair : (c : Curve) (form plan : ℕ) (r : Factors) → pair-answer (c .points) (c .code) form plan ≡ gives r → Both c form plan r
+reads-of-pair : (c : Curve) (form plan : ℕ) (r : Factors) → pair-answer (c .points) (c .code) form plan ≡ gives r →
+    Both c form plan r
 unfolding pair-answer factors
-is-pair c form plan r e =
+reads-of-pair c form plan r e =
     let after-6 = then-rest (curve-rows (c .points) (c .code)) _ e in
     let after-form = then-rest (row (outside (c .points) form) 7 0) _ after-6 in
     let same = gives-injective (then-rest (row (outside (c .points) plan) 7 1) _ after-form) in
@@ -84,11 +84,11 @@ is-pair c form plan r e =
 
 -- ---- Sheet
 
-is-entry : (c : Curve) (start step : ℕ) (out : List ℤ) (entries index : ℕ) →
+reads-of-entry : (c : Curve) (start step : ℕ) (out : List ℤ) (entries index : ℕ) →
     sheet-answer (c .points) (c .code) start step (length out) ≡ gives entries → index < entries →
-    Is c (entry-area start step index) (getD (sheet-list (c .points) (c .code) start step (gives entries) out) index (pos 0))
+    Reads c (entry-area start step index) (getD (sheet-list (c .points) (c .code) start step (gives entries) out) index (pos 0))
 unfolding sheet-answer sheet-list
-is-entry c start step out entries index e h =
+reads-of-entry c start step out entries index e h =
     let n = length out in
     let rows = entry-rows (c .points) start step 0 n in
     let after-8 = then-rest (row (bad-sheet step n) 8 0) _ (then-rest (curve-rows (c .points) (c .code)) _ e) in
@@ -114,59 +114,52 @@ unfolding desk-number Apart
 factor-of-number (gives g) f k e h = ap gives e
 factor-of-number (refused n i) f k e h = absurd (Z.≤-trans h (subst (λ (z : ℤ). z ≤ℤ negℤ (pos 1000001)) e k) .le)
 
-is-desk : (c : Curve) (bytes : List ℕ) (x scratch : ℕ) (f : ℤ) → FileOf c bytes → desk-answer bytes x scratch ≡ gives f → Is c x f
+reads-of-desk : (c : Curve) (bytes : List ℕ) (x scratch : ℕ) (f : ℤ) → FileOf c bytes →
+    desk-answer bytes x scratch ≡ gives f → Reads c x f
 unfolding desk-answer
-is-desk c bytes x scratch f k e =
+reads-of-desk c bytes x scratch f k e =
     let after-11 = then-rest (row (ltb scratch (record-size * count bytes)) 11 0) _ (then-rest (head-rows bytes) _ e) in
-    is-read c x f (sym (file-reads c bytes x k) ∙ after-11)
+    reads-of-read c x f (sym (file-reads c bytes x k) ∙ after-11)
 
-is : {c : Curve} {x : ℕ} {f : ℤ} → FactorRead c x f → Is c x f
-is {c} (by-read x f e) = is-read c x f (sym (on-curve c _) ∙ e)
-is {c} (by-pair-form form plan r e) = is-pair c form plan r (sym (on-curve c _) ∙ e) .at-form
-is {c} (by-pair-plan form plan r e) = is-pair c form plan r (sym (on-curve c _) ∙ e) .at-plan
-is {c} (by-sheet start step out n index e h) = rw e (is-entry c start step out n index (sym (on-curve c _) ∙ e) h)
-is {c} (by-desk bytes x scratch f k e h) =
-    is-desk c bytes x scratch f k (factor-of-number _ f (apart bytes x scratch) e h)
+reads : {c : Curve} {x : ℕ} {f : ℤ} → FactorRead c x f → Reads c x f
+reads {c} (by-read x f e) = reads-of-read c x f (sym (on-curve c _) ∙ e)
+reads {c} (by-pair-form form plan r e) = reads-of-pair c form plan r (sym (on-curve c _) ∙ e) .at-form
+reads {c} (by-pair-plan form plan r e) = reads-of-pair c form plan r (sym (on-curve c _) ∙ e) .at-plan
+reads {c} (by-sheet start step out n index e h) = rw e (reads-of-entry c start step out n index (sym (on-curve c _) ∙ e) h)
+reads {c} (by-desk bytes x scratch f k e h) =
+    reads-of-desk c bytes x scratch f k (factor-of-number _ f (apart bytes x scratch) e h)
 
 -- ---- each area can be read
 
 module _ (c : Curve) where
-  reads : (x : ℕ) → Area c x → read-answer (c .points) (c .code) x ≡ gives (factor c x)
-  reads x k = reading-given (c .points) (c .code) x (curve-accepted c) (k .within)
+  read-gives : (x : ℕ) → Area c x → read-answer (c .points) (c .code) x ≡ gives (factor c x)
+  read-gives x k = reading-given (c .points) (c .code) x (curve-accepted c) (k .within)
 
-  pair-reads : (form plan : ℕ) → Area c form → Area c plan →
+  pair-gives : (form plan : ℕ) → Area c form → Area c plan →
       pair-answer (c .points) (c .code) form plan ≡ gives (factors (factor c form) (factor c plan))
   unfolding pair-answer row _then_
-  pair-reads form plan k m = rw (c .accepted, k .within, m .within)
+  pair-gives form plan k m = rw (c .accepted, k .within, m .within)
 
   sheet-refuses-by-8 : (start step n : ℕ) → ((index : ℕ) → index < n → Area c (entry-area start step index)) →
       (number place : ℕ) → sheet-answer (c .points) (c .code) start step n ≡ refused number place → number ≡ 8
   unfolding sheet-answer row _then_
-  sheet-refuses-by-8 start step n inside number place e = decide (bad-sheet step n) (rw (c .accepted, pass) at e)
-    where
-      pass : entry-rows (c .points) start step 0 n ≡ gives tt
-      pass = rows-pass (c .points) start step 0 n (λ i h. inside i (rw zero-add at h) .within)
-
-      decide : (b : Bool) → (row b 8 0 then gives n) ≡ refused number place → number ≡ 8
-      decide true h = cc
-      decide false h = absurd (refused≢gives (sym h))
+  sheet-refuses-by-8 start step n inside number place e =
+      let pass = rows-pass (c .points) start step 0 n (λ i h. inside i (rw zero-add at h) .within) in
+      row-refused (bad-sheet step n) 8 0 n (rw (c .accepted, pass) at e) .0
 
   desk-refuses-by-11 : (bytes : List ℕ) (x scratch : ℕ) → FileOf c bytes → Area c x →
       (number place : ℕ) → desk-answer bytes x scratch ≡ refused number place → number ≡ 11
   unfolding desk-answer row _then_
   desk-refuses-by-11 bytes x scratch k m number place e =
-      decide (ltb scratch (record-size * count bytes)) (rw (k .head, file-reads c bytes x k, reads x m) at e)
-    where
-      decide : (b : Bool) → (row b 11 0 then gives (factor c x)) ≡ refused number place → number ≡ 11
-      decide true h = cc
-      decide false h = absurd (refused≢gives (sym h))
+      row-refused (ltb scratch (record-size * count bytes)) 11 0 (factor c x)
+      (rw (k .head, file-reads c bytes x k, read-gives x m) at e) .0
 
   -- ---- the factors
 
   half-a-unit : (x : ℕ) (f : ℤ) → FactorRead c x f →
       Proper (exact c x) × (exact c x -ℚ half ≤ℚ whole f) × (whole f ≤ℚ exact c x +ℚ half)
   half-a-unit x f r =
-      let k = is r in
+      let k = reads r in
       let near = rw (k .same) at (factors-are-near c x (k .area)) in
       (values-are-proper c x (k .area), ≤-of-< (near .above), near .below)
 
@@ -174,17 +167,18 @@ pub third-demand : (c : Curve) → ThirdDemand c
 third-demand c =
     record {
       segments-meet = segments-meet c;
-      read-refuses-none = λ x k. (factor c x, on-curve c _ ∙ reads c x k);
-      pair-refuses-none = λ form plan k m. (factors (factor c form) (factor c plan), on-curve c _ ∙ pair-reads c form plan k m);
+      read-refuses-none = λ x k. (factor c x, on-curve c _ ∙ read-gives c x k);
+      pair-refuses-none = λ form plan k m. (factors (factor c form) (factor c plan), on-curve c _ ∙ pair-gives c form plan k m);
       sheet-refuses-by-8 = λ start step n inside number place e.
           sheet-refuses-by-8 c start step n inside number place (sym (on-curve c _) ∙ e);
       desk-refuses-by-11 = desk-refuses-by-11 c;
       half-a-unit = half-a-unit c;
-      same-factor = λ x f g r s. sym (is r .same) ∙ is s .same;
-      rising = λ e x y f g r s h. rw (← is r .same, ← is s .same) (rising-factors c e x y (is r .area) (is s .area) h);
+      same-factor = λ x f g r s. sym (reads r .same) ∙ reads s .same;
+      rising = λ e x y f g r s h.
+          rw (← reads r .same, ← reads s .same) (rising-factors c e x y (reads r .area) (reads s .area) h);
       convex-steps = λ e x k f₀ f₁ f₂ h r₀ r₁ r₂.
-          rw (← is r₀ .same, ← is r₁ .same, ← is r₂ .same)
-          (convex-steps c e x k (is r₀ .area) (is r₁ .area) (is r₂ .area));
+          rw (← reads r₀ .same, ← reads r₁ .same, ← reads r₂ .same)
+          (convex-steps c e x k (reads r₀ .area) (reads r₁ .area) (reads r₂ .area));
       convex-chords = convex-chords c;
-      rated-factors = λ before after p f e r. sym (is r .same) ∙ rated-points-read c before after p e;
+      rated-factors = λ before after p f e r. sym (reads r .same) ∙ rated-points-read c before after p e;
     }

@@ -28,7 +28,8 @@ use Rattle.model.specs.Inner.{Good, Inside}
 use Rattle.model.proofs.ClosedForm.{Closed, congruence, Bending, W, W-positive, convex-form}
 use Rattle.model.proofs.ClosedForm.{bending-of-normal, bent-value, straight-value}
 use Rattle.model.proofs.Curves.{bent, straight, bend-kind}
-use Rattle.model.proofs.Segments.{gap, rise, distance, v₀, v₁, d₀, d₁, S, g, e₀, e₁, a, b, segment-normal, gap-positive, distance-in}
+use Rattle.model.proofs.Segments.{gap, rise, distance, v₀, v₁, d₀, d₁, S, g, e₀, e₁, a, b}
+use Rattle.model.proofs.Segments.{segment-normal, gap-positive, distance-in}
 use Rattle.segment.specs.Inner.{raised, ConvexInput}
 use Rattle.segment.proofs.Figures.{slope-size, gap-is, a-size, b-size}
 use Rattle.segment.proofs.Figures.{t, u, h, from-left, from-right, h-is, distances}

@@ -19,18 +19,20 @@ unfolding check-answer checked-answer
 returns c =
     sym (curve-refused _ _ _ _ _ _ (c .before .before .curve-fault .ensures) (λ ps. gives (length (segments ps))) (c .if1 .taken))
 
-no-fault : (c : tie.Else1) →
-    (let k = c .before .before .before .before .before .args in
-    Accepts (k .areas .now) (k .values .now) (k .slopes .now) (k .shape))
-no-fault c = accepts _ _ _ _ _ _ (c .before .before .curve-fault .ensures) (c .if1 .left)
+abbrev entry : tie.Else1 → tie.Start
+entry c = c .before .before .before .before .before
+
+lists-accepted : (c : tie.Else1) →
+    (let k = entry c .args in Accepts (k .areas .now) (k .values .now) (k .slopes .now) (k .shape))
+lists-accepted c = accepts _ _ _ _ _ _ (c .before .before .curve-fault .ensures) (c .if1 .left)
 
 returns-2 : tie.Need-returns-2
 unfolding check-answer checked-answer
 returns-2 c =
-    let k = no-fault c in
+    let k = lists-accepted c in
     sym (on-points k (λ ps. gives (length (segments ps))) ∙ ap gives (segments-length _ ∙ ap (λ (n : ℕ). n - 1) (k .size)))
 
 pub check-spec : {M : Type 1} → statement M
 check-spec =
     tie.close
-    (tie.spec (search needs) returns (λ c. omega (arith, no-fault c)) (λ c. omega (arith, no-fault c)) returns-2)
+    (tie.spec (search needs) returns (λ c. omega (arith, lists-accepted c)) (λ c. omega (arith, lists-accepted c)) returns-2)

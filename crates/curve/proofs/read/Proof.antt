@@ -7,6 +7,7 @@ use native.Mathlib.Omega.{arith}
 use borrow.Author.Needs.{needs}
 use lib.IntN.{ℤ}
 use mir.Syntax.{w32}
+use mir.Val.{SFits}
 use mir.Facts.{toZ-ofZ}
 use Rattle.model.specs.Answer.{Answer, gives, row, _then_}
 use Rattle.model.specs.Points.{Point, points}
@@ -36,26 +37,26 @@ module _ (c : tie.Else1) where
   abbrev ps : List Point
   ps = points (start .args .areas .now) (start .args .values .now) (start .args .slopes .now)
 
-  no-fault : Accepts (start .args .areas .now) (start .args .values .now) (start .args .slopes .now) (start .args .shape)
-  no-fault = accepts _ _ _ _ _ _ (c .before .before .curve-fault .ensures) (c .if1 .left)
+  lists-accepted : Accepts (start .args .areas .now) (start .args .values .now) (start .args .slopes .now) (start .args .shape)
+  lists-accepted = accepts _ _ _ _ _ _ (c .before .before .curve-fault .ensures) (c .if1 .left)
 
-  abbrev after : List Point → Answer ℤ
-  after qs = row (outside qs (start .args .area)) 7 0 then gives (reading qs (start .args .shape) (start .args .area))
+  abbrev after-row-6 : List Point → Answer ℤ
+  after-row-6 qs = row (outside qs (start .args .area)) 7 0 then gives (reading qs (start .args .shape) (start .args .area))
 
 returns-2 : tie.Need-returns-2
 unfolding read-answer reading-answer InRange row _then_
 returns-2 c =
     let b = c .before .before in
-    let k = no-fault b in
-    (rw (on-points k (after b), sym (c .before .outside .ensures (ps b) (k .areas-are)) ∙ c .if2 .taken), tt)
+    let k = lists-accepted b in
+    (rw (on-points k (after-row-6 b), sym (c .before .outside .ensures (ps b) (k .areas-are)) ∙ c .if2 .taken), tt)
 
 within : (c : tie.Else2) → outside (ps (c .before .before)) (start (c .before .before) .args .area) ≡ false
-within c = sym (c .before .outside .ensures _ (no-fault (c .before .before) .areas-are)) ∙ c .if2 .left
+within c = sym (c .before .outside .ensures _ (lists-accepted (c .before .before) .areas-are)) ∙ c .if2 .left
 
 find-requires : tie.Need-find-requires
 find-requires c κs =
     let b = c .before .before in
-    let k = no-fault b in
+    let k = lists-accepted b in
     record { inner = omega arith; low = not-before (ps b) (k .areas-are) (omega arith) _ (within c) }
 
 -- the area takes the segment found
@@ -63,24 +64,27 @@ readable : (c : tie.After-find) →
     (let b = c .before .before .before in
     Readable (ps b) (start b .args .shape) (c .find .result) (start b .args .area))
 readable c =
-    let k = no-fault (c .before .before .before) in
+    let k = lists-accepted (c .before .before .before) in
     record { accepted = k .accepted; within = within (c .before); taken = rw (k .areas-are) (c .find .ensures) }
 
 factor-at-requires : tie.Need-factor-at-requires
-factor-at-requires c κs = (no-fault (c .before .before .before) .alike, readable c)
+factor-at-requires c κs = (lists-accepted (c .before .before .before) .alike, readable c)
 
 returns-3 : tie.Need-returns-3
 unfolding read-answer reading-answer InRange row _then_
 returns-3 c =
     let e = c .before .before in
     let b = e .before .before in
-    let k = no-fault b in
+    let k = lists-accepted b in
     let curve : Curve = record { points = ps b; code = start b .args .shape; accepted = k .accepted .none-applies } in
     let range = factors-are-ranged curve _ (record { within = within e }) in
-    let factor = toZ-ofZ {w = w32} (record { sfits = c .factor-at .ok }) ∙ c .factor-at .ensures in
-    (rw (on-points k (after b), within e, factor), rw factor (range .low, range .high))
+    let fits : SFits w32 (c .factor-at .result) = record { sfits = c .factor-at .ok } in (
+      rw (on-points k (after-row-6 b), within e, toZ-ofZ fits, c .factor-at .ensures),
+      rw (toZ-ofZ fits, c .factor-at .ensures) (range .low, range .high),
+    )
 
 pub read-spec : {M : Type 1} → statement M
 read-spec =
     tie.close
-    (tie.spec (search needs) returns (λ c κs. omega (arith, no-fault c)) returns-2 find-requires factor-at-requires returns-3)
+    (tie.spec (search needs) returns (λ c κs. omega (arith, lists-accepted c)) returns-2 find-requires factor-at-requires
+    returns-3)

@@ -29,16 +29,21 @@ record Read (areas values : List ℕ) (slopes : List ℤ) (code x : ℕ) (f : �
   pub same-lengths : lengths-differ (length areas) (length values) (length slopes) ≡ false
   pub small : natAbs f ≤ 200000
 
-read-of : (areas values : List ℕ) (slopes : List ℤ) (code x : ℕ) (f : ℤ) →
-    on-lists areas values slopes (λ ps. read-answer ps code x) ≡ gives f → InRange (gives f) → Read areas values slopes code x f
+read-of-answer : (areas values : List ℕ) (slopes : List ℤ) (code x : ℕ) {a : Answer ℤ} {f : ℤ} →
+    a ≡ on-lists areas values slopes (λ ps. read-answer ps code x) →
+    InRange a →
+    a ≡ gives f →
+    Read areas values slopes code x f
 unfolding InRange
-read-of areas values slopes code x f e r =
-    let k = on-lists-gives areas values slopes (λ ps. read-answer ps code x) e in
-    record { given = given _ code x (k .result); same-lengths = k .same-lengths; small = size-between f (r .0) (r .1) }
+read-of-answer areas values slopes code x {f = f} e r g =
+    let k = on-lists-gives areas values slopes (λ ps. read-answer ps code x) (sym e ∙ g) in
+    let (low, high) = subst InRange g r in
+    record { given = given _ code x (k .result); same-lengths = k .same-lengths; small = size-between f low high }
 
 module _ {areas values : List ℕ} {slopes : List ℤ} {code x : ℕ} {f : ℤ} (k : Read areas values slopes code x f) where
-  on-points : {A : Type 0} (call : List Point → Answer A) → on-lists areas values slopes call ≡ call (points areas values slopes)
-  on-points call = on-lists-is areas values slopes call (k .same-lengths)
+  on-lists-read : {A : Type 0} (call : List Point → Answer A) →
+      on-lists areas values slopes call ≡ call (points areas values slopes)
+  on-lists-read call = on-lists-is areas values slopes call (k .same-lengths)
 
   factor-bits : toZ w32 (ofZ w32 f) ≡ f
   factor-bits = toZ-ofZ (sfits-of-size w32 f (let h = k .small in omega arith))
@@ -47,11 +52,18 @@ module _ {areas values : List ℕ} {slopes : List ℤ} {code x : ℕ} {f : ℤ} 
   difference-fits : {y : ℕ} {p : ℤ} → Read areas values slopes code y p → SFits w32 (p -ℤ f)
   difference-fits {p = p} m = sfits-of-size w32 (p -ℤ f) (omega (arith, size-- p f, k .small, m .small))
 
+-- the places: the entry, and after the form area is read
+abbrev at-read : tie.After-read → tie.Start
+at-read c = c .before .before .before
+
 abbrev start : tie.After-known-told2 → tie.Start
-start c = c .before .before .before .before .before .before
+start c = at-read (c .before .before .before)
 
 abbrev formed : tie.After-known-told4 → tie.After-known-told2
 formed c = c .before .before .before .before
+
+abbrev formed-3 : tie.After-known-told3 → tie.After-known-told2
+formed-3 c = c .before .before .before .before
 
 abbrev ReadAt : tie.Start → ℕ → ℤ → Type 0
 ReadAt s x f = Read (s .args .areas .now) (s .args .values .now) (s .args .slopes .now) (s .args .shape) x f
@@ -60,25 +72,20 @@ at-form : (c : tie.After-known-told2) → ReadAt (start c) (start c .args .form)
 unfolding reading-answer
 at-form c =
     let r = c .before .before .before .read .ensures in
-    let e = ap reading-answer (c .before .at-form2 .given .1) in
-    read-of _ _ _ _ _ _ (sym (r .0) ∙ e) (subst InRange e (r .1))
+    read-of-answer _ _ _ _ _ (r .0) (r .1) (ap reading-answer (c .before .at-form2 .given .1))
 
 at-plan : (c : tie.After-known-told4) →
     (let s = start (formed c) in ReadAt s (s .args .plan) (c .before .at-plan2 .given .0 .0))
 unfolding reading-answer
 at-plan c =
     let r = c .before .before .before .read2 .ensures in
-    let e = ap reading-answer (c .before .at-plan2 .given .1) in
-    read-of _ _ _ _ _ _ (sym (r .0) ∙ e) (subst InRange e (r .1))
+    read-of-answer _ _ _ _ _ (r .0) (r .1) (ap reading-answer (c .before .at-plan2 .given .1))
 
 -- rows that refuse the form area refuse the pair
 form-refused : (ps : List Point) (code form plan : ℕ) {n i : ℕ} → read-answer ps code form ≡ refused n i →
     pair-answer ps code form plan ≡ refused n i
 unfolding read-answer pair-answer
 form-refused ps code form plan e = refused-before (curve-rows ps code) (outside ps form) 7 (reading ps code form) _ e
-
-abbrev formed-3 : tie.After-known-told3 → tie.After-known-told2
-formed-3 c = c .before .before .before .before
 
 sub-t16 : tie.Need-sub-t16
 sub-t16 c =
@@ -89,9 +96,10 @@ sub-t16 c =
 returns : tie.Need-returns
 unfolding reading-answer factors-answer
 returns c =
-    let s = c .before .before .before .before .before .before in
-    let e = sym (c .before .before .before .read .ensures .0) ∙ ap reading-answer (c .before .at-form .given .1) in
-    sym (on-lists-refused (s .args .areas .now) (s .args .values .now) (s .args .slopes .now) _ _ (form-refused _ _ _ _) e)
+    let r = c .before .before .before in
+    let s = at-read r in
+    let e = rw (c .before .at-form .given .1) at (r .read .ensures .0) in
+    sym (on-lists-refused (s .args .areas .now) (s .args .values .now) (s .args .slopes .now) _ _ (form-refused _ _ _ _) (sym e))
 
 returns-2 : tie.Need-returns-2
 unfolding pair-answer factors-answer reading-answer row _then_
@@ -99,11 +107,11 @@ returns-2 c =
     let f = formed-3 c in
     let s = start f in
     let k = at-form f in
-    let e = sym (c .before .before .before .read2 .ensures .0) ∙ ap reading-answer (c .before .at-plan .given .1) in
-    let read = on-points k (λ ps. read-answer ps (s .args .shape) (s .args .plan)) in
-    let out = refused-outside _ _ _ (k .given .accepted) (sym read ∙ e) in
+    let e = rw (c .before .at-plan .given .1) at (c .before .before .before .read2 .ensures .0) in
+    let read = on-lists-read k (λ ps. read-answer ps (s .args .shape) (s .args .plan)) in
+    let out = refused-outside _ _ _ (k .given .accepted) (sym (e ∙ read)) in
     rw (
-      on-points k (λ ps. pair-answer ps (s .args .shape) (s .args .form) (s .args .plan)),
+      on-lists-read k (λ ps. pair-answer ps (s .args .shape) (s .args .form) (s .args .plan)),
       k .given .accepted .none-applies,
       k .given .within,
       out .1,
@@ -117,7 +125,7 @@ returns-3 c =
     let k = at-form (formed c) in
     let m = at-plan c in
     rw (
-      on-points k (λ ps. pair-answer ps (s .args .shape) (s .args .form) (s .args .plan)),
+      on-lists-read k (λ ps. pair-answer ps (s .args .shape) (s .args .form) (s .args .plan)),
       k .given .accepted .none-applies,
       k .given .within,
       m .given .within,

@@ -62,27 +62,27 @@ returns-3 c =
 
 -- rows 1 and 2 are passed
 module _ (c : tie.Else3) where
-  abbrev at-lengths : tie.Else1
-  at-lengths = c .before .before .before .before
+  abbrev alike-at : tie.Else1
+  alike-at = c .before .before .before .before
 
-  lengths : Lengths (length (start at-lengths .args .areas .now)) (length (start at-lengths .args .values .now))
-      (length (start at-lengths .args .slopes .now))
+  lengths : Lengths (length (start alike-at .args .areas .now)) (length (start alike-at .args .values .now))
+      (length (start alike-at .args .slopes .now))
   lengths =
-      let n = count-of-row-1 _ (rw (size at-lengths) at (count-passed (c .before .before))) in
-      record { alike = alike at-lengths; least = n .0; most = n .1 }
+      let n = count-of-row-1 _ (rw (size alike-at) at (count-passed (c .before .before))) in
+      record { alike = alike alike-at; least = n .0; most = n .1 }
 
-  after-code : all-rows at-lengths
-      ≡ (point-rows 0 none (ps at-lengths) then segment-rows 0 (shape-of (start at-lengths .args .shape)) (segments (ps at-lengths)))
+  after-code : all-rows alike-at
+      ≡ (point-rows 0 none (ps alike-at) then segment-rows 0 (shape-of (start alike-at .args .shape)) (segments (ps alike-at)))
   unfolding curve-rows row _then_
   after-code =
-      rw (after-lengths at-lengths, count-passed (c .before .before), sym (c .before .bad-code .ensures) ∙ c .if3 .left)
+      rw (after-lengths alike-at, count-passed (c .before .before), sym (c .before .bad-code .ensures) ∙ c .if3 .left)
 
 points-fault-requires : tie.Need-points-fault-requires
 points-fault-requires c κs = lengths c
 
 -- the points' fault is known
 after-points : (c : tie.After-points-fault) →
-    (let f = at-lengths (c .before) in
+    (let f = alike-at (c .before) in
     all-rows f
     ≡ (fault-answer (c .points-fault .result .number) (c .points-fault .result .place)
     then segment-rows 0 (shape-of (start f .args .shape)) (segments (ps f))))

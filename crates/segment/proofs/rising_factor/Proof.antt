@@ -1,7 +1,7 @@
 -- `segment::rising_factor` meets its contract.
 -- Assumes nothing.
 use borrow.Author.Needs.{needs}
-use mathlib.Core.Path.{_≡_, _∙_, ap, sym, subst⁻¹}
+use mathlib.Core.Path.{_≡_, _∙_, sym}
 use lib.IntN.{pos}
 use mir.Syntax.{w32}
 use mir.Val.{SFits}
