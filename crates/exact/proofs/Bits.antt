@@ -1,6 +1,6 @@
 -- Signed numbers in machine words: tests by their bits.
 --   lt-bits, eq-bits    a test of two words is the test of the numbers
---   toZ-ofZ-getD        an element of a list of slopes, read back
+--   toZ-ofZ-getD        an element of a list of slopes, read back; zero-fits
 -- Assumes nothing.
 use mathlib.Core.Path.{_≡_, sym, _∙_, ap}
 use mathlib.Core.List.{List}

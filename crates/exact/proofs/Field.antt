@@ -66,7 +66,7 @@ pub record Means (ρ : List ℤ) (p : Parts) (x : Fraction) : Type 0 where
   pub bottom : value (p .bottom) ρ ≡ x .den
 
 -- the value of a sum or product of normal forms, from theirs
-ruleset values = (plus-value, minus-value, times-value)
+ruleset value-laws = (plus-value, minus-value, times-value)
 
 means : {ρ : List ℤ} {x : Fraction} (r : Ratio ρ x) → Means ρ (parts r) x
 unfolding _over_ whole _+ℚ_ _-ℚ_ _*ℚ_ _/ℚ_
@@ -76,19 +76,19 @@ means (of-whole s) = record { top = normal-value s; bottom = refl }
 means (sum s t) =
     let m = means s in
     let n = means t in
-    record { top = simp (values, m .top, m .bottom, n .top, n .bottom); bottom = simp (values, m .bottom, n .bottom) }
+    record { top = simp (value-laws, m .top, m .bottom, n .top, n .bottom); bottom = simp (value-laws, m .bottom, n .bottom) }
 means (dif s t) =
     let m = means s in
     let n = means t in
-    record { top = simp (values, m .top, m .bottom, n .top, n .bottom); bottom = simp (values, m .bottom, n .bottom) }
+    record { top = simp (value-laws, m .top, m .bottom, n .top, n .bottom); bottom = simp (value-laws, m .bottom, n .bottom) }
 means (pro s t) =
     let m = means s in
     let n = means t in
-    record { top = simp (values, m .top, n .top); bottom = simp (values, m .bottom, n .bottom) }
+    record { top = simp (value-laws, m .top, n .top); bottom = simp (value-laws, m .bottom, n .bottom) }
 means (quo s t) =
     let m = means s in
     let n = means t in
-    record { top = simp (values, m .top, n .bottom); bottom = simp (values, m .bottom, n .top) }
+    record { top = simp (value-laws, m .top, n .bottom); bottom = simp (value-laws, m .bottom, n .top) }
 
 abbrev pub cross-residue : {ρ : List ℤ} {x y : Fraction} → Ratios ρ x y → Poly
 cross-residue (ratio-sides s t) = parts (dif s t) .top

@@ -2,7 +2,7 @@
 --   Quotient n d q      q·d ≤ n < (q + 1)·d: q is n / d rounded down, and nothing else is (`quotient-unique`)
 --   floorDiv-quotient   `floorDiv` gives the quotient, and nothing else does (`floorDiv-unique`)
 --   floorDiv-nested     ⌊(x + ⌊y / w⌋) / m⌋ = ⌊(x w + y) / (w m)⌋: one rounding by two divisions
---   floor-greatest      the floor is the greatest whole number not above x, so the next one is (`floor-next`)
+--   floor-greatest      the floor is the greatest whole number not above x, so the next one is (`floor-next`); floor-keeps-order
 -- Assumes nothing.
 use mathlib.Core.Path.{_≡_, sym, subst₂}
 use mathlib.Core.List.{[], _∷_}

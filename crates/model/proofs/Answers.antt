@@ -5,7 +5,7 @@
 --   on-lists-refused   calls that refuse alike on points do so on lists
 --   Given              what a factor that Read gives says; reading-given
 --   refused-outside    on an accepted curve Read refuses by row 7 only
---   refused-before     rows that refuse before a result refuse before whatever follows
+--   then-refused       rows that refuse, before whatever follows; refused-before, from before a result
 -- Assumes nothing.
 use mathlib.Core.Path.{_≡_, sym, _∙_, ap}
 use mathlib.Core.Bool.{Bool, true, false}
@@ -94,7 +94,7 @@ module _ (ps : List Point) (code x : ℕ) where
   unfolding read-answer _then_
   refused-outside k e = row-refused (outside ps x) 7 0 _ (rw (k .none-applies) at e)
 
--- rows that refuse before a result refuse before whatever follows
+-- from before a result to before whatever follows
 pub refused-before : {A B : Type 0} {n i : ℕ} (rows : Answer (Unit {0})) (b : Bool) (m : ℕ) (x : A) (rest : Answer B) →
     (rows then row b m 0 then gives x) ≡ refused n i →
     (rows then row b m 0 then rest) ≡ refused n i

@@ -1,4 +1,4 @@
--- The shape that a code stands for.
+-- The shape that a code stands for: rising-of-1, convex-of-not-1, convex-of-2.
 -- Assumes nothing.
 use mathlib.Core.Path.{_≡_}
 use Prim.Native.Nat.{ℕ}

@@ -2,6 +2,8 @@
 --   Chained G ps    the points ps, at least two, are a chain of segments with G
 --   stop-in ps x    where a walk from the left stops at x
 --   chained-at      each segment of the chain has G; stop-at, the segment that an area takes, by its index
+--   first-≤-of-row-7, ≤-last-of-row-7      an area that is not outside is from the first area to the last
+--   point-at-append, segment-at-append     what follows some points, by their number; last-area-at, the last area
 -- Assumes nothing.
 use mathlib.Core.Path.{_≡_, refl, _∙_, ap}
 use mathlib.Core.Bool.{false}

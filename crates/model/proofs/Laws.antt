@@ -155,7 +155,7 @@ rises-across : {ps : List Point} → Chained (Good rising) ps → (x y : ℕ) �
 rises-across (chained {p = p} {q = q} {ps = ps} c) x y kx ky h =
     values-rise c x y (first-≤-of-row-7 p (q ∷ ps) x kx) h (≤-last-of-row-7 p (q ∷ ps) y ky)
 
-pub rising-values : (c : Curve) → c .code ≡ 1 → (x y : ℕ) → Area c x → Area c y → x ≤ y → exact c x ≤ℚ exact c y
+rising-values : (c : Curve) → c .code ≡ 1 → (x y : ℕ) → Area c x → Area c y → x ≤ y → exact c x ≤ℚ exact c y
 rising-values c e x y kx ky h =
     subst₂ (λ (v w : Fraction). v ≤ℚ w) (sym (value-as c (rising-of-1 e) x)) (sym (value-as c (rising-of-1 e) y))
     (rises-across (chained-as c (rising-of-1 e)) x y (kx .within) (ky .within) h)

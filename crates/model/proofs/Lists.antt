@@ -2,7 +2,7 @@
 --   Fields          the three lists that the fields of some points make
 --   fields-of       the points of three lists that are equally long have these fields
 --   fields-length   as many points as areas; fields-at, the point at an index
---   points-of-fields    the points of the lists of some points are these
+--   points-of-fields    the points of the lists of some points are these; same-lengths-of, which are equally long
 -- Assumes nothing.
 use mathlib.Core.Path.{_≡_, refl, sym, _∙_, ap}
 use mathlib.Core.Bool.{false}

@@ -1,6 +1,6 @@
 -- Row 7 by the first and the last area of a curve.
 --   first, last                  the first and the last of a list of areas
---   outside-of                   row 7 of points that have these areas
+--   outside-of                   row 7 of points that have these areas, as flat-points have
 --   not-before, not-beyond       what holds of an area that is not outside
 --   inside-of-both, outside-of-beyond    and back
 -- Assumes nothing.

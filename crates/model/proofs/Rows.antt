@@ -1,10 +1,11 @@
 -- What rows that refuse nothing say.
+--   gives-injective           a result is one; refused≢gives, and no refusal
 --   then-first, then-rest     the parts of `first then rest` that gives a result
 --   row-passed                a row before a result does not apply
 --   row-refused               where it refuses, it does so by its own number
 --   alike-of-row-1            the three lists are equally long
 --   count-of-row-1            2 to 64 points
---   Passed                    rows 3 to 5 at one point, and the rows of the points after it
+--   Passed, passed            rows 3 to 5 at one point, and the rows of the points after it
 --   neighbours                two points that pass rows 3 to 5
 -- Assumes nothing.
 use mathlib.Core.Path.{_≡_, refl, sym}

@@ -1,5 +1,5 @@
--- The third demand: a factor read, whichever call gives it, is the reading at an area of the curve; the laws of the reading do
--- the rest.
+-- The third demand: a factor read, whichever call gives it, is the reading at an area of the curve (`reads`); the laws of the
+-- reading do the rest (`third-demand`). Lists that Check accepts are a curve (`check-accepts`).
 -- Assumes nothing.
 use Prim.Native.Nat.{ℕ, _*_, _<_, zero-le}
 use mathlib.Core.Path.{_≡_, refl, sym, _∙_, ap, subst}

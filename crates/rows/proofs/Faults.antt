@@ -1,6 +1,7 @@
 -- Laws of rows 1 to 6, for the functions that try them.
 --   no-fault, a-fault           the answer of a fault
 --   passes, fault-then          what comes after it decides, or nothing does
+--   limits-of-no-fault          a point without a fault keeps its limits; earlier-of-next, the area before the next
 --   points-from, segments-from  the rows from an index on; point-turn, segment-turn, one turn of a loop over them
 -- Assumes nothing.
 use mathlib.Core.Path.{_≡_, refl, sym, _∙_}

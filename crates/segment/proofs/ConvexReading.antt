@@ -92,10 +92,10 @@ module _ {s : Segment} {x : ℕ} (i : Inside (Good convex) s x) where
   abbrev raised-tangent : ℕ
   raised-tangent = 50 * (2 * s .left .value + 1) + raised-slope s * t s x
 
-  abbrev Reads : Type 0
-  Reads = round (interpolant convex s x) ≡ floorDiv (pos (raised-at s x) -ℤ pos (slope-most * t s x)) 100
+  abbrev ReadingIs : Type 0
+  ReadingIs = round (interpolant convex s x) ≡ floorDiv (pos (raised-at s x) -ℤ pos (slope-most * t s x)) 100
 
-  convex-facts : a s ≡ pos (above s) → b s ≡ pos (below s) → Reads → Convex s x
+  convex-facts : a s ≡ pos (above s) → b s ≡ pos (below s) → ReadingIs → Convex s x
   convex-facts above-is below-is reads =
       let n = i .good .ends in
       record {
@@ -132,7 +132,7 @@ module _ {s : Segment} {x : ℕ} (i : Inside (Good convex) s x) where
           same = Q.≈-trans (search propers) (rw (from-left i) at (straight-closed .same)) (search congruence);
         }
 
-    straight-reads : Reads
+    straight-reads : ReadingIs
     straight-reads =
         rw (ap natAbs (below-zero s low)) (simp (zero-mul, zero-div)
         (round-lowered raised-tangent (slope-most * t s x) 0 {w = 1} along-slope (search positivity) (lit< tt) (lit< tt)
@@ -181,7 +181,7 @@ module _ {s : Segment} {x : ℕ} (i : Inside (Good convex) s x) where
     divisor-positive : 0 < divisor
     divisor-positive = Z.<-of-pos-< (rw W-is at (W-positive bending (distance-in i)))
 
-    bent-reads : Reads
+    bent-reads : ReadingIs
     bent-reads =
         let k : 0 < h s = (let o = i .good .ends .ordered in omega arith) in
         let h-pos : pos 0 <ℤ pos (h s) = Z.pos-<-of-< k in

@@ -99,8 +99,8 @@ module _ {t u h left d a b : ℕ} (k : ConvexInput t u h left d a b) where
   abbrev w : ℕ
   w = b * t
 
-  abbrev W : ℕ
-  W = a * u + b * t
+  abbrev divisor : ℕ
+  divisor = a * u + b * t
 
   h-size : h ≤ gap-most
   h-size = let m = k .distances .most in let e = k .sum in omega arith
@@ -114,23 +114,24 @@ module _ {t u h left d a b : ℕ} (k : ConvexInput t u h left d a b) where
       let m = k .distances .most in
       omega (arith, mul-le-mul {m₁ = t} {m₂ = gap-most} (k .slope) (omega arith))
 
-  pub divisor-size : W ≤ gap-most * (2 * over-most)
+  pub divisor-size : divisor ≤ gap-most * (2 * over-most)
   divisor-size = blend-size u t (let m = k .distances .most in omega arith) (k .above) (k .below)
 
-  pub denominator-size : W * h ≤ gap-most * (2 * over-most) * gap-most
+  pub denominator-size : divisor * h ≤ gap-most * (2 * over-most) * gap-most
   denominator-size = mul-le-mul divisor-size h-size
 
-  pub excess-size : w * w / (W * h) ≤ w
+  pub excess-size : w * w / (divisor * h) ≤ w
   excess-size =
-      let n = le-mul-of-pos-right W h-positive in
-      scaled-size {x = w} {c = W * h} w (omega arith)
+      let n = le-mul-of-pos-right divisor h-positive in
+      scaled-size {x = w} {c = divisor * h} w (omega arith)
 
-  pub least-near : 2 ^ 32 ≤ w → OneLow (w * w / (W * h)) (w / 32 * (w / 32) / (W * h / 1024 + 1))
+  pub least-near : 2 ^ 32 ≤ w → OneLow (w * w / (divisor * h)) (w / 32 * (w / 32) / (divisor * h / 1024 + 1))
   least-near n =
       let long = mul-le-mul-right t (k .below) in
       let m = k .sum in
-      leading w (w / 32) (W * h / 1024 + 1) (W * h) (omega arith) (omega arith) (omega arith) (omega arith) (omega arith)
-      (mul-le-mul {n₁ = w} {m₁ = 100} {n₂ = W} {m₂ = h} (omega arith) (omega arith))
+      leading w (w / 32) (divisor * h / 1024 + 1) (divisor * h)
+      (omega arith) (omega arith) (omega arith) (omega arith) (omega arith)
+      (mul-le-mul {n₁ = w} {m₁ = 100} {n₂ = divisor} {m₂ = h} (omega arith) (omega arith))
 
   pub raised-size : raised t u h left d a b ≤ 2 ^ 37
   raised-size = omega (arith, tangent-size, divisor-size, excess-size)

@@ -49,15 +49,15 @@ loop-holds c =
 
 -- the next entry
 module _ (c : tie.In-loop Inv-loop μ-loop) where
-  abbrev begin : tie.Start Inv-loop μ-loop
-  begin = c .before .before .before .before
+  abbrev entry : tie.Start Inv-loop μ-loop
+  entry = c .before .before .before .before
 
-  index-below : c .before .loop .index < length (begin .args .out .now)
+  index-below : c .before .loop .index < length (entry .args .out .now)
   index-below = omega (arith, c .before .loop .inv .filling .size, c .loop-test .taken)
 
 area-of-requires : tie.Need-area-of-requires Inv-loop μ-loop
 area-of-requires c κs =
-    area-limit (begin c .pre .accepted) _ (begin c .pre .inside (c .before .loop .index) (index-below c))
+    area-limit (entry c .pre .accepted) _ (entry c .pre .inside (c .before .loop .index) (index-below c))
 
 find-requires : tie.Need-find-requires Inv-loop μ-loop
 find-requires c κs = rw (c .area-of .ensures) (c .before .before .loop .inv .reached)
@@ -66,7 +66,7 @@ fill-segment-requires : tie.Need-fill-segment-requires Inv-loop μ-loop
 fill-segment-requires c κs =
     let a = c .before .before in
     rw (a .before .before .loop .inv .filling .size) (record {
-      entries = begin (a .before) .pre;
+      entries = entry (a .before) .pre;
       left = index-below (a .before);
       taken = rw (a .area-of .ensures) at (c .before .find .ensures);
     })
@@ -77,7 +77,7 @@ area-known c = c .before .before .before
 loop-again : tie.Need-loop-again Inv-loop μ-loop
 loop-again c =
     let a = area-known (c .before) in
-    let s = begin (a .before) in
+    let s = entry (a .before) in
     let k = a .before .before .loop .inv in
     let n = c .before .fill-segment .ensures in
     let found = rw (a .area-of .ensures) at (c .before .before .before .find .ensures .reached) in

@@ -61,29 +61,29 @@ module _ (c : tie.After-point-at2 Inv-loop μ-loop) where
   abbrev ps : List Point
   ps = points (start .args .areas .now) (start .args .values .now) (start .args .slopes .now)
 
-  ends : segment-of (c .before .point-at .result) (c .point-at2 .result) ≡ segment-at ps (start .args .k)
-  ends = rw (c .before .point-at .ensures, c .point-at2 .ensures, add-one)
+  segment-is : segment-of (c .before .point-at .result) (c .point-at2 .result) ≡ segment-at ps (start .args .k)
+  segment-is = rw (c .before .point-at .ensures, c .point-at2 .ensures, add-one)
 
 loop-holds : tie.Need-loop-holds Inv-loop μ-loop
 loop-holds c = record { least = le-refl _; most = le-of-lt (start c .pre .left); size = refl; filled = λ found k. k }
 
 -- the entry in a turn
 module _ (c : tie.In-loop Inv-loop μ-loop) where
-  abbrev begin : tie.After-point-at2 Inv-loop μ-loop
-  begin = c .before .before
+  abbrev at-points : tie.After-point-at2 Inv-loop μ-loop
+  at-points = c .before .before
 
-  i-below : c .before .loop .i < length (start begin .args .out .now)
+  i-below : c .before .loop .i < length (start at-points .args .out .now)
   i-below = omega (arith, c .before .loop .inv .size, c .loop-test .taken)
 
-  within : outside (ps begin) (entry-area (start begin .args .start) (start begin .args .step) (c .before .loop .i)) ≡ false
-  within = start begin .pre .entries .inside (c .before .loop .i) i-below
+  within : outside (ps at-points) (entry-area (start at-points .args .start) (start at-points .args .step) (c .before .loop .i)) ≡ false
+  within = start at-points .pre .entries .inside (c .before .loop .i) i-below
 
 area-of-requires : tie.Need-area-of-requires Inv-loop μ-loop
-area-of-requires c κs = area-limit (start (begin c) .pre .entries .accepted) _ (within c)
+area-of-requires c κs = area-limit (start (at-points c) .pre .entries .accepted) _ (within c)
 
 takes-requires : tie.Need-takes-requires Inv-loop μ-loop
 takes-requires c κs =
-    let s = start (begin (c .before)) in
+    let s = start (at-points (c .before)) in
     rw (c .area-of .ensures)
     (reached-later (s .args .start) (s .args .step) (c .before .before .loop .inv .least) (s .pre .taken .reached))
 
@@ -91,7 +91,7 @@ takes-requires c κs =
 returns : tie.Need-returns Inv-loop μ-loop
 returns c =
     let a = c .before .before in
-    let s = start (begin (a .before)) in
+    let s = start (at-points (a .before)) in
     let k = a .before .before .loop .inv in
     let next = rw (a .area-of .ensures) at (c .before .takes .ensures .no (not-true _ (c .if1 .taken))) in
     record {
@@ -102,11 +102,11 @@ returns c =
 
 -- it takes the segment
 readable : (c : tie.Else1 Inv-loop μ-loop) →
-    (let b = begin (c .before .before .before) in
+    (let b = at-points (c .before .before .before) in
     Readable (ps b) (start b .args .shape) (start b .args .k) (c .before .before .area-of .result))
 readable c =
     let a = c .before .before in
-    let s = start (begin (a .before)) in
+    let s = start (at-points (a .before)) in
     let fields = fields-of (s .args .areas .now) (s .args .values .now) (s .args .slopes .now) (s .pre .entries .alike) in
     record {
       accepted = s .pre .entries .accepted;
@@ -115,29 +115,29 @@ readable c =
     }
 
 factor-requires : tie.Need-factor-requires Inv-loop μ-loop
-factor-requires c κs = rw (ends (begin (c .before .before .before))) (inside (readable c))
+factor-requires c κs = rw (segment-is (at-points (c .before .before .before))) (inside (readable c))
 
 -- what is written is the reading
-abbrev turn : tie.After-factor Inv-loop μ-loop → tie.In-loop Inv-loop μ-loop
-turn c = c .before .before .before .before
+abbrev at-turn : tie.After-factor Inv-loop μ-loop → tie.In-loop Inv-loop μ-loop
+at-turn c = c .before .before .before .before
 
 written-is : (c : tie.After-factor Inv-loop μ-loop) →
-    (let b = begin (turn c) in
+    (let b = at-points (at-turn c) in
     let s = start b in
     toZ w32 (ofZ w32 (c .factor .result))
-    ≡ reading (ps b) (s .args .shape) (entry-area (s .args .start) (s .args .step) (turn c .before .loop .i)))
+    ≡ reading (ps b) (s .args .shape) (entry-area (s .args .start) (s .args .step) (at-turn c .before .loop .i)))
 written-is c =
     let a = c .before .before .before in
-    let b = begin (turn c) in
+    let b = at-points (at-turn c) in
     toZ-ofZ (record { sfits = c .factor .ok }) ∙ c .factor .ensures
-    ∙ rw (ends b) (sym (reading-is (readable (c .before)))) ∙ ap (reading (ps b) _) (a .area-of .ensures)
+    ∙ rw (segment-is b) (sym (reading-is (readable (c .before)))) ∙ ap (reading (ps b) _) (a .area-of .ensures)
 
 loop-again : tie.Need-loop-again Inv-loop μ-loop
 loop-again c =
-    let b = begin (turn c) in
+    let b = at-points (at-turn c) in
     let s = start b in
-    let k = turn c .before .loop .inv in
-    let h = i-below (turn c) in
+    let k = at-turn c .before .loop .inv in
+    let h = i-below (at-turn c) in
     let f : ℕ → ℤ = λ j. reading (ps b) (s .args .shape) (entry-area (s .args .start) (s .args .step) j) in
     record {
       least = (let l = k .least in omega arith);
@@ -159,6 +159,6 @@ fill-segment-spec =
     tie.close
     (tie.spec Inv-loop μ-loop point-at-requires add-point-at point-at-requires-2 loop-holds area-of-requires takes-requires
     (λ c. c .before .before .before .before .loop .inv .size) returns factor-requires
-    (λ c. omega (arith, i-below (turn c), start (begin (turn c)) .good)) (λ c. turn c .loop-test .taken)
-    (λ c. omega (arith, i-below (turn c), start (begin (turn c)) .good)) (λ c. omega (arith, i-below (turn c)))
+    (λ c. omega (arith, i-below (at-turn c), start (at-points (at-turn c)) .good)) (λ c. at-turn c .loop-test .taken)
+    (λ c. omega (arith, i-below (at-turn c), start (at-points (at-turn c)) .good)) (λ c. omega (arith, i-below (at-turn c)))
     loop-again (λ c. c .before .loop .inv .size) returns-2)

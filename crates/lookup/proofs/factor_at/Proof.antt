@@ -42,16 +42,16 @@ module _ (c : tie.After-point-at2) where
   abbrev ps : List Point
   ps = points (start .args .areas .now) (start .args .values .now) (start .args .slopes .now)
 
-  ends : segment-of (c .before .point-at .result) (c .point-at2 .result) ≡ segment-at ps (start .args .i)
-  ends = rw (c .before .point-at .ensures, c .point-at2 .ensures, add-one)
+  segment-is : segment-of (c .before .point-at .result) (c .point-at2 .result) ≡ segment-at ps (start .args .i)
+  segment-is = rw (c .before .point-at .ensures, c .point-at2 .ensures, add-one)
 
 factor-requires : tie.Need-factor-requires
-factor-requires c κs = rw (ends c) (inside (start c .pre .1))
+factor-requires c κs = rw (segment-is c) (inside (start c .pre .1))
 
 returns : tie.Need-returns
 returns c =
     let b = c .before in
-    toZ-ofZ (record { sfits = c .factor .ok }) ∙ c .factor .ensures ∙ rw (ends b) (sym (reading-is (start b .pre .1)))
+    toZ-ofZ (record { sfits = c .factor .ok }) ∙ c .factor .ensures ∙ rw (segment-is b) (sym (reading-is (start b .pre .1)))
 
 pub factor-at-spec : {M : Type 1} → statement M
 factor-at-spec = tie.close (tie.spec point-at-requires add-point-at point-at-requires-2 factor-requires returns)
