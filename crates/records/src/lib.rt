@@ -1,9 +1,9 @@
 // Rows 1 to 7 and the reading, of the points of a curve file where they stand.
 ghost use mathlib.Core.Path.{_≡_};
-ghost use mathlib.Core.Bool.{true};
+ghost use mathlib.Core.Bool.{true, false};
 ghost use mathlib.Core.List.{map, _++_};
 ghost use lib.ListN.{length, drop};
-ghost use Rattle.model.specs.Check.{curve-rows, Accepted};
+ghost use Rattle.model.specs.Check.{bad-code, curve-rows, Accepted};
 ghost use Rattle.model.specs.Read.{outside as lies-outside, reading, read-answer};
 ghost use Rattle.model.specs.Inner.{fault-answer, areas-of, Taken, Readable};
 ghost use Rattle.curve.specs.Calls.{reading-answer};
@@ -16,22 +16,19 @@ use layout::record_at;
 use rows::Fault;
 use rows::POINTS_MOST;
 
-// Rows 2 to 6 in one pass. Where it finds a fault it does not say which.
+// Rows 3 to 6 in one pass. Where it finds a fault it does not say which.
 fn all_pass(bytes: &[u8], n: usize, shape: u32) -> bool
-    requires { ⌜ CurvePoints n (length (now bytes)) ⌝ }
+    requires { ⌜ CurvePoints n (length (now bytes)) × (bad-code shape ≡ false) ⌝ }
     ensures { λ r. ⌜ (r ≡ true → Accepted (first-points (now (bytes .entry)) n) shape) ⌝ }
 {
-    if rows::bad_code(shape) {
-        return false;
-    }
-    let mut p = record_at(bytes, 0);
-    if point::point_fault(true, 0, p) != 0 {
+    if point::point_fault(true, 0, record_at(bytes, 0)) != 0 {
         return false;
     }
     let last = n - 1;
     let mut left: usize = 0;
     while left < last {
         let right = left + 1;
+        let p = record_at(bytes, left);
         let q = record_at(bytes, right);
         if point::point_fault(false, p.area, q) != 0 {
             return false;
@@ -39,7 +36,6 @@ fn all_pass(bytes: &[u8], n: usize, shape: u32) -> bool
         if !segment::has_shape(shape, p, q) {
             return false;
         }
-        p = q;
         left = right;
     }
     true
@@ -86,6 +82,12 @@ pub fn curve_fault(bytes: &[u8], n: usize, shape: u32) -> Fault
     if rows::bad_count(n) {
         return Fault {
             number: 1,
+            place: 0,
+        };
+    }
+    if rows::bad_code(shape) {
+        return Fault {
+            number: 2,
             place: 0,
         };
     }

@@ -26,10 +26,20 @@ counted c =
     record { file = c .before .before .before .pre; least = k .0; most = k .1 }
 
 returns-2 : tie.Need-returns-2
-returns-2 c = no-fault 0 refl ∙ sym (c .before .all-pass .ensures (c .if2 .taken) .none-applies)
+unfolding curve-rows fault-answer row _then_
+returns-2 c =
+    let b = c .before .before in
+    let k = b .before .before .before .args in
+    rw (size-of-first (k .bytes .now) (k .n), sym (b .before .bad-count .ensures) ∙ b .if1 .left, sym (c .before .bad-code .ensures) ∙ c .if2 .taken)
+
+all-pass-requires : tie.Need-all-pass-requires
+all-pass-requires c κs = (counted (c .before .before), sym (c .before .bad-code .ensures) ∙ c .if2 .left)
+
+returns-3 : tie.Need-returns-3
+returns-3 c = no-fault 0 refl ∙ sym (c .before .all-pass .ensures (c .if3 .taken) .none-applies)
 
 pub curve-fault-spec : {M : Type 1} → statement M
 curve-fault-spec =
     tie.close
-    (tie.spec (search needs) returns (λ c κs. counted c) returns-2 (λ c κs. counted (c .before .before))
-    (λ c. c .listed-fault .ensures))
+    (tie.spec (search needs) returns (search needs) returns-2 all-pass-requires returns-3
+    (λ c κs. counted (c .before .before .before .before)) (λ c. c .listed-fault .ensures))
