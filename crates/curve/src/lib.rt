@@ -5,7 +5,7 @@ ghost use Rattle.model.specs.Points.{points};
 ghost use Rattle.model.specs.Check.{check-answer, on-lists};
 ghost use Rattle.model.specs.Read.{read-answer};
 ghost use Rattle.model.specs.Sheet.{sheet-answer, sheet-list};
-ghost use Rattle.curve.specs.Calls.{checked-answer, reading-answer, filled-answer, Ranged};
+ghost use Rattle.curve.specs.Calls.{checked-answer, reading-answer, filled-answer, InRange};
 
 // What Check answers: the number of segments, or a refusal's number and place.
 pub enum Checked {
@@ -33,7 +33,7 @@ pub enum Reading {
 pub fn read(areas: &[u32], values: &[u32], slopes: &[i32], shape: u32, area: u32) -> Reading
     ensures answer { λ r. ⌜ reading-answer r
         ≡ on-lists (now (areas .entry)) (now (values .entry)) (now (slopes .entry)) (λ ps. read-answer ps shape area) ⌝ }
-    ensures range { λ r. ⌜ Ranged (reading-answer r) ⌝ }
+    ensures range { λ r. ⌜ InRange (reading-answer r) ⌝ }
 {
     let fault = rows::curve_fault(areas, values, slopes, shape);
     if fault.number != 0 {

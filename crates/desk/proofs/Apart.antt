@@ -31,7 +31,7 @@ below-by : (number : ℕ) → negℤ (pos 1000001) -ℤ (negℤ (pos 1000000) -�
 below-by number = ring (pos number ∷ []) (search terms depth 20 fits 9999) tt
 
 refusal-is-low : {number : ℕ} → 1 ≤ number → (negℤ (pos 1000000) -ℤ pos number) ≤ℤ negℤ (pos 1000001)
-refusal-is-low {number} h = Z.≤-by (pos number -ℤ pos 1) (below-by number) (Z.≤-difference (Z.pos-≤ h))
+refusal-is-low {number} h = Z.≤-by (pos number -ℤ pos 1) (below-by number) (Z.nonneg-difference (Z.pos-≤-of-≤ h))
 
 by-cases : (a : Answer ℤ) → Numbered a → ((factor : ℤ) → a ≡ gives factor → negℤ (pos 200000) ≤ℤ factor) → Apart a
 unfolding Apart desk-number

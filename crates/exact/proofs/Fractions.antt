@@ -1,18 +1,24 @@
--- Laws of fractions. An inequality is a certificate: the difference of its sides equals, by the field tactic, what is not negative.
+-- Laws of fractions.
+--   NonNeg x, Positive x   for a proper x: it is not negative, above 0
+--   propers, positivity    what `search` goes by for `Proper`, and for all three
+--   ≤-by, <-by             the certificate: y − x is, by the field tactic, a c that is not negative (above 0)
+--   ≈-.., ≤-.., <-..       the same number, and the order
+--   ≤-of-leℚ, ..           from the tests to the comparisons, and back
 -- Assumes nothing.
-use mathlib.Core.Path.{_≡_, refl, sym, _∙_, subst, subst⁻¹}
-use mathlib.Core.Bool.{Bool, true, false}
-use mathlib.Core.List.{[], _∷_}
+use mathlib.Core.Path.{_≡_, refl, sym, subst}
+use mathlib.Core.Bool.{true, false}
+use mathlib.Core.List.{[]}
 use mathlib.Core.Logic.{_⊎_, inl, inr}
 use lib.Dec.{T}
-use lib.IntN.{ℤ, pos, _-ℤ_, _*ℤ_}
-use lib.Signed.{_≤ℤ_, _<ℤ_}
-use Rattle.exact.specs.Fraction.{Fraction, Proper, _over_, whole, _+ℚ_, _-ℚ_, _*ℚ_, _/ℚ_, _≈ℚ_, _≤ℚ_, _<ℚ_, leℚ, ltℚ, eqℚ}
-use Rattle.exact.proofs.Poly.{and-left, and-right}
-use Rattle.exact.proofs.Ring.{ring, terms, combined}
+use lib.IntN.{ℤ, pos, _-ℤ_, _*ℤ_, zero-*ℤ}
+use lib.Signed.{_≤ℤ_, _<ℤ_, clashℤ}
+use Rattle.exact.specs.Fraction.{Fraction, Proper, _over_, whole, _+ℚ_, _-ℚ_, _*ℚ_, _/ℚ_, _≈ℚ_, _≤ℚ_, _<ℚ_}
+use Rattle.exact.specs.Fraction.{leℚ, ltℚ, eqℚ}
+use Rattle.exact.proofs.Tests.{true-or-false, T-true, and-left, and-right}
+use Rattle.exact.proofs.Ring.{ring, terms, ≡-of-combination}
 use Rattle.exact.proofs.Order as Z
 use Rattle.exact.proofs.Order.{signs}
-use Rattle.exact.proofs.Field.{field, ratios}
+use Rattle.exact.proofs.Field.{field, ratios, _∷ℚ_}
 
 -- ---- signs, for `search`
 
@@ -22,8 +28,8 @@ pub record NonNeg (x : Fraction) : Type 0 where
 pub record Positive (x : Fraction) : Type 0 where
   pub sign : pos 0 <ℤ x .num
 
-pub positive-nonneg : {x : Fraction} → Positive x → NonNeg x
-positive-nonneg h = record { sign = Z.<-weak (h .sign) }
+pub nonneg-of-positive : {x : Fraction} → Positive x → NonNeg x
+nonneg-of-positive h = record { sign = Z.≤-of-< (h .sign) }
 
 pub proper-over : (a b : ℤ) → pos 0 <ℤ b → Proper (a over b)
 unfolding _over_
@@ -68,12 +74,12 @@ positive-whole a h = record { sign = h }
 pub nonneg-+ : {x y : Fraction} → Proper x → Proper y → NonNeg x → NonNeg y → NonNeg (x +ℚ y)
 unfolding _+ℚ_
 nonneg-+ px py h k =
-    record { sign = Z.nonneg-+ (Z.nonneg-* (h .sign) (Z.<-weak (py .above-0))) (Z.nonneg-* (k .sign) (Z.<-weak (px .above-0))) }
+    record { sign = Z.nonneg-+ (Z.nonneg-* (h .sign) (Z.≤-of-< (py .above-0))) (Z.nonneg-* (k .sign) (Z.≤-of-< (px .above-0))) }
 
 pub positive-+ : {x y : Fraction} → Proper x → Proper y → Positive x → NonNeg y → Positive (x +ℚ y)
 unfolding _+ℚ_
 positive-+ px py h k =
-    record { sign = Z.positive-+ (Z.positive-* (h .sign) (py .above-0)) (Z.nonneg-* (k .sign) (Z.<-weak (px .above-0))) }
+    record { sign = Z.positive-+ (Z.positive-* (h .sign) (py .above-0)) (Z.nonneg-* (k .sign) (Z.≤-of-< (px .above-0))) }
 
 pub nonneg-* : {x y : Fraction} → NonNeg x → NonNeg y → NonNeg (x *ℚ y)
 unfolding _*ℚ_
@@ -85,7 +91,7 @@ positive-* h k = record { sign = Z.positive-* (h .sign) (k .sign) }
 
 pub nonneg-/ : {x y : Fraction} → NonNeg x → Proper y → NonNeg (x /ℚ y)
 unfolding _/ℚ_
-nonneg-/ h k = record { sign = Z.nonneg-* (h .sign) (Z.<-weak (k .above-0)) }
+nonneg-/ h k = record { sign = Z.nonneg-* (h .sign) (Z.≤-of-< (k .above-0)) }
 
 pub positive-/ : {x y : Fraction} → Positive x → Proper y → Positive (x /ℚ y)
 unfolding _/ℚ_
@@ -93,15 +99,19 @@ positive-/ h k = record { sign = Z.positive-* (h .sign) (k .above-0) }
 
 pub nonneg-difference : {x y : Fraction} → x ≤ℚ y → NonNeg (y -ℚ x)
 unfolding _-ℚ_
-nonneg-difference h = record { sign = Z.≤-difference (h .cross) }
+nonneg-difference h = record { sign = Z.nonneg-difference (h .cross) }
 
 pub positive-difference : {x y : Fraction} → x <ℚ y → Positive (y -ℚ x)
 unfolding _-ℚ_
-positive-difference h = record { sign = Z.<-difference (h .cross) }
+positive-difference h = record { sign = Z.positive-difference (h .cross) }
 
 pub ruleset propers = (proper-over, proper-whole, proper-+, proper--, proper-*, proper-/)
 
-pub ruleset positivity = (propers, signs, positive-nonneg, nonneg-over, positive-over, nonneg-whole, positive-whole, nonneg-+, positive-+, nonneg-*, positive-*, nonneg-/, positive-/, nonneg-difference, positive-difference)
+pub ruleset nonnegs = (nonneg-of-positive, nonneg-over, nonneg-whole, nonneg-+, nonneg-*, nonneg-/, nonneg-difference)
+
+pub ruleset positives = (positive-over, positive-whole, positive-+, positive-*, positive-/, positive-difference)
+
+pub ruleset positivity = (propers, signs, nonnegs, positives)
 
 -- ---- the same number
 
@@ -115,40 +125,50 @@ pub ≈-of-≡ : {x y : Fraction} → x ≡ y → x ≈ℚ y
 ≈-of-≡ {x} e = subst (λ z. x ≈ℚ z) e (≈-refl x)
 
 pub ≈-trans : {x y z : Fraction} → Proper y → x ≈ℚ y → y ≈ℚ z → x ≈ℚ z
-≈-trans {x} {y} {z} py h k =
-    record {
-      cross = Z.≡-cancel (py .above-0) (combined (x .num *ℤ z .den *ℤ y .den) (z .num *ℤ x .den *ℤ y .den) (x .num *ℤ y .den) (y .num *ℤ x .den) (y .num *ℤ z .den) (z .num *ℤ y .den) (z .den) (x .den) (h .cross) (k .cross)
-          (ring (x .num ∷ x .den ∷ y .num ∷ y .den ∷ z .num ∷ z .den ∷ []) (search terms depth 20 fits 9999) tt));
-    }
+≈-trans {x} {y} {z} py h k = record {
+  cross = Z.≡-cancel (py .above-0)
+      (≡-of-combination (z .den) (x .den) (h .cross) (k .cross)
+      (ring (x ∷ℚ y ∷ℚ z ∷ℚ []) (search terms depth 20 fits 9999) tt));
+}
 
 module _ {x x' y y' : Fraction} (h : x ≈ℚ x') (k : y ≈ℚ y') where
   pub ≈-+ : x +ℚ y ≈ℚ x' +ℚ y'
   unfolding _+ℚ_
   ≈-+ = record {
-    cross = combined _ _ _ _ _ _ (y .den *ℤ y' .den) (x .den *ℤ x' .den) (h .cross) (k .cross)
-        (ring (x .num ∷ x .den ∷ y .num ∷ y .den ∷ x' .num ∷ x' .den ∷ y' .num ∷ y' .den ∷ []) (search terms depth 20 fits 9999) tt);
+    cross = ≡-of-combination (y .den *ℤ y' .den) (x .den *ℤ x' .den) (h .cross) (k .cross)
+        (ring (x ∷ℚ y ∷ℚ x' ∷ℚ y' ∷ℚ []) (search terms depth 20 fits 9999) tt);
   }
 
   pub ≈-- : x -ℚ y ≈ℚ x' -ℚ y'
   unfolding _-ℚ_
   ≈-- = record {
-    cross = combined _ _ _ _ _ _ (y .den *ℤ y' .den) (pos 0 -ℤ x .den *ℤ x' .den) (h .cross) (k .cross)
-        (ring (x .num ∷ x .den ∷ y .num ∷ y .den ∷ x' .num ∷ x' .den ∷ y' .num ∷ y' .den ∷ []) (search terms depth 20 fits 9999) tt);
+    cross = ≡-of-combination (y .den *ℤ y' .den) (pos 0 -ℤ x .den *ℤ x' .den) (h .cross) (k .cross)
+        (ring (x ∷ℚ y ∷ℚ x' ∷ℚ y' ∷ℚ []) (search terms depth 20 fits 9999) tt);
   }
 
   pub ≈-* : x *ℚ y ≈ℚ x' *ℚ y'
   unfolding _*ℚ_
   ≈-* = record {
-    cross = combined _ _ _ _ _ _ (y .num *ℤ y' .den) (x' .num *ℤ x .den) (h .cross) (k .cross)
-        (ring (x .num ∷ x .den ∷ y .num ∷ y .den ∷ x' .num ∷ x' .den ∷ y' .num ∷ y' .den ∷ []) (search terms depth 20 fits 9999) tt);
+    cross = ≡-of-combination (y .num *ℤ y' .den) (x' .num *ℤ x .den) (h .cross) (k .cross)
+        (ring (x ∷ℚ y ∷ℚ x' ∷ℚ y' ∷ℚ []) (search terms depth 20 fits 9999) tt);
   }
 
   pub ≈-/ : x /ℚ y ≈ℚ x' /ℚ y'
   unfolding _/ℚ_
   ≈-/ = record {
-    cross = combined _ _ _ _ _ _ (y .den *ℤ y' .num) (pos 0 -ℤ x' .num *ℤ x .den) (h .cross) (k .cross)
-        (ring (x .num ∷ x .den ∷ y .num ∷ y .den ∷ x' .num ∷ x' .den ∷ y' .num ∷ y' .den ∷ []) (search terms depth 20 fits 9999) tt);
+    cross = ≡-of-combination (y .den *ℤ y' .num) (pos 0 -ℤ x' .num *ℤ x .den) (h .cross) (k .cross)
+        (ring (x ∷ℚ y ∷ℚ x' ∷ℚ y' ∷ℚ []) (search terms depth 20 fits 9999) tt);
   }
+
+-- an equal fraction has the same sign
+module _ {x y : Fraction} (px : Proper x) (py : Proper y) (e : x ≈ℚ y) where
+  pub nonneg-≈ : NonNeg y → NonNeg x
+  nonneg-≈ h =
+      record { sign = Z.≤-cancel (py .above-0) (rw (zero-*ℤ, e .cross) (Z.nonneg-* (h .sign) (Z.≤-of-< (px .above-0)))) }
+
+  pub positive-≈ : Positive y → Positive x
+  positive-≈ h =
+      record { sign = Z.<-cancel (Z.≤-of-< (py .above-0)) (rw (zero-*ℤ, e .cross) (Z.positive-* (h .sign) (px .above-0))) }
 
 -- ---- order
 
@@ -158,101 +178,72 @@ pub ≤-of-≈ : {x y : Fraction} → x ≈ℚ y → x ≤ℚ y
 pub ≤-antisym : {x y : Fraction} → x ≤ℚ y → y ≤ℚ x → x ≈ℚ y
 ≤-antisym h k = record { cross = Z.≤-antisym (h .cross) (k .cross) }
 
-pub <-weak : {x y : Fraction} → x <ℚ y → x ≤ℚ y
-<-weak h = record { cross = Z.<-weak (h .cross) }
+pub ≤-of-< : {x y : Fraction} → x <ℚ y → x ≤ℚ y
+≤-of-< h = record { cross = Z.≤-of-< (h .cross) }
 
 pub ≤-or-< : (x y : Fraction) → (x ≤ℚ y) ⊎ (y <ℚ x)
-≤-or-< x y = decide (Z.≤-or-< (x .num *ℤ y .den) (y .num *ℤ x .den))
-  where
-    decide : ((x .num *ℤ y .den) ≤ℤ (y .num *ℤ x .den)) ⊎ ((y .num *ℤ x .den) <ℤ (x .num *ℤ y .den)) → (x ≤ℚ y) ⊎ (y <ℚ x)
-    decide (inl h) = inl (record { cross = h })
-    decide (inr h) = inr (record { cross = h })
-
-pub <-≤-clash : {x y : Fraction} → x <ℚ y → y ≤ℚ x → ⊥
-<-≤-clash h k = Z.<-≤-clash (h .cross) (k .cross)
-
--- the tests decide the comparisons
-pub T-true : (b : Bool) → T b → b ≡ true
-T-true true t = refl
-T-true false t = absurd t
-
-pub ltℚ-yes : {x y : Fraction} → T (ltℚ x y) → x <ℚ y
-unfolding ltℚ
-ltℚ-yes t = record { cross = record { lt = t } }
-
-pub leℚ-yes : {x y : Fraction} → T (leℚ x y) → x ≤ℚ y
-unfolding leℚ
-leℚ-yes t = record { cross = record { le = t } }
-
-pub eqℚ-yes : {x y : Fraction} → T (eqℚ x y) → x ≈ℚ y
-unfolding eqℚ
-eqℚ-yes {x} {y} t =
-    ≤-antisym (leℚ-yes (and-left (leℚ x y) (leℚ y x) t)) (leℚ-yes (and-right (leℚ x y) (leℚ y x) t))
-
-pub ltℚ-true : {x y : Fraction} → x <ℚ y → ltℚ x y ≡ true
-unfolding ltℚ
-ltℚ-true h = T-true _ (h .cross .lt)
-
-pub ltℚ-no : {x y : Fraction} → y ≤ℚ x → ltℚ x y ≡ false
-unfolding ltℚ
-ltℚ-no {x} {y} h = decide (ltℚ x y) refl
-  where
-    decide : (b : Bool) → ltℚ x y ≡ b → b ≡ false
-    decide false e = refl
-    decide true e = absurd (<-≤-clash (ltℚ-yes {x = x} {y = y} (subst⁻¹ T e tt)) h)
-
--- an equal fraction has the same sign
-pub nonneg-≈ : {x y : Fraction} → Proper x → Proper y → x ≈ℚ y → NonNeg y → NonNeg x
-nonneg-≈ {x} {y} px py e h =
-    record { sign = Z.≤-cancel (py .above-0) (Z.≤-by (y .num *ℤ x .den) (ring (x .num ∷ y .den ∷ []) {b = x .num *ℤ y .den} (search terms depth 20 fits 9999) tt ∙ e .cross) (Z.nonneg-* (h .sign) (Z.<-weak (px .above-0)))) }
-
-pub positive-≈ : {x y : Fraction} → Proper x → Proper y → x ≈ℚ y → Positive y → Positive x
-positive-≈ {x} {y} px py e h =
-    record { sign = Z.<-cancel (Z.<-weak (py .above-0)) (Z.<-by (y .num *ℤ x .den) (ring (x .num ∷ y .den ∷ []) {b = x .num *ℤ y .den} (search terms depth 20 fits 9999) tt ∙ e .cross) (Z.positive-* (h .sign) (px .above-0))) }
-
--- the certificates
-≤-of-difference : {x y : Fraction} → NonNeg (y -ℚ x) → x ≤ℚ y
-unfolding _-ℚ_
-≤-of-difference {x} {y} h = record { cross = Z.≤-by _ refl (h .sign) }
-
-<-of-difference : {x y : Fraction} → Positive (y -ℚ x) → x <ℚ y
-unfolding _-ℚ_
-<-of-difference {x} {y} h = record { cross = Z.<-by _ refl (h .sign) }
+≤-or-< x y = elim (Z.≤-or-< (x .num *ℤ y .den) (y .num *ℤ x .den)) [
+  | inl h ↦ inl (record { cross = h })
+  | inr h ↦ inr (record { cross = h })
+]
 
 module _ {x y : Fraction} (px : Proper x) (py : Proper y) (c : Fraction) (pc : Proper c) (e : y -ℚ x ≈ℚ c) where
   pub ≤-by : NonNeg c → x ≤ℚ y
-  ≤-by h = ≤-of-difference (nonneg-≈ (proper-- py px) pc e h)
+  unfolding _-ℚ_
+  ≤-by h = record { cross = Z.≤-by _ refl (nonneg-≈ (proper-- py px) pc e h .sign) }
 
   pub <-by : Positive c → x <ℚ y
-  <-by h = <-of-difference (positive-≈ (proper-- py px) pc e h)
+  unfolding _-ℚ_
+  <-by h = record { cross = Z.<-by _ refl (positive-≈ (proper-- py px) pc e h .sign) }
 
-module _ {x y z : Fraction} (px : Proper x) (py : Proper y) (pz : Proper z) where
-  through : z -ℚ x ≈ℚ (z -ℚ y) +ℚ (y -ℚ x)
-  through = field (x .num ∷ x .den ∷ y .num ∷ y .den ∷ z .num ∷ z .den ∷ []) (search ratios depth 20 fits 9999) tt
+pub ≤-trans : {x y z : Fraction} → Proper x → Proper y → Proper z → x ≤ℚ y → y ≤ℚ z → x ≤ℚ z
+≤-trans {x} {y} {z} px py pz h k =
+    ≤-by px pz ((z -ℚ y) +ℚ (y -ℚ x)) (search propers)
+    (field (x ∷ℚ y ∷ℚ z ∷ℚ []) (search ratios depth 20 fits 9999) tt)
+    (search positivity)
 
-  pub ≤-trans : x ≤ℚ y → y ≤ℚ z → x ≤ℚ z
-  ≤-trans h k = ≤-by px pz ((z -ℚ y) +ℚ (y -ℚ x)) (search propers) through (search positivity)
+pub ≤-cancel : {x y k : Fraction} → Proper x → Proper y → Proper k → Positive k → x *ℚ k ≤ℚ y *ℚ k → x ≤ℚ y
+≤-cancel {x} {y} {k} px py pk hk h =
+    ≤-by px py ((y *ℚ k -ℚ x *ℚ k) /ℚ k) (search positivity)
+    (field (x ∷ℚ y ∷ℚ k ∷ℚ []) (search ratios depth 20 fits 9999) tt)
+    (search positivity)
 
-  pub <-≤-trans : x <ℚ y → y ≤ℚ z → x <ℚ z
-  <-≤-trans h k =
-      <-by px pz ((y -ℚ x) +ℚ (z -ℚ y)) (search propers)
-      (field (x .num ∷ x .den ∷ y .num ∷ y .den ∷ z .num ∷ z .den ∷ []) (search ratios depth 20 fits 9999) tt) (search positivity)
+module _ {x y x' y' : Fraction} (px : Proper x) (py : Proper y) (px' : Proper x') (py' : Proper y') where
+  pub ≤-+ : x ≤ℚ x' → y ≤ℚ y' → x +ℚ y ≤ℚ x' +ℚ y'
+  ≤-+ h k =
+      ≤-by (search propers) (search propers) ((x' -ℚ x) +ℚ (y' -ℚ y)) (search propers)
+      (field (x ∷ℚ y ∷ℚ x' ∷ℚ y' ∷ℚ []) (search ratios depth 20 fits 9999) tt)
+      (search positivity)
 
-  pub ≤-<-trans : x ≤ℚ y → y <ℚ z → x <ℚ z
-  ≤-<-trans h k = <-by px pz ((z -ℚ y) +ℚ (y -ℚ x)) (search propers) through (search positivity)
+pub whole-≤-of-≤ : (a b : ℤ) → a ≤ℤ b → whole a ≤ℚ whole b
+unfolding whole
+whole-≤-of-≤ a b h = record { cross = Z.≤-* (Z.nonneg-pos 1) h }
 
-module _ {x y k : Fraction} (px : Proper x) (py : Proper y) (pk : Proper k) where
-  pub ≤-* : NonNeg k → x ≤ℚ y → x *ℚ k ≤ℚ y *ℚ k
-  ≤-* hk h =
-      ≤-by (search propers) (search propers) ((y -ℚ x) *ℚ k) (search propers)
-      (field (x .num ∷ x .den ∷ y .num ∷ y .den ∷ k .num ∷ k .den ∷ []) (search ratios depth 20 fits 9999) tt) (search positivity)
+pub <-of-whole-< : (a b : ℤ) → whole a <ℚ whole b → a <ℤ b
+unfolding whole
+<-of-whole-< a b h = Z.<-cancel (Z.nonneg-pos 1) (h .cross)
 
-  pub ≤-cancel : Positive k → x *ℚ k ≤ℚ y *ℚ k → x ≤ℚ y
-  ≤-cancel hk h =
-      ≤-by px py ((y *ℚ k -ℚ x *ℚ k) /ℚ k) (search positivity)
-      (field (x .num ∷ x .den ∷ y .num ∷ y .den ∷ k .num ∷ k .den ∷ []) (search ratios depth 20 fits 9999) tt) (search positivity)
+-- ---- the tests decide the comparisons
 
-pub ≤-+ : {x y x' y' : Fraction} → Proper x → Proper y → Proper x' → Proper y' → x ≤ℚ x' → y ≤ℚ y' → x +ℚ y ≤ℚ x' +ℚ y'
-≤-+ {x} {y} {x'} {y'} px py px' py' h k =
-    ≤-by (search propers) (search propers) ((x' -ℚ x) +ℚ (y' -ℚ y)) (search propers)
-    (field (x .num ∷ x .den ∷ y .num ∷ y .den ∷ x' .num ∷ x' .den ∷ y' .num ∷ y' .den ∷ []) (search ratios depth 20 fits 9999) tt) (search positivity)
+module _ {x y : Fraction} where
+  pub <-of-ltℚ : T (ltℚ x y) → x <ℚ y
+  unfolding ltℚ
+  <-of-ltℚ t = record { cross = record { lt = t } }
+
+  pub ≤-of-leℚ : T (leℚ x y) → x ≤ℚ y
+  unfolding leℚ
+  ≤-of-leℚ t = record { cross = record { le = t } }
+
+  pub ltℚ-true-of-< : x <ℚ y → ltℚ x y ≡ true
+  unfolding ltℚ
+  ltℚ-true-of-< h = T-true _ (h .cross .lt)
+
+  pub ltℚ-false-of-≤ : y ≤ℚ x → ltℚ x y ≡ false
+  ltℚ-false-of-≤ h = elim (true-or-false (ltℚ x y)) [
+    | inl e ↦ clashℤ (<-of-ltℚ (rw e tt) .cross) (h .cross)
+    | inr e ↦ e
+  ]
+
+pub ≈-of-eqℚ : {x y : Fraction} → T (eqℚ x y) → x ≈ℚ y
+unfolding eqℚ
+≈-of-eqℚ {x} {y} t = ≤-antisym (≤-of-leℚ (and-left (leℚ x y) (leℚ y x) t)) (≤-of-leℚ (and-right (leℚ x y) (leℚ y x) t))

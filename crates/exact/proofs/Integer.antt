@@ -1,86 +1,70 @@
--- The ring laws of ℤ that `lib.IntN` lacks: distributivity, associativity of the product, signs.
+-- The ring laws of ℤ that `lib.IntN` lacks.
+--   +-left-comm        a + (b + c) = b + (a + c)
+--   +-exchange         (a + b) + (c + d) = (a + c) + (b + d)
+--   +-*, *-+           a sum times k, and k times a sum
+--   one-*              1 a = a
+--   neg-*              (−a) b = −(a b)
+--   *-assoc            (a b) c = a (b c)
+--   ≡-of-difference    a − b = 0 → a = b
 -- Assumes nothing.
-use mathlib.Core.Path.{_≡_, sym, _∙_, ap}
-use Prim.Native.Nat.{ℕ, zero, suc}
-use lib.IntN.{ℤ, pos, negsuc, negℤ, one, _+ℤ_, _-ℤ_, _*ℤ_, ℤ-ind, +ℤ-idl, +ℤ-idr, +ℤ-assoc, +ℤ-comm, +ℤ-invl, +ℤ-invr, +ℤ-one, -ℤ-one, sucℤ-+ℤ, predℤ-+ℤ, *ℤ-comm, *ℤ-one, zero-*ℤ, sucℤ-*ℤ, predℤ-*ℤ}
+use mathlib.Core.Path.{_≡_, sym, _≡⟨_⟩_, _∎}
+use Prim.Native.Nat.{zero}
+use lib.IntN.{ℤ, pos, negℤ, one, _+ℤ_, _-ℤ_, _*ℤ_, ℤ-ind, +ℤ-idl, +ℤ-idr, +ℤ-assoc, +ℤ-comm, +ℤ-invl, +ℤ-invr}
+use lib.IntN.{+ℤ-one, -ℤ-one, sucℤ-+ℤ, predℤ-+ℤ, *ℤ-comm, *ℤ-one, zero-*ℤ, sucℤ-*ℤ, predℤ-*ℤ}
 
--- negsuc n is −(n + 1)
-pub negsuc-is : (n : ℕ) → negsuc n ≡ negℤ (pos n +ℤ pos (suc zero))
-negsuc-is n = sym (ap negℤ (+ℤ-one (pos n)))
+pub +-left-comm : (a b c : ℤ) → a +ℤ (b +ℤ c) ≡ b +ℤ (a +ℤ c)
++-left-comm a b c = rw (← +ℤ-assoc a b c, +ℤ-comm a b) (+ℤ-assoc b a c)
 
--- four summands, the inner two exchanged
-pub exchange : (a b c d : ℤ) → (a +ℤ b) +ℤ (c +ℤ d) ≡ (a +ℤ c) +ℤ (b +ℤ d)
-exchange a b c d =
-    +ℤ-assoc a b (c +ℤ d)
-    ∙ ap (λ x. a +ℤ x) (sym (+ℤ-assoc b c d) ∙ ap (λ x. x +ℤ d) (+ℤ-comm b c) ∙ +ℤ-assoc c b d)
-    ∙ sym (+ℤ-assoc a c (b +ℤ d))
+-- `simp sorted` sorts the summands of both sides
+ruleset sorted = (+ℤ-assoc, +ℤ-comm, +-left-comm)
 
--- (a + b) k = a k + b k, by steps of one in a
+pub +-exchange : (a b c d : ℤ) → (a +ℤ b) +ℤ (c +ℤ d) ≡ (a +ℤ c) +ℤ (b +ℤ d)
++-exchange a b c d = simp sorted
+
+by-steps : (P : ℤ → Type 0) →
+    P (pos zero) →
+    ((x : ℤ) → P x → P (x +ℤ pos 1)) →
+    ((x : ℤ) → P x → P (x -ℤ pos 1)) →
+    (a : ℤ) → P a
+by-steps P z up down a = ℤ-ind P z (λ n h. up (pos n) h) (λ n h. down (negℤ (pos n)) h) a
+
 pub +-* : (a b k : ℤ) → (a +ℤ b) *ℤ k ≡ a *ℤ k +ℤ b *ℤ k
-+-* a b k = ℤ-ind (λ x. (x +ℤ b) *ℤ k ≡ x *ℤ k +ℤ b *ℤ k) base (λ n h. up (pos n) h) (λ n h. down (negℤ (pos n)) h) a
-  where
-    base : (pos zero +ℤ b) *ℤ k ≡ pos zero *ℤ k +ℤ b *ℤ k
-    base =
-        ap (λ x. x *ℤ k) (+ℤ-idl b)
-        ∙ sym (ap (λ x. x +ℤ b *ℤ k) (zero-*ℤ k) ∙ +ℤ-idl (b *ℤ k))
-
-    move : (x y : ℤ) → (x +ℤ y) +ℤ b *ℤ k ≡ (x +ℤ b *ℤ k) +ℤ y
-    move x y = +ℤ-assoc x y (b *ℤ k) ∙ ap (λ z. x +ℤ z) (+ℤ-comm y (b *ℤ k)) ∙ sym (+ℤ-assoc x (b *ℤ k) y)
-
-    up : (x : ℤ) → (x +ℤ b) *ℤ k ≡ x *ℤ k +ℤ b *ℤ k → ((x +ℤ pos (suc zero)) +ℤ b) *ℤ k ≡ (x +ℤ pos (suc zero)) *ℤ k +ℤ b *ℤ k
-    up x h =
-        ap (λ z. (z +ℤ b) *ℤ k) (+ℤ-one x) ∙ ap (λ z. z *ℤ k) (sucℤ-+ℤ x b)
-        ∙ sucℤ-*ℤ (x +ℤ b) k ∙ ap (λ z. z +ℤ k) h
-        ∙ sym (ap (λ z. z *ℤ k +ℤ b *ℤ k) (+ℤ-one x) ∙ ap (λ z. z +ℤ b *ℤ k) (sucℤ-*ℤ x k) ∙ move (x *ℤ k) k)
-
-    down : (x : ℤ) → (x +ℤ b) *ℤ k ≡ x *ℤ k +ℤ b *ℤ k → ((x -ℤ pos (suc zero)) +ℤ b) *ℤ k ≡ (x -ℤ pos (suc zero)) *ℤ k +ℤ b *ℤ k
-    down x h =
-        ap (λ z. (z +ℤ b) *ℤ k) (-ℤ-one x) ∙ ap (λ z. z *ℤ k) (predℤ-+ℤ x b)
-        ∙ predℤ-*ℤ (x +ℤ b) k ∙ ap (λ z. z -ℤ k) h
-        ∙ sym (ap (λ z. z *ℤ k +ℤ b *ℤ k) (-ℤ-one x) ∙ ap (λ z. z +ℤ b *ℤ k) (predℤ-*ℤ x k) ∙ move (x *ℤ k) (negℤ k))
++-* a b k =
+    by-steps (λ x. (x +ℤ b) *ℤ k ≡ x *ℤ k +ℤ b *ℤ k)
+    (simp (+ℤ-idl, zero-*ℤ))
+    (λ x h. simp (+ℤ-one, sucℤ-+ℤ, sucℤ-*ℤ, h) (simp sorted))
+    (λ x h. simp (-ℤ-one, predℤ-+ℤ, predℤ-*ℤ, h) (simp sorted))
+    a
 
 pub *-+ : (k a b : ℤ) → k *ℤ (a +ℤ b) ≡ k *ℤ a +ℤ k *ℤ b
-*-+ k a b =
-    *ℤ-comm k (a +ℤ b) ∙ +-* a b k
-    ∙ ap (λ x. x +ℤ b *ℤ k) (*ℤ-comm a k) ∙ ap (λ x. k *ℤ a +ℤ x) (*ℤ-comm b k)
+*-+ k a b = rw (*ℤ-comm k (a +ℤ b), *ℤ-comm k a, *ℤ-comm k b) (+-* a b k)
+
+pub one-* : (a : ℤ) → pos 1 *ℤ a ≡ a
+unfolding one
+one-* a = rw (*ℤ-comm (pos 1) a) (*ℤ-one a)
 
 -- what sums to 0 with a is −a
-pub negation : (a b : ℤ) → a +ℤ b ≡ pos zero → b ≡ negℤ a
+negation : (a b : ℤ) → a +ℤ b ≡ pos zero → b ≡ negℤ a
 negation a b h =
-    sym (+ℤ-idl b) ∙ ap (λ x. x +ℤ b) (sym (+ℤ-invl a)) ∙ +ℤ-assoc (negℤ a) a b
-    ∙ ap (λ x. negℤ a +ℤ x) h ∙ +ℤ-idr (negℤ a)
+    b ≡⟨ sym (+ℤ-idl b) ⟩
+    pos zero +ℤ b ≡⟨ rw (← +ℤ-invl a) (+ℤ-assoc (negℤ a) a b) ⟩
+    negℤ a +ℤ (a +ℤ b) ≡⟨ rw h (+ℤ-idr (negℤ a)) ⟩
+    negℤ a ∎
 
 pub neg-* : (a b : ℤ) → negℤ a *ℤ b ≡ negℤ (a *ℤ b)
-neg-* a b =
-    negation (a *ℤ b) (negℤ a *ℤ b) (sym (+-* a (negℤ a) b) ∙ ap (λ x. x *ℤ b) (+ℤ-invr a) ∙ zero-*ℤ b)
+neg-* a b = negation (a *ℤ b) (negℤ a *ℤ b) (rw (← +-* a (negℤ a) b, +ℤ-invr a) (zero-*ℤ b))
 
--- (a b) c = a (b c), by steps of one in a
 pub *-assoc : (a b c : ℤ) → (a *ℤ b) *ℤ c ≡ a *ℤ (b *ℤ c)
-unfolding one
-*-assoc a b c = ℤ-ind (λ x. (x *ℤ b) *ℤ c ≡ x *ℤ (b *ℤ c)) base (λ n h. up (pos n) (pos (suc zero)) (unit b c) h) (λ n h. up (negℤ (pos n)) (negsuc zero) (minus b c) h) a
-  where
-    base : (pos zero *ℤ b) *ℤ c ≡ pos zero *ℤ (b *ℤ c)
-    base = ap (λ x. x *ℤ c) (zero-*ℤ b) ∙ zero-*ℤ c ∙ sym (zero-*ℤ (b *ℤ c))
+*-assoc a b c =
+    by-steps (λ x. (x *ℤ b) *ℤ c ≡ x *ℤ (b *ℤ c))
+    (simp zero-*ℤ)
+    (λ x h. simp (+ℤ-one, sucℤ-*ℤ, +-*, h))
+    (λ x h. simp (-ℤ-one, predℤ-*ℤ, +-*, neg-*, h))
+    a
 
-    one-* : (x : ℤ) → pos (suc zero) *ℤ x ≡ x
-    one-* x = *ℤ-comm (pos (suc zero)) x ∙ *ℤ-one x
-
-    unit : (y z : ℤ) → (pos (suc zero) *ℤ y) *ℤ z ≡ pos (suc zero) *ℤ (y *ℤ z)
-    unit y z = ap (λ x. x *ℤ z) (one-* y) ∙ sym (one-* (y *ℤ z))
-
-    minus : (y z : ℤ) → (negsuc zero *ℤ y) *ℤ z ≡ negsuc zero *ℤ (y *ℤ z)
-    minus y z =
-        ap (λ x. x *ℤ z) (neg-* (pos (suc zero)) y) ∙ neg-* (pos (suc zero) *ℤ y) z
-        ∙ ap negℤ (unit y z) ∙ sym (neg-* (pos (suc zero)) (y *ℤ z))
-
-    up : (x d : ℤ) → (d *ℤ b) *ℤ c ≡ d *ℤ (b *ℤ c) → (x *ℤ b) *ℤ c ≡ x *ℤ (b *ℤ c) → ((x +ℤ d) *ℤ b) *ℤ c ≡ (x +ℤ d) *ℤ (b *ℤ c)
-    up x d e h =
-        ap (λ z. z *ℤ c) (+-* x d b) ∙ +-* (x *ℤ b) (d *ℤ b) c
-        ∙ ap (λ z. z +ℤ (d *ℤ b) *ℤ c) h ∙ ap (λ z. x *ℤ (b *ℤ c) +ℤ z) e
-        ∙ sym (+-* x d (b *ℤ c))
-
--- a difference that is 0
-pub difference : (a b : ℤ) → a -ℤ b ≡ pos zero → a ≡ b
-difference a b h =
-    sym (+ℤ-idr a) ∙ ap (λ x. a +ℤ x) (sym (+ℤ-invl b)) ∙ sym (+ℤ-assoc a (negℤ b) b)
-    ∙ ap (λ x. x +ℤ b) h ∙ +ℤ-idl b
+pub ≡-of-difference : (a b : ℤ) → a -ℤ b ≡ pos zero → a ≡ b
+≡-of-difference a b h =
+    a ≡⟨ sym (+ℤ-idr a) ⟩
+    a +ℤ pos zero ≡⟨ rw (← +ℤ-invl b) (sym (+ℤ-assoc a (negℤ b) b)) ⟩
+    a -ℤ b +ℤ b ≡⟨ rw h (+ℤ-idl b) ⟩
+    b ∎

@@ -1,4 +1,5 @@
 -- Laws and tactics that other crates cite.
+pub mod Tests
 pub mod Integer
 pub mod Poly
 pub mod Ring
@@ -6,8 +7,8 @@ pub mod Order
 pub mod Field
 pub mod Fractions
 pub mod Floor
+pub mod Rounding
 pub mod Identities
 pub mod Signed
-pub mod Size
 pub mod Magnitude
 pub mod Bits

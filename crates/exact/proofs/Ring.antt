@@ -1,107 +1,97 @@
--- The ring tactic. `Term ρ z` is z written with +, −, ·, numerals and the variables of ρ; `search terms` finds it.
--- `ring ρ (search terms depth 20 fits 9999) tt` proves a ≡ b where both sides have the same normal form.
+-- The ring tactic: equations between sums, differences and products of integers (`ring`) or natural numbers (`ring-ℕ`).
+--   ring ρ (search terms depth 20 fits 9999) tt : a ≡ b
+--   ρ                the variables, each once; what is no +, −, · or numeral is one (`x .num`, `pos n`, `pos (suc n)`)
+--   depth            20 has served up to ten variables, 30 up to sixteen
+--   {a = …} {b = …}  the sides, written after ρ where nothing else shows them
+-- How it works: `search terms` finds each side as a `Term`, whose normal form is a polynomial; the residue of both is 0.
+-- How it fails:
+--   "no proof of `Sides ..`", "Every way was tried"         ρ lacks a variable
+--   "no proof of `Sides ..`", "It stopped 20 lemmas deep"   depth is too small
+--   "the goal is not yet determined"                        a side is not shown, as between two calls joined by `∙`
+--   at tt, "one has `lib.Dec.T`", "the other `Prim.Unit`"   the equation is false
 -- Assumes nothing.
-use mathlib.Core.Path.{_≡_, refl, sym, _∙_, ap, ap₂}
+use mathlib.Core.Path.{_≡_, refl, sym, _∙_, ap}
 use mathlib.Core.List.{List, [], _∷_, map}
 use Prim.Native.Nat.{ℕ, _+_, _*_}
 use lib.Dec.{T, leb}
-use lib.IntN.{ℤ, pos, negsuc, negℤ, natAbs, _+ℤ_, _-ℤ_, _*ℤ_, +ℤ-idl, +ℤ-idr, *ℤ-comm, *ℤ-one, zero-*ℤ, one}
-use Rattle.exact.proofs.Integer.{difference, neg-*}
-use Rattle.exact.proofs.Poly.{Poly, con, _·x+_, value, plus, scale, times, isZero, plus-value, scale-value, times-value, zero-value}
+use lib.IntN.{ℤ, pos, negsuc, negℤ, natAbs, _+ℤ_, _-ℤ_, _*ℤ_, +ℤ-idl, +ℤ-idr, zero-*ℤ}
+use Rattle.exact.proofs.Integer.{≡-of-difference, one-*, neg-*}
+use Rattle.exact.proofs.Poly.{Poly, con, _·x+_, value, plus, scale, times, isZero}
+use Rattle.exact.proofs.Poly.{plus-value, scale-value, times-value, zero-value}
 
-pub data Var {A : Type 0} : A → List A → Type 0 where
-  here : {x : A} {ρ : List A} → Var x (x ∷ ρ)
-  there : {x y : A} {ρ : List A} → Var x ρ → Var x (y ∷ ρ)
+pub data Var : ℤ → List ℤ → Type 0 where
+  here : {x : ℤ} {ρ : List ℤ} → Var x (x ∷ ρ)
+  there : {x y : ℤ} {ρ : List ℤ} → Var x ρ → Var x (y ∷ ρ)
 
 pub data Term (ρ : List ℤ) : ℤ → Type 0 where
   var : {x : ℤ} → Var x ρ → Term ρ x
   num : {n : ℕ} → T (leb 0 n) → Term ρ (pos n)
+  num-neg : {n : ℕ} → T (leb 0 n) → Term ρ (negsuc n)
   add : {a b : ℤ} → Term ρ a → Term ρ b → Term ρ (a +ℤ b)
   sub : {a b : ℤ} → Term ρ a → Term ρ b → Term ρ (a -ℤ b)
   mul : {a b : ℤ} → Term ρ a → Term ρ b → Term ρ (a *ℤ b)
   neg : {a : ℤ} → Term ρ a → Term ρ (negℤ a)
+  add-ℕ : {a b : ℕ} → Term ρ (pos a) → Term ρ (pos b) → Term ρ (pos (a + b))
+  mul-ℕ : {a b : ℕ} → Term ρ (pos a) → Term ρ (pos b) → Term ρ (pos (a * b))
 
 abbrev pub minus : Poly → Poly
 minus p = scale (negsuc 0) p
 
 pub minus-value : (p : Poly) (ρ : List ℤ) → value (minus p) ρ ≡ negℤ (value p ρ)
-unfolding one
-minus-value p ρ =
-    scale-value (negsuc 0) p ρ ∙ neg-* (pos 1) (value p ρ)
-    ∙ ap negℤ (*ℤ-comm (pos 1) (value p ρ) ∙ *ℤ-one (value p ρ))
+minus-value p ρ = scale-value (negsuc 0) p ρ ∙ neg-* (pos 1) (value p ρ) ∙ ap negℤ (one-* (value p ρ))
 
 abbrev variable : {x : ℤ} {ρ : List ℤ} → Var x ρ → Poly
 variable here = con (pos 1) ·x+ con (pos 0)
 variable (there v) = con (pos 0) ·x+ variable v
 
 variable-value : {x : ℤ} {ρ : List ℤ} (v : Var x ρ) → value (variable v) ρ ≡ x
-unfolding one
-variable-value (here {x = x}) = +ℤ-idr (pos 1 *ℤ x) ∙ *ℤ-comm (pos 1) x ∙ *ℤ-one x
-variable-value (there {x = x} {y = y} v) =
-    ap₂ (λ a b. a +ℤ b) (zero-*ℤ y) (variable-value v) ∙ +ℤ-idl x
+variable-value (here {x = x}) = +ℤ-idr (pos 1 *ℤ x) ∙ one-* x
+variable-value (there {x = x} {y = y} v) = rw (zero-*ℤ y, variable-value v) (+ℤ-idl x)
 
 abbrev pub normal : {ρ : List ℤ} {z : ℤ} → Term ρ z → Poly
 normal (var v) = variable v
 normal (num {n = n} t) = con (pos n)
+normal (num-neg {n = n} t) = con (negsuc n)
 normal (add s t) = plus (normal s) (normal t)
 normal (sub s t) = plus (normal s) (minus (normal t))
 normal (mul s t) = times (normal s) (normal t)
 normal (neg t) = minus (normal t)
+normal (add-ℕ s t) = plus (normal s) (normal t)
+normal (mul-ℕ s t) = times (normal s) (normal t)
 
 pub normal-value : {ρ : List ℤ} {z : ℤ} (t : Term ρ z) → value (normal t) ρ ≡ z
 normal-value (var v) = variable-value v
 normal-value (num t) = refl
-normal-value {ρ} (add s t) = plus-value (normal s) (normal t) ρ ∙ ap₂ (λ x y. x +ℤ y) (normal-value s) (normal-value t)
+normal-value (num-neg t) = refl
+normal-value {ρ} (add s t) = rw (plus-value (normal s) (normal t) ρ, normal-value s, normal-value t)
 normal-value {ρ} (sub s t) =
-    plus-value (normal s) (minus (normal t)) ρ
-    ∙ ap₂ (λ x y. x +ℤ y) (normal-value s) (minus-value (normal t) ρ ∙ ap negℤ (normal-value t))
-normal-value {ρ} (mul s t) = times-value (normal s) (normal t) ρ ∙ ap₂ (λ x y. x *ℤ y) (normal-value s) (normal-value t)
-normal-value {ρ} (neg t) = minus-value (normal t) ρ ∙ ap negℤ (normal-value t)
+    rw (plus-value (normal s) (minus (normal t)) ρ, minus-value (normal t) ρ, normal-value s, normal-value t)
+normal-value {ρ} (mul s t) = rw (times-value (normal s) (normal t) ρ, normal-value s, normal-value t)
+normal-value {ρ} (neg t) = rw (minus-value (normal t) ρ, normal-value t)
+normal-value {ρ} (add-ℕ s t) = rw (plus-value (normal s) (normal t) ρ, normal-value s, normal-value t)
+normal-value {ρ} (mul-ℕ s t) = rw (times-value (normal s) (normal t) ρ, normal-value s, normal-value t)
 
 -- both sides of an identity
 pub data Sides (ρ : List ℤ) : ℤ → ℤ → Type 0 where
   sides : {a b : ℤ} → Term ρ a → Term ρ b → Sides ρ a b
 
-pub ruleset terms = (here, there, var, num, add, sub, mul, neg, sides, tt)
+pub ruleset terms = (here, there, var, num, num-neg, add, sub, mul, neg, add-ℕ, mul-ℕ, sides, tt)
 
-abbrev pub gap : {ρ : List ℤ} {a b : ℤ} → Sides ρ a b → Poly
-gap (sides s t) = normal (sub s t)
+-- the normal form of a − b
+abbrev pub residue : {ρ : List ℤ} {a b : ℤ} → Sides ρ a b → Poly
+residue (sides s t) = normal (sub s t)
 
-pub ring : (ρ : List ℤ) {a b : ℤ} (s : Sides ρ a b) → T (isZero (gap s)) → a ≡ b
+pub ring : (ρ : List ℤ) {a b : ℤ} (s : Sides ρ a b) → T (isZero (residue s)) → a ≡ b
 ring ρ (sides {a = a} {b = b} s t) h =
-    difference a b (sym (normal-value (sub s t)) ∙ zero-value (normal (sub s t)) ρ h)
+    ≡-of-difference a b (sym (normal-value (sub s t)) ∙ zero-value (normal (sub s t)) ρ h)
 
 -- a − b is a combination of differences that are 0
-pub combined : (a b p q r s k l : ℤ) → p ≡ q → r ≡ s → a -ℤ b ≡ k *ℤ (p -ℤ q) +ℤ l *ℤ (r -ℤ s) → a ≡ b
-combined a b p q r s k l e f h =
-    difference a b (h ∙ ap₂ (λ x y. k *ℤ (x -ℤ q) +ℤ l *ℤ (y -ℤ s)) e f
-    ∙ ring (q ∷ s ∷ k ∷ l ∷ []) {a = k *ℤ (q -ℤ q) +ℤ l *ℤ (s -ℤ s)} {b = pos 0} (search terms depth 20 fits 9999) tt)
+pub ≡-of-combination : {a b p q r s : ℤ} (k l : ℤ) → p ≡ q → r ≡ s → a -ℤ b ≡ k *ℤ (p -ℤ q) +ℤ l *ℤ (r -ℤ s) → a ≡ b
+≡-of-combination {a} {b} {p} {q} {r} {s} k l e f h = ≡-of-difference a b (h ∙ rw (e, f) vanishes)
+  where
+    vanishes : k *ℤ (q -ℤ q) +ℤ l *ℤ (s -ℤ s) ≡ pos 0
+    vanishes = ring (q ∷ s ∷ k ∷ l ∷ []) (search terms depth 20 fits 9999) tt
 
--- ---- the same on ℕ: a sum or a product of natural numbers is that of the integers
-
-pub data Count (ρ : List ℕ) : ℕ → Type 0 where
-  count-var : {x : ℕ} → Var x ρ → Count ρ x
-  count-num : {n : ℕ} → T (leb 0 n) → Count ρ n
-  count-add : {a b : ℕ} → Count ρ a → Count ρ b → Count ρ (a + b)
-  count-mul : {a b : ℕ} → Count ρ a → Count ρ b → Count ρ (a * b)
-
-pub data Counts (ρ : List ℕ) : ℕ → ℕ → Type 0 where
-  count-sides : {a b : ℕ} → Count ρ a → Count ρ b → Counts ρ a b
-
-pub ruleset counts = (here, there, count-var, count-num, count-add, count-mul, count-sides, tt)
-
-abbrev cast-var : {x : ℕ} {ρ : List ℕ} → Var x ρ → Var (pos x) (map pos ρ)
-cast-var here = here
-cast-var (there v) = there (cast-var v)
-
-abbrev cast : {ρ : List ℕ} {n : ℕ} → Count ρ n → Term (map pos ρ) (pos n)
-cast (count-var v) = var (cast-var v)
-cast (count-num t) = num t
-cast (count-add s t) = add (cast s) (cast t)
-cast (count-mul s t) = mul (cast s) (cast t)
-
-abbrev pub cast-sides : {ρ : List ℕ} {a b : ℕ} → Counts ρ a b → Sides (map pos ρ) (pos a) (pos b)
-cast-sides (count-sides s t) = sides (cast s) (cast t)
-
-pub ring-ℕ : (ρ : List ℕ) {a b : ℕ} (s : Counts ρ a b) → T (isZero (gap (cast-sides s))) → a ≡ b
-ring-ℕ ρ s h = ap natAbs (ring (map pos ρ) (cast-sides s) h)
+-- an equation of natural numbers is that of the integers
+pub ring-ℕ : (ρ : List ℕ) {a b : ℕ} (s : Sides (map pos ρ) (pos a) (pos b)) → T (isZero (residue s)) → a ≡ b
+ring-ℕ ρ s h = ap natAbs (ring (map pos ρ) s h)

@@ -1,62 +1,49 @@
--- −1 − z, and floor division from the quotient of natural numbers.
+-- Signed numbers in machine words, by their sign. A number z is natural where `z ≡ pos (natAbs z)`.
+--   cast-of-natural              a natural number may be cast to an unsigned one
+--   mirror z                     −1 − z, which exchanges `pos m` and `negsuc m`, and fits where z does
+--   natural-of-not-negative      z not below 0 is natural
+--   mirror-natural-of-negative   z below 0 has a natural mirror
 -- Assumes nothing.
-use mathlib.Core.Path.{_≡_, refl, sym, ap, _∙_, subst⁻¹}
-use mathlib.Core.Bool.{true, false}
+use mathlib.Core.Path.{_≡_, refl, ap}
+use mathlib.Core.Bool.{true, false, true≢false}
 use mathlib.Core.List.{[], _∷_}
-use Prim.Native.Nat.{ℕ, _/_}
-use native.Mathlib.Nat.{div-le-self}
+use Prim.Native.Nat.{ℕ, suc}
 use native.Mathlib.Omega.{arith}
-use borrow.Author.Tests.{ltb-true}
+use borrow.Author.Tests.{ltb-true, le-ltb}
 use lib.Dec.{T, ltb}
-use lib.IntN.{ℤ, pos, negsuc, negℤ, natAbs, _+ℤ_, _-ℤ_}
+use lib.IntN.{ℤ, pos, negsuc, negℤ, natAbs, one, _-ℤ_, negsuc-eq}
 use lib.Signed.{nonNeg, ltZ}
 use mir.Syntax.{Width}
 use mir.Val.{Fits, SFits, bits, hbits}
-use mir.ValLaws.{sfits-le}
 use mir.Facts.{fits-natAbs}
-use Rattle.exact.specs.Rounding.{floorDiv}
-use Rattle.exact.proofs.Integer.{negsuc-is}
 use Rattle.exact.proofs.Ring.{ring, terms}
 
--- a number that is not negative, as a natural number of a width that has room for it
-pub natural : {w w′ : Width} {z : ℤ} → T (ltb (hbits w) (bits w′)) → SFits w z → z ≡ pos (natAbs z) → T (nonNeg z) × Fits w′ (natAbs z)
-natural t f e = (subst⁻¹ (λ (y : ℤ). T (nonNeg y)) e tt, fits-natAbs t f)
+-- w′ has room for what is not negative in w
+pub cast-of-natural : {w w′ : Width} {z : ℤ} →
+    T (ltb (hbits w) (bits w′)) →
+    SFits w z →
+    z ≡ pos (natAbs z) →
+    T (nonNeg z) × Fits w′ (natAbs z)
+cast-of-natural {z = z} t f e = (rw e tt, fits-natAbs t f)
 
--- −1 − z
 abbrev pub mirror : ℤ → ℤ
-mirror z = negsuc 0 -ℤ z
+mirror z = negℤ (pos 1) -ℤ z
 
 pub mirror-pos : (m : ℕ) → mirror (pos m) ≡ negsuc m
-mirror-pos m = ring (pos m ∷ []) {a = negℤ (pos 1) -ℤ pos m} (search terms depth 20 fits 9999) tt ∙ sym (negsuc-is m)
+unfolding one
+mirror-pos m = rw (negsuc-eq m) (ring (pos m ∷ []) (search terms depth 20 fits 9999) tt)
 
 pub mirror-negsuc : (m : ℕ) → mirror (negsuc m) ≡ pos m
-mirror-negsuc m =
-    ap mirror (negsuc-is m)
-    ∙ ring (pos m ∷ []) {a = negℤ (pos 1) -ℤ negℤ (pos m +ℤ pos 1)} (search terms depth 20 fits 9999) tt
+mirror-negsuc m = rw (le-ltb (suc m) 1 (omega arith)) (ap pos (omega arith))
 
 pub sfits-mirror : {w : Width} {z : ℤ} → SFits w z → SFits w (mirror z)
-sfits-mirror {w = w} {z = pos m} f = subst⁻¹ (SFits w) (mirror-pos m) (record { sfits = f .sfits })
-sfits-mirror {w = w} {z = negsuc m} f = subst⁻¹ (SFits w) (mirror-negsuc m) (record { sfits = f .sfits })
+sfits-mirror {z = pos m} f = rw (mirror-pos m) (record { sfits = f .sfits })
+sfits-mirror {z = negsuc m} f = rw (mirror-negsuc m) (record { sfits = f .sfits })
 
-pub sfits-quotient : {w : Width} {a : ℕ} (d : ℕ) → SFits w (pos a) → SFits w (pos (a / d))
-sfits-quotient {a = a} d f = sfits-le (div-le-self a d) f
+pub natural-of-not-negative : (z : ℤ) → ltZ z (pos 0) ≡ false → z ≡ pos (natAbs z)
+natural-of-not-negative (pos a) e = refl
+natural-of-not-negative (negsuc a) e = absurd (true≢false e)
 
--- z below 0
-pub below : (z : ℤ) → ltZ z (pos 0) ≡ true → mirror z ≡ pos (natAbs (mirror z))
-below (pos a) e = absurd (let h = ltb-true a 0 e in omega arith)
-below (negsuc a) e = rw (mirror-negsuc a)
-
-pub floor-below : (z : ℤ) (d : ℕ) → ltZ z (pos 0) ≡ true → mirror (pos (natAbs (mirror z) / d)) ≡ floorDiv z d
-unfolding floorDiv
-floor-below (pos a) d e = absurd (let h = ltb-true a 0 e in omega arith)
-floor-below (negsuc a) d e = rw (mirror-negsuc a) (mirror-pos (a / d))
-
--- z not below 0
-pub not-below : (z : ℤ) → ltZ z (pos 0) ≡ false → z ≡ pos (natAbs z)
-not-below (pos a) e = refl
-not-below (negsuc a) e = absurd (let h : _≡_ {A = ℕ} 0 1 = cc in omega arith)
-
-pub floor-not-below : (z : ℤ) (d : ℕ) → ltZ z (pos 0) ≡ false → pos (natAbs z / d) ≡ floorDiv z d
-unfolding floorDiv
-floor-not-below (pos a) d e = refl
-floor-not-below (negsuc a) d e = absurd (let h : _≡_ {A = ℕ} 0 1 = cc in omega arith)
+pub mirror-natural-of-negative : (z : ℤ) → ltZ z (pos 0) ≡ true → mirror z ≡ pos (natAbs (mirror z))
+mirror-natural-of-negative (pos a) e = absurd (omega (arith, ltb-true a 0 e))
+mirror-natural-of-negative (negsuc a) e = rw (mirror-negsuc a)

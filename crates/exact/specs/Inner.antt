@@ -1,5 +1,5 @@
--- What contracts of inner functions cite: equality of integers as a test; the quotient of a product by long division, what it asks
--- and what holds after each digit. Nothing here need be believed.
+-- What contracts of inner functions cite: equality of integers as a test; the quotient of a product by long division, what
+-- it asks and what holds after each digit. Nothing here need be believed.
 -- Assumes nothing.
 use mathlib.Core.Path.{_≡_}
 use mathlib.Core.Bool.{Bool, _&&_}
@@ -14,8 +14,8 @@ eqZ a b = leZ a b && leZ b a
 pub record Scaled (x y c : ℕ) : Type 0 where
   pub part : x ≤ c
   pub above-0 : 0 < c
-  pub divisor : c < 2 ^ 47
-  pub factor : y < 2 ^ 48
+  pub divisor : c < 2 ^ 37
+  pub factor : y < 2 ^ 52
 
 -- q and r are quotient and remainder of n by c
 pub record Divided (n c q r : ℕ) : Type 0 where

@@ -1,5 +1,6 @@
 -- Floor division and the one rounding rule, with what must hold of each.
 -- Assumes nothing.
+use mathlib.Core.Path.{_≡_}
 use Prim.Native.Nat.{ℕ, _/_}
 use lib.IntN.{ℤ, pos, negsuc, natAbs}
 use lib.Signed.{_≤ℤ_}
@@ -28,9 +29,18 @@ pub record Greatest (x : Fraction) (k : ℤ) : Type 0 where
 abbrev pub FloorIsGreatest : Type 0
 FloorIsGreatest = (x : Fraction) → Proper x → Greatest x (floor x)
 
--- The public face of the rounding: it keeps order, and is at most one half off; where it is exactly one half, upwards.
-abbrev pub RoundKeepsOrder : Type 0
-RoundKeepsOrder = (x y : Fraction) → Proper x → Proper y → x ≤ℚ y → round x ≤ℤ round y
+-- what most laws ask of a rounding rule, and no more
+pub record Rounding (rnd : Fraction → ℤ) : Type 0 where
+  pub keeps-order : (x y : Fraction) → Proper x → Proper y → x ≤ℚ y → rnd x ≤ℤ rnd y
+  pub keeps-whole : (z : ℤ) → rnd (whole z) ≡ z
 
-abbrev pub RoundIsNear : Type 0
-RoundIsNear = (x : Fraction) → Proper x → (x -ℚ (pos 1 over pos 2) <ℚ whole (round x)) × (whole (round x) ≤ℚ x +ℚ (pos 1 over pos 2))
+abbrev pub RoundIsRounding : Type 0
+RoundIsRounding = Rounding round
+
+-- k is at most one half off x; where it is exactly one half, k is above x
+pub record HalfUp (x : Fraction) (k : ℤ) : Type 0 where
+  pub above : x -ℚ half <ℚ whole k
+  pub below : whole k ≤ℚ x +ℚ half
+
+abbrev pub RoundIsHalfUp : Type 0
+RoundIsHalfUp = (x : Fraction) → Proper x → HalfUp x (round x)

@@ -15,10 +15,8 @@ pub fn floor_div(n: i64, d: u64) -> i64
     (n as u64 / d) as i64
 }
 
-// Bases for the digits of y, 2^26 and 2^16. A step fits 64 bits where c * base is at most 2^63.
-const WIDE: u64 = 0x400_0000;
-
-const NARROW: u64 = 0x1_0000;
+// y has two digits in this base, 2^26; a step fits 64 bits, since c * BASE is at most 2^63.
+const BASE: u64 = 0x400_0000;
 
 // Quotient and remainder of x * y by c, with y the digits so far.
 struct Partial {
@@ -52,25 +50,6 @@ pub fn mul_div(x: u64, y: u64, c: u64) -> u64
     requires { ⌜ Scaled x y c ⌝ }
     ensures { λ r. ⌜ r ≡ x * y / c ⌝ }
 {
-    // the product fits: 47 + 17 bits, or 32 + 32
-    if y < 0x2_0000 {
-        return x * y / c;
-    }
-    if x < 0x1_0000_0000 {
-        if y < 0x1_0000_0000 {
-            return x * y / c;
-        }
-    }
-    if c < 0x20_0000_0000 {
-        let high = start(x, y / WIDE, c);
-        return step(high, x, y, c, WIDE).q;
-    }
-    let z = y / NARROW;
-    if z < 0x2_0000 {
-        let high = start(x, z, c);
-        return step(high, x, y, c, NARROW).q;
-    }
-    let top = start(x, z / NARROW, c);
-    let high = step(top, x, z, c, NARROW);
-    step(high, x, y, c, NARROW).q
+    let high = start(x, y / BASE, c);
+    step(high, x, y, c, BASE).q
 }

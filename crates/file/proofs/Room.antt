@@ -5,7 +5,7 @@ use mathlib.Core.Bool.{false, _||_}
 use Prim.Native.Nat.{ℕ}
 use borrow.Author.Tests.{ltb-false}
 use lib.Dec.{ltb}
-use Rattle.model.proofs.TempTests.{or-left, or-right}
+use Rattle.exact.proofs.Tests.{or-left, or-right}
 use Rattle.layout.specs.Inner.{Holds}
 use Rattle.records.specs.Inner.{Room}
 use Rattle.file.specs.Open.{short-list}

@@ -10,7 +10,7 @@ use borrow.Author.Tests.{eqb-true, ltb-false, not-false}
 use lib.Dec.{eqb}
 use lib.ListN.{length}
 use Rattle.model.specs.Answer.{gives, row}
-use Rattle.model.proofs.TempTests.{or-left}
+use Rattle.exact.proofs.Tests.{or-left}
 use Rattle.model.proofs.Rows.{refused≢gives, then-rest}
 use Rattle.layout.specs.Layout.{head-size, point-offset, version, count}
 use Rattle.layout.specs.Head.{wrong-mark, bad-head, bad-size, head-rows}

@@ -9,7 +9,7 @@ use mathlib.Core.Path.{_≡_, _∙_, ap, subst⁻¹}
 use mathlib.Core.Bool.{false, not}
 use mathlib.Core.List.{List, [], _∷_}
 use mathlib.Core.Option.{none, some}
-use Prim.Native.Nat.{ℕ, suc, _≤_, _<_}
+use Prim.Native.Nat.{ℕ, suc, _≤_}
 use native.Mathlib.Nat.{le-trans}
 use native.Mathlib.Omega.{arith}
 use borrow.Author.Tests.{not-false}
@@ -23,12 +23,9 @@ use Rattle.model.specs.Shape.{has-shape}
 use Rattle.model.specs.Check.{bad-count, bad-code, point-rows, segment-rows, curve-rows, Accepted}
 use Rattle.model.specs.Read.{value-in, outside, exact-value, reading}
 use Rattle.model.specs.Inner.{between, segment-at, areas-of, Limits, Neighbours, Good, Inside, Taken, Readable}
-use Rattle.model.proofs.Walk.{Chain, end, link, taken-is-stop}
+use Rattle.model.proofs.Walk.{Chain, end, link, taken-is-stop, good-ordered}
 use Rattle.model.proofs.Indexed.{Chained, chained, stop-in, stop-at, stop-in-inside}
 use Rattle.model.proofs.Rows.{then-first, then-rest, row-passed, count-of-row-1, passed, neighbours}
-
-pub good-ordered : {shape : Shape} (s : Segment) → Good shape s → s .left .area < s .right .area
-good-ordered s g = g .ends .ordered
 
 neighbour-chain : (i : ℕ) (p : Point) (ps : List Point) → Limits p → point-rows i (some (p .area)) ps ≡ gives tt →
     Chain Neighbours p ps

@@ -8,17 +8,15 @@ use mathlib.Core.Bool.{false}
 use mathlib.Core.List.{List, [], _∷_, _++_}
 use mathlib.Core.Logic.{_⊎_, inl, inr}
 use Prim.Native.Nat.{ℕ, zero, suc, _+_, _-_, _≤_, _<_}
-use native.Mathlib.Nat.{le-refl, le-of-lt, add-zero}
-use native.Mathlib.Numerals.{add-one}
+use native.Mathlib.Nat.{le-refl}
 use native.Mathlib.Omega.{arith}
 use borrow.Author.Tests.{le-leb, lt-leb, ltb-false}
 use lib.Dec.{ltb}
 use lib.ListN.{length, getD, length-map}
-use lib.Seq.{getD-append-add}
 use Rattle.model.specs.Points.{Point, Segment, segments}
 use Rattle.model.specs.Read.{last-area, outside}
 use Rattle.model.specs.Inner.{between, origin, point-at, segment-at, areas-of, Inside, Taken}
-use Rattle.model.proofs.TempTests.{or-left, or-right}
+use Rattle.exact.proofs.Tests.{or-left, or-right}
 use Rattle.model.proofs.Walk.{Chain, end, link, stop, chain-ordered, stop-inside}
 
 abbrev pub stop-in : List Point → ℕ → Segment
@@ -38,8 +36,13 @@ segments-length [] = refl
 segments-length (p ∷ []) = refl
 segments-length (p ∷ q ∷ ps) = ap suc (segments-length (q ∷ ps)) ∙ omega arith
 
--- two neighbouring points, by their index
-pub segment-at-append : (before after : List Point) (p q : Point) → segment-at (before ++ p ∷ q ∷ after) (length before) ≡ between p q
+-- a point, and two neighbouring points, by their index
+pub point-at-append : (before after : List Point) (p : Point) → point-at (before ++ p ∷ after) (length before) ≡ p
+point-at-append [] after p = refl
+point-at-append (b ∷ before) after p = point-at-append before after p
+
+pub segment-at-append : (before after : List Point) (p q : Point) →
+    segment-at (before ++ p ∷ q ∷ after) (length before) ≡ between p q
 segment-at-append [] after p q = refl
 segment-at-append (b ∷ before) after p q = segment-at-append before after p q
 

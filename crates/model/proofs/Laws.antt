@@ -14,15 +14,15 @@ use Prim.Native.Nat.{ℕ, zero, suc, _+_, _*_, _≤_, _<_}
 use native.Mathlib.Nat.{le-refl, le-of-lt, le-of-eq}
 use native.Mathlib.Omega.{arith}
 use lib.IntN.{ℤ, pos, negℤ, _+ℤ_, _-ℤ_, _*ℤ_}
-use lib.ListN.{length, getD, length-map, List·getD-map}
+use lib.ListN.{length, getD, length-map, length-append, List·getD-map}
 use lib.Signed.{_≤ℤ_, _<ℤ_}
 use Rattle.exact.specs.Fraction.{Fraction, Proper, whole, _+ℚ_, _-ℚ_, _*ℚ_, _/ℚ_, _≈ℚ_, _≤ℚ_, _<ℚ_}
-use Rattle.exact.specs.Rounding.{half}
+use Rattle.exact.specs.Rounding.{half, HalfUp}
 use Rattle.exact.proofs.Order as Z
-use Rattle.exact.proofs.Field.{field, ratios}
+use Rattle.exact.proofs.Field.{field, ratios, _∷ℚ_}
 use Rattle.exact.proofs.Fractions as Q
-use Rattle.exact.proofs.Fractions.{propers, positivity}
-use Rattle.exact.proofs.Floor.{round-keeps-order, round-is-near, round-≈, round-whole, whole-<}
+use Rattle.exact.proofs.Fractions.{propers, positivity, <-of-whole-<}
+use Rattle.exact.proofs.Rounding.{round-rounding, round-is-half-up, rounding-at-whole}
 use Rattle.model.specs.Points.{Point, Segment, Shape, rising, convex, shape-of}
 use Rattle.model.specs.Interpolant.{interpolant}
 use Rattle.model.specs.Read.{outside, reading}
@@ -30,12 +30,13 @@ use Rattle.model.specs.Laws.{Curve, Area, exact, factor, chord-slope, Gi
 use Rattle.model.specs.Inner.{origin, point-at, segment-at, areas-of, Good, Inside, Taken}
 use Rattle.model.proofs.ClosedForm.{Closed}
 use Rattle.model.proofs.Codes.{is-rising, code-2}
-use Rattle.model.proofs.Walk.{compare-areas}
+use Rattle.exact.proofs.Tests.{compare}
+use Rattle.model.proofs.Walk.{good-ordered}
 use Rattle.model.proofs.Segments.{interpolant-proper, interpolant-left, interpolant-right}
-use Rattle.model.proofs.Range.{Ranged, value-range, reading-low, reading-high}
-use Rattle.model.proofs.Relations.{values-rise, slope, Convex, tangents-support, slope-proper}
-use Rattle.model.proofs.Indexed.{Chained, chained, stop-in, segment-at-append, chained-at, low-of, high-of}
-use Rattle.model.proofs.Accepted.{good-ordered, count-of, chained-of, stops-inside, value-is, value-at-index}
+use Rattle.model.proofs.Range.{Ranged, value-range, ReadingRange, reading-range}
+use Rattle.model.proofs.Relations.{values-rise, curve-slope, Supports, tangents-support, curve-slope-proper}
+use Rattle.model.proofs.Indexed.{Chained, chained, stop-in, point-at-append, segment-at-append, chained-at, low-of, high-of}
+use Rattle.model.proofs.Accepted.{count-of, chained-of, stops-inside, value-is, value-at-index}
 
 module _ (c : Curve) where
   abbrev shape : Shape
@@ -54,89 +55,81 @@ module _ (c : Curve) where
 -- ---- values and factors
 
 pub values-are-proper : (c : Curve) (x : ℕ) → Area c x → Proper (exact c x)
-values-are-proper c x k =
-    let r = segment-inside c x k in
-    subst⁻¹ Proper (value-is (c .accepted) x) (interpolant-proper (shape c) (segment-of c x) (r .good) x (r .low) (r .high))
+values-are-proper c x k = rw (value-is (c .accepted) x) (interpolant-proper (segment-inside c x k))
 
-pub factors-are-near : (c : Curve) (x : ℕ) → Area c x →
-    (exact c x -ℚ half <ℚ whole (factor c x)) × (whole (factor c x) ≤ℚ exact c x +ℚ half)
+pub factors-are-near : (c : Curve) (x : ℕ) → Area c x → HalfUp (exact c x) (factor c x)
 unfolding reading
-factors-are-near c x k = round-is-near (exact c x) (values-are-proper c x k)
+factors-are-near c x k = round-is-half-up (exact c x) (values-are-proper c x k)
 
-pub factors-are-ranged : (c : Curve) (x : ℕ) → Area c x → (negℤ (pos 200000) ≤ℤ factor c x) × (factor c x ≤ℤ pos 200000)
+pub factors-are-ranged : (c : Curve) (x : ℕ) → Area c x → ReadingRange (factor c x)
 unfolding reading
 factors-are-ranged c x k =
-    let p = values-are-proper c x k in
-    let r = subst⁻¹ Ranged (value-is (c .accepted) x) (value-range (shape c) (segment-of c x) x (segment-inside c x k)) in
-    (reading-low (exact c x) p r, reading-high (exact c x) p r)
+    let range : Ranged (exact c x) = rw (value-is (c .accepted) x) (value-range (segment-inside c x k)) in
+    reading-range round-rounding (exact c x) (values-are-proper c x k) range
 
 -- ---- rated points
 
 pub segments-meet : SegmentsMeet
 segments-meet c before after p q e =
-    let i = length before in
-    let n : suc i < length (c .points) = subst⁻¹ (λ (ps : List Point). suc i < length ps) e (index before) in
-    let s = ap (λ (ps : List Point). segment-at ps i) e ∙ segment-at-append before after p q in
-    let g = subst (Good (shape c)) s (good-at c i n) in
-    let h = g .ends .ordered in (
-      record { proper = interpolant-proper (shape c) _ g (p .area) (le-refl _) (le-of-lt h); value = interpolant-left (shape c) _ g },
-      record { proper = interpolant-proper (shape c) _ g (q .area) (le-of-lt h) (le-refl _); value = interpolant-right (shape c) _ g },
-    )
-  where
-    index : (before : List Point) → suc (length before) < length (before ++ p ∷ q ∷ after)
-    index [] = omega arith
-    index (b ∷ before) = let h = index before in omega arith
+    let n = ap length e ∙ length-append before (p ∷ q ∷ after) in
+    let s = ap (λ (ps : List Point). segment-at ps (length before)) e ∙ segment-at-append before after p q in
+    let g = subst (Good (shape c)) s (good-at c (length before) (omega arith)) in
+    let l = interpolant-left g in
+    let r = interpolant-right g in
+    (record { proper = l .proper; value = l .same }, record { proper = r .proper; value = r .same })
 
-module _ (c : Curve) (i : ℕ) where
-  abbrev rated : Point
-  rated = point-at (c .points) i
-
-  -- the area of the point at i, in the list of areas
-  area-is : (j : ℕ) → getD (areas-of (c .points)) j 0 ≡ point-at (c .points) j .area
-  area-is j = List·getD-map (λ p. p .area) (c .points) j origin
+module _ (c : Curve) where
+  -- the area at an index, in the list of areas
+  area-is : (i : ℕ) → getD (areas-of (c .points)) i 0 ≡ point-at (c .points) i .area
+  area-is i = List·getD-map (λ p. p .area) (c .points) i origin
 
   size : length (areas-of (c .points)) ≡ length (c .points)
   size = length-map (c .points) (λ p. p .area)
 
+  -- the value at the area of the point at an index is the point's
+  abbrev Rated : ℕ → Type 0
+  Rated i = let p = point-at (c .points) i in Closed (exact c (p .area)) (whole (pos (p .value)))
+
   -- any point but the last is the left end of the segment that its area takes
-  rated-left : suc i < length (c .points) → Closed (exact c (rated .area)) (whole (pos (rated .value)))
-  rated-left n =
+  rated-left : (i : ℕ) → suc i < length (c .points) → Rated i
+  rated-left i n =
       let g = good-at c i n in
-      let h = g .ends .ordered in
-      let taken : Taken (areas-of (c .points)) i (rated .area) = record {
+      let taken : Taken (areas-of (c .points)) i (point-at (c .points) i .area) = record {
         reached = record { inner = rw size n; low = le-of-eq (area-is i) };
-        high = inl (rw (area-is (suc i)) h);
+        high = inl (rw (area-is (suc i)) (g .ends .ordered));
       } in
-      rw (value-at-index (c .accepted) taken) (record { proper = interpolant-proper (shape c) _ g _ (le-refl _) (le-of-lt h); same = interpolant-left (shape c) _ g })
+      rw (value-at-index (c .accepted) taken) (interpolant-left g)
 
--- the last is the right end of the last segment
-rated-right : (c : Curve) (k : ℕ) → suc (suc k) ≡ length (c .points) → Closed (exact c (rated c (suc k) .area)) (whole (pos (rated c (suc k) .value)))
-rated-right c k e =
-    let n : suc k < length (c .points) = omega arith in
-    let g = good-at c k n in
-    let h = g .ends .ordered in
-    let taken : Taken (areas-of (c .points)) k (rated c (suc k) .area) = record {
-      reached = record { inner = rw (size c k) n; low = rw (area-is c k k) (le-of-lt h) };
-      high = inr (e ∙ sym (size c k));
-    } in
-    rw (value-at-index (c .accepted) taken) (record { proper = interpolant-proper (shape c) _ g _ (le-of-lt h) (le-refl _); same = interpolant-right (shape c) _ g })
+  -- the last is the right end of the last segment
+  rated-right : (k : ℕ) → suc (suc k) ≡ length (c .points) → Rated (suc k)
+  rated-right k e =
+      let n : suc k < length (c .points) = omega arith in
+      let g = good-at c k n in
+      let taken : Taken (areas-of (c .points)) k (point-at (c .points) (suc k) .area) = record {
+        reached = record { inner = rw size n; low = rw (area-is k) (le-of-lt (g .ends .ordered)) };
+        high = inr (e ∙ sym size);
+      } in
+      rw (value-at-index (c .accepted) taken) (interpolant-right g)
 
-rated-value : (c : Curve) (i : ℕ) → i < length (c .points) → Closed (exact c (rated c i .area)) (whole (pos (rated c i .value)))
-rated-value c i h =
-    elim (compare-areas (length (c .points)) (suc i)) [
-      | inl (k, e) ↦ last i h k
-      | inr (k, e) ↦ rated-left c i k
-    ]
-  where
-    last : (i : ℕ) → i < length (c .points) → length (c .points) ≤ suc i → Closed (exact c (rated c i .area)) (whole (pos (rated c i .value)))
-    last zero h k = absurd (let n = count-of (c .accepted) .0 in omega arith)
-    last (suc k) h m = rated-right c k (omega arith)
+  rated-last : (i : ℕ) → suc i ≡ length (c .points) → Rated i
+  rated-last zero e = absurd (let n = count-of (c .accepted) .0 in omega arith)
+  rated-last (suc k) e = rated-right k e
 
-pub rated-points-read : (c : Curve) (i : ℕ) → i < length (c .points) → factor c (rated c i .area) ≡ pos (rated c i .value)
+  rated-value : (i : ℕ) → i < length (c .points) → Rated i
+  rated-value i h =
+      elim (compare (length (c .points)) (suc i)) [
+        | inl (k, t) ↦ rated-last i (omega arith)
+        | inr (k, t) ↦ rated-left i k
+      ]
+
+pub rated-points-read : (c : Curve) (before after : List Point) (p : Point) → c .points ≡ before ++ p ∷ after →
+    factor c (p .area) ≡ pos (p .value)
 unfolding reading
-rated-points-read c i h =
-    let v = rated-value c i h in
-    round-≈ _ _ (v .proper) (Q.proper-whole (pos (rated c i .value))) (v .same) ∙ round-whole (pos (rated c i .value))
+rated-points-read c before after p e =
+    let n = ap length e ∙ length-append before (p ∷ after) in
+    let is = ap (λ (ps : List Point). point-at ps (length before)) e ∙ point-at-append before after p in
+    let v = rw is at (rated-value c (length before) (omega arith)) in
+    rounding-at-whole round-rounding (pos (p .value)) _ (v .proper) (v .same)
 
 -- ---- rising
 
@@ -160,33 +153,33 @@ rising-values c e x y kx ky h =
 pub rising-factors : (c : Curve) → c .code ≡ 1 → (x y : ℕ) → Area c x → Area c y → x ≤ y → factor c x ≤ℤ factor c y
 unfolding reading
 rising-factors c e x y kx ky h =
-    round-keeps-order (exact c x) (exact c y) (values-are-proper c x kx) (values-are-proper c y ky) (rising-values c e x y kx ky h)
+    round-rounding .keeps-order (exact c x) (exact c y) (values-are-proper c x kx) (values-are-proper c y ky)
+    (rising-values c e x y kx ky h)
 
 -- ---- convex
 
 bends-across : {ps : List Point} → Chained (Good convex) ps → (x y : ℕ) → outside ps x ≡ false → outside ps y ≡ false → x ≤ y →
-    Convex (stop-in ps x) x (stop-in ps y) y
+    Supports (stop-in ps x) x (stop-in ps y) y
 bends-across (chained {p = p} {q = q} {ps = ps} c) x y kx ky h =
     tangents-support c x y (low-of p (q ∷ ps) x kx) h (high-of p (q ∷ ps) y ky)
 
 module _ (c : Curve) (e : c .code ≡ 2) where
   -- the slope at x, and the relation between two areas
   abbrev σ : ℕ → Fraction
-  σ x = slope (segment-of c x) x
+  σ x = curve-slope (segment-of c x) x
 
-  related : (x y : ℕ) → Area c x → Area c y → x ≤ y → Convex (segment-of c x) x (segment-of c y) y
+  related : (x y : ℕ) → Area c x → Area c y → x ≤ y → Supports (segment-of c x) x (segment-of c y) y
   related x y kx ky h = bends-across (chained-as c (code-2 e)) x y (kx .within) (ky .within) h
 
   σ-proper : (x : ℕ) → Area c x → Proper (σ x)
   σ-proper x k =
-      slope-proper (segment-of c x) x
-      (subst (λ (sh : Shape). Inside (Good sh) (segment-of c x) x) (code-2 e) (segment-inside c x k))
+      curve-slope-proper (subst (λ (sh : Shape). Inside (Good sh) (segment-of c x) x) (code-2 e) (segment-inside c x k))
 
   -- the tangent at x is nowhere above the curve
   supports : (x z : ℕ) → Area c x → Area c z → exact c x +ℚ σ x *ℚ whole (pos z -ℤ pos x) ≤ℚ exact c z
   supports x z kx kz =
       rw (value-as c (code-2 e) x, value-as c (code-2 e) z)
-      (elim (compare-areas x z) [
+      (elim (compare x z) [
         | inl (h, t) ↦ related x z kx kz h .rightwards
         | inr (h, t) ↦ related z x kz kx (le-of-lt h) .leftwards
       ])
@@ -210,8 +203,7 @@ module _ (v₁ v₂ v₃ v₄ s₂ s₃ : Fraction) (x₁ x₂ x₃ x₄ : ℤ)
   chords-certificate : right-chord -ℚ left-chord ≈ℚ excess
   chords-certificate =
       field
-      (v₁ .num ∷ v₁ .den ∷ v₂ .num ∷ v₂ .den ∷ v₃ .num ∷ v₃ .den ∷ v₄ .num ∷ v₄ .den
-      ∷ s₂ .num ∷ s₂ .den ∷ s₃ .num ∷ s₃ .den ∷ x₁ ∷ x₂ ∷ x₃ ∷ x₄ ∷ [])
+      (v₁ ∷ℚ v₂ ∷ℚ v₃ ∷ℚ v₄ ∷ℚ s₂ ∷ℚ s₃ ∷ℚ x₁ ∷ x₂ ∷ x₃ ∷ x₄ ∷ [])
       (search ratios depth 30 fits 9999) tt
 
   chords : x₁ <ℤ x₂ → x₃ <ℤ x₄ →
@@ -220,8 +212,8 @@ module _ (v₁ v₂ v₃ v₄ s₂ s₃ : Fraction) (x₁ x₂ x₃ x₄ : ℤ)
       v₃ +ℚ s₃ *ℚ whole (x₄ -ℤ x₃) ≤ℚ v₄ →
       Proper left-chord × Proper right-chord × (left-chord ≤ℚ right-chord)
   chords h h' k m k' =
-      let w = Q.positive-whole (x₂ -ℤ x₁) (Z.<-difference h) in
-      let w' = Q.positive-whole (x₄ -ℤ x₃) (Z.<-difference h') in (
+      let w = Q.positive-whole (x₂ -ℤ x₁) (Z.positive-difference h) in
+      let w' = Q.positive-whole (x₄ -ℤ x₃) (Z.positive-difference h') in (
         search propers,
         search propers,
         Q.≤-by (search propers) (search propers) excess (search propers depth 9) chords-certificate
@@ -236,7 +228,7 @@ convex-chords c e x₁ x₂ x₃ x₄ k₁ k₂ k₃ k₄ h m h' =
     let p = values-are-proper c in
     chords _ _ _ _ _ _ (pos x₁) (pos x₂) (pos x₃) (pos x₄)
     (p x₁ k₁) (p x₂ k₂) (p x₃ k₃) (p x₄ k₄) (σ-proper c e x₂ k₂) (σ-proper c e x₃ k₃)
-    (Z.pos-< h) (Z.pos-< h')
+    (Z.pos-<-of-< h) (Z.pos-<-of-< h')
     (supports c e x₂ x₁ k₂ k₁) (related c e x₂ x₃ k₂ k₃ m .slopes) (supports c e x₃ x₄ k₃ k₄)
 
 -- of three areas equally far apart, twice the middle value is at most the sum of the outer ones
@@ -249,7 +241,7 @@ module _ (v₀ v₁ v₂ s : Fraction) (x k : ℤ) (p₀ : Proper v₀) (p₁ : 
       ((v₀ -ℚ (v₁ +ℚ s *ℚ whole (x -ℤ (x +ℤ k)))) +ℚ (v₂ -ℚ (v₁ +ℚ s *ℚ whole ((x +ℤ pos 2 *ℤ k) -ℤ (x +ℤ k)))))
       (search propers depth 9)
       (field
-      (v₀ .num ∷ v₀ .den ∷ v₁ .num ∷ v₁ .den ∷ v₂ .num ∷ v₂ .den ∷ s .num ∷ s .den ∷ x ∷ k ∷ [])
+      (v₀ ∷ℚ v₁ ∷ℚ v₂ ∷ℚ s ∷ℚ x ∷ k ∷ [])
       (search ratios depth 30 fits 9999) tt)
       (Q.nonneg-+ (search propers) (search propers) (Q.nonneg-difference h) (Q.nonneg-difference m))
 
@@ -267,12 +259,12 @@ module _ (v₀ v₁ v₂ : Fraction) (r₀ r₁ r₂ : ℤ) (p₀ : Proper v₀)
       (r₁ -ℤ r₀ -ℤ pos 1) ≤ℤ (r₂ -ℤ r₁)
   rounded-middle h₀ h₁ h₂ m =
       let q : Proper half = search positivity in
-      Z.≤-of-< (whole-< _ _ (Q.<-by (search propers) (search propers) margin (search positivity depth 9)
+      Z.≤-of-<-next (<-of-whole-< _ _ (Q.<-by (search propers) (search propers) margin (search positivity depth 9)
       (field
-      (v₀ .num ∷ v₀ .den ∷ v₁ .num ∷ v₁ .den ∷ v₂ .num ∷ v₂ .den ∷ r₀ ∷ r₁ ∷ r₂ ∷ [])
+      (v₀ ∷ℚ v₁ ∷ℚ v₂ ∷ℚ r₀ ∷ r₁ ∷ r₂ ∷ [])
       (search ratios depth 30 fits 9999) tt)
       (Q.positive-+ (search propers) (search propers depth 9) (Q.positive-difference h₀)
-      (Q.nonneg-+ (search propers) (search propers depth 9) (Q.positive-nonneg (Q.positive-difference h₂))
+      (Q.nonneg-+ (search propers) (search propers depth 9) (Q.nonneg-of-positive (Q.positive-difference h₂))
       (Q.nonneg-+ (search propers) (search propers) (Q.nonneg-* (search positivity) (Q.nonneg-difference h₁))
       (Q.nonneg-difference m))))))
 
@@ -281,6 +273,6 @@ pub convex-steps : (c : Curve) → c .code ≡ 2 → (x k : ℕ) → Area c x �
 convex-steps c e x k k₀ k₁ k₂ =
     let p = values-are-proper c in
     rounded-middle _ _ _ _ _ _ (p x k₀) (p (x + k) k₁) (p (x + 2 * k) k₂)
-    (factors-are-near c x k₀ .0) (factors-are-near c (x + k) k₁ .1) (factors-are-near c (x + 2 * k) k₂ .0)
+    (factors-are-near c x k₀ .above) (factors-are-near c (x + k) k₁ .below) (factors-are-near c (x + 2 * k) k₂ .above)
     (middle _ _ _ _ (pos x) (pos k) (p x k₀) (p (x + k) k₁) (p (x + 2 * k) k₂) (σ-proper c e (x + k) k₁)
     (supports c e (x + k) x k₁ k₀) (supports c e (x + k) (x + 2 * k) k₁ k₂))

@@ -8,7 +8,6 @@ pub mod Curves
 pub mod Segments
 pub mod Relations
 pub mod Range
-pub mod TempTests
 pub mod Rows
 pub mod Lists
 pub mod Indexed

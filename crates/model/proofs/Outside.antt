@@ -16,7 +16,7 @@ use lib.ListN.{length, getD, length-map}
 use Rattle.model.specs.Points.{Point}
 use Rattle.model.specs.Read.{outside}
 use Rattle.model.specs.Inner.{areas-of}
-use Rattle.model.proofs.TempTests.{or-left, or-right}
+use Rattle.exact.proofs.Tests.{or-left, or-right}
 use Rattle.model.proofs.Indexed.{last-area-at}
 
 abbrev pub first : List ℕ → ℕ

@@ -1,127 +1,153 @@
--- Every value of an accepted curve is from −200,000 to 200,000.
+-- Every exact value of an accepted curve is from −200,000 to 200,000. A rising curve is between its ends, at most value-most each.
+-- A convex curve is not above its larger end, and not below its left tangent, which falls by at most slope-most / 100 for each of at
+-- most gap-most tenths.
+--   Ranged, value-range            that range, and that an exact value is in it
+--   ReadingRange, reading-range    so is a reading, by any rounding that keeps order and whole numbers
 -- Assumes nothing.
-use mathlib.Core.Path.{refl, subst}
+use mathlib.Core.Path.{_≡_, refl}
 use mathlib.Core.List.{[], _∷_}
-use mathlib.Core.Logic.{_⊎_, inl, inr}
-use Prim.Native.Nat.{ℕ, _+_, _≤_}
-use lib.IntN.{ℤ, pos, negsuc, negℤ, _+ℤ_, _-ℤ_, _*ℤ_}
+use mathlib.Core.Logic.{inl, inr}
+use Prim.Native.Nat.{ℕ}
+use lib.IntN.{ℤ, pos, negℤ, _+ℤ_, _-ℤ_, _*ℤ_}
 use lib.Signed.{_≤ℤ_}
-use Rattle.exact.specs.Fraction.{Fraction, Proper, _over_, whole, _+ℚ_, _-ℚ_, _*ℚ_, _≈ℚ_, _≤ℚ_, _<ℚ_}
-use Rattle.exact.specs.Rounding.{round}
+use Rattle.exact.specs.Fraction.{Fraction, Proper, _over_, whole, _+ℚ_, _-ℚ_, _*ℚ_, _≈ℚ_, _≤ℚ_}
+use Rattle.exact.specs.Rounding.{Rounding}
 use Rattle.exact.proofs.Ring.{ring, terms}
 use Rattle.exact.proofs.Order as Z
-use Rattle.exact.proofs.Order.{signs}
 use Rattle.exact.proofs.Field.{field, ratios}
 use Rattle.exact.proofs.Fractions as Q
 use Rattle.exact.proofs.Fractions.{NonNeg, propers, positivity}
-use Rattle.exact.proofs.Floor.{round-keeps-order, round-whole}
-use Rattle.model.specs.Points.{gradient, Segment, Shape, rising, convex}
-use Rattle.model.specs.Interpolant.{interpolant, curve}
-use Rattle.model.proofs.Inside.{In}
-use Rattle.model.proofs.Curves.{Joins, Bends, end-left, end-right}
-use Rattle.model.specs.Inner.{Good, Inside}
-use Rattle.model.proofs.Segments.{gap, distance, curve-at, slope-at, gap-positive, segment-rises, segment-bends, within}
+use Rattle.model.specs.Points.{gap-most, value-most, slope-most, gradient, Segment, Shape, rising, convex}
+use Rattle.model.specs.Interpolant.{interpolant}
+use Rattle.model.specs.Shape.{0ℚ}
+use Rattle.model.specs.Inner.{Neighbours, Good, Inside}
+use Rattle.model.proofs.ClosedForm.{In}
+use Rattle.model.proofs.Inside.{Rises, Bends, end-left, end-right}
+use Rattle.model.proofs.Curves.{nonneg-of-≤}
+use Rattle.model.proofs.Segments.{gap, segment-rises, segment-bends, distance-in}
 
-whole-≤ : (a b : ℤ) → a ≤ℤ b → whole a ≤ℚ whole b
-whole-≤ a b h =
-    Q.≤-by (search propers) (search propers) (whole (b -ℤ a)) (search propers) (field (a ∷ b ∷ []) (search ratios depth 30 fits 9999) tt) (Q.nonneg-whole _ (Z.≤-difference h))
-
--- v is from −200,000 to 200,000
 pub record Ranged (v : Fraction) : Type 0 where
-  pub low : whole (negsuc 199999) ≤ℚ v
-  pub high : v ≤ℚ whole (pos 200000)
+  pub low : whole (negℤ (pos 200000)) ≤ℚ v
+  pub high : v ≤ℚ whole (pos value-most)
 
--- a point's value is
-ranged-point : {v : Fraction} (n : ℕ) → Proper v → v ≈ℚ whole (pos n) → n ≤ 200000 → Ranged v
-ranged-point n p e h =
-    record {
-      low = Q.≤-trans (search propers) (search propers) p (whole-≤ (negsuc 199999) (pos n) (record { le = tt })) (Q.≤-of-≈ (Q.≈-sym e));
-      high = Q.≤-trans p (search propers) (search propers) (Q.≤-of-≈ e) (whole-≤ (pos n) (pos 200000) (Z.pos-≤ h));
-    }
+-- ---- fractions
 
--- both ends are
-module _ {shape : Shape} (s : Segment) (k : Good shape s) (j : Joins (gap s) (pos (s .left .value)) (pos (s .right .value)) (curve-at s shape)) where
-  ranged-left : Ranged (curve-at s shape (pos 0))
-  ranged-left = ranged-point (s .left .value) (j .proper (pos 0) (end-left (gap-positive s (k .ends .ordered)))) (j .at-left) (k .ends .left .value)
+-- a bound of the whole number e that v is, for what is on the other side of v
+module _ {v w : Fraction} {e k : ℤ} (p : Proper v) (q : Proper w) (is : v ≈ℚ whole e) where
+  ≤-of-end : w ≤ℚ v → e ≤ℤ k → w ≤ℚ whole k
+  ≤-of-end h l =
+      Q.≤-trans q p (search propers) h
+      (Q.≤-trans p (search propers) (search propers) (Q.≤-of-≈ is) (Q.whole-≤-of-≤ _ _ l))
 
-  ranged-right : Ranged (curve-at s shape (gap s))
-  ranged-right = ranged-point (s .right .value) (j .proper (gap s) (end-right (gap-positive s (k .ends .ordered)))) (j .at-right) (k .ends .right .value)
+  ≥-of-end : v ≤ℚ w → k ≤ℤ e → whole k ≤ℚ w
+  ≥-of-end h l =
+      Q.≤-trans (search propers) p q
+      (Q.≤-trans (search propers) (search propers) p (Q.whole-≤-of-≤ _ _ l) (Q.≤-of-≈ (Q.≈-sym is))) h
 
-rising-range : (s : Segment) → Good rising s → (t : ℤ) → In (gap s) t → Ranged (curve-at s rising t)
-rising-range s k t i =
-    let r = segment-rises s k in
-    let l = end-left (gap-positive s (k .ends .ordered)) in
-    let e = end-right (gap-positive s (k .ends .ordered)) in
-    let proper = r .joins .proper in
-    record {
-      low = Q.≤-trans (search propers) (proper (pos 0) l) (proper t i) (ranged-left s k (r .joins) .low) (r .order (pos 0) t l i (i .low));
-      high = Q.≤-trans (proper t i) (proper (gap s) e) (search propers) (r .order t (gap s) i e (Z.≤-by (gap s -ℤ t) refl (i .high))) (ranged-right s k (r .joins) .high);
-    }
+≤-of-sum : {v w v' : Fraction} → Proper v → Proper w → Proper v' → v +ℚ w ≤ℚ v' → NonNeg w → v ≤ℚ v'
+≤-of-sum {v} {w} {v'} p q p' h n =
+    Q.≤-by p p' ((v' -ℚ (v +ℚ w)) +ℚ w) (search propers)
+    (field (v .num ∷ v .den ∷ w .num ∷ w .den ∷ v' .num ∷ v' .den ∷ []) (search ratios depth 20 fits 9999) tt)
+    (search positivity)
 
--- from x along a tangent that does not fall on the way to y
-along : (v v' σ : Fraction) (x y : ℤ) → Proper v → Proper v' → Proper σ → v +ℚ σ *ℚ whole (y -ℤ x) ≤ℚ v' → NonNeg (σ *ℚ whole (y -ℤ x)) → v ≤ℚ v'
-along v v' σ x y p p' q h n =
-    Q.≤-by p p' ((v' -ℚ (v +ℚ σ *ℚ whole (y -ℤ x))) +ℚ σ *ℚ whole (y -ℤ x)) (search propers)
-    (field (v .num ∷ v .den ∷ v' .num ∷ v' .den ∷ σ .num ∷ σ .den ∷ x ∷ y ∷ []) (search ratios depth 30 fits 9999) tt)
-    (Q.nonneg-+ (search propers) (search propers) (Q.nonneg-difference h) n)
+backwards : (σ : Fraction) (t : ℤ) → σ *ℚ whole (pos 0 -ℤ t) ≈ℚ (0ℚ -ℚ σ) *ℚ whole t
+backwards σ t = field (σ .num ∷ σ .den ∷ t ∷ []) (search ratios depth 20 fits 9999) tt
 
--- the left tangent falls by at most 100 for each tenth
-tangent-low : (left : ℕ) (D h t : ℤ) → negsuc 9999 ≤ℤ D → h ≤ℤ pos 2000 → In h t → whole (negsuc 199999) ≤ℚ whole (pos left) +ℚ (D over pos 100) *ℚ whole (t -ℤ pos 0)
-tangent-low left D h t hD hh i =
-    Q.≤-by (search positivity) (search positivity) (whole (pos left) +ℚ (((D -ℤ negsuc 9999) *ℤ t +ℤ pos 10000 *ℤ ((pos 2000 -ℤ h) +ℤ (h -ℤ t))) over pos 100)) (search positivity)
-    (field (pos left ∷ D ∷ h ∷ t ∷ []) {x = whole (pos left) +ℚ (D over pos 100) *ℚ whole (t -ℤ pos 0) -ℚ whole (negℤ (pos 200000))} {y = whole (pos left) +ℚ (((D -ℤ negℤ (pos 10000)) *ℤ t +ℤ pos 10000 *ℤ ((pos 2000 -ℤ h) +ℤ (h -ℤ t))) over pos 100)} (search ratios depth 30 fits 9999) tt)
-    (let l = i .low in let u = i .high in let m = Z.≤-difference hD in let n = Z.≤-difference hh in
-    Q.nonneg-+ (search positivity) (search positivity) (Q.nonneg-whole _ (Z.nonneg-pos left)) (Q.nonneg-over _ _ (search signs depth 9)))
+-- ---- curves
 
--- to the end on the side where the tangent does not fall
-convex-high : (s : Segment) → Good convex s → (t : ℤ) → In (gap s) t → curve-at s convex t ≤ℚ whole (pos 200000)
-convex-high s k t i = decide (Q.≤-or-< (whole (pos 0)) (slope-at s t))
+module _ {h left right : ℤ} {v : ℤ → Fraction} (r : Rises h left right v) {t : ℤ} (i : In h t) where
+  rising-low : {k : ℤ} → k ≤ℤ left → whole k ≤ℚ v t
+  rising-low l =
+      let j = end-left (r .joins) in
+      ≥-of-end (r .joins .proper j) (r .joins .proper i) (r .joins .at-left) (r .order j i (i .low)) l
+
+  rising-high : {k : ℤ} → right ≤ℤ k → v t ≤ℚ whole k
+  rising-high l =
+      let j = end-right (r .joins) in
+      let last = Z.≤-by (h -ℤ t) refl (i .high) in
+      ≤-of-end (r .joins .proper j) (r .joins .proper i) (r .joins .at-right) (r .order i j last) l
+
+module _ {h left right : ℤ} {d₀ d₁ : Fraction} {v σ : ℤ → Fraction}
+    (b : Bends h left right d₀ d₁ v σ) {t : ℤ} (i : In h t) where
+  -- to the end on the side where the tangent does not fall
+  convex-high : {k : ℤ} → left ≤ℤ k → right ≤ℤ k → v t ≤ℚ whole k
+  convex-high l₀ l₁ =
+      let j₀ = end-left (b .joins) in
+      let j₁ = end-right (b .joins) in
+      let p = b .joins .proper i in
+      let p₀ = b .joins .proper j₀ in
+      let p₁ = b .joins .proper j₁ in
+      let q = b .proper i in
+      elim (Q.≤-or-< 0ℚ (σ t)) [
+        | inl s ↦
+            let up = nonneg-of-≤ s in
+            ≤-of-end p₁ p (b .joins .at-right) (≤-of-sum p (search propers) p₁ (b .below i j₁) (search positivity)) l₁
+        | inr s ↦
+            let up = Q.nonneg-≈ (search propers) (search propers) (backwards (σ t) t) (search positivity) in
+            ≤-of-end p₀ p (b .joins .at-left) (≤-of-sum p (search propers) p₀ (b .below i j₀) up) l₀
+      ]
+
+  not-below-tangent : Proper d₀ → whole left +ℚ d₀ *ℚ whole (t -ℤ pos 0) ≤ℚ v t
+  not-below-tangent q =
+      let j = end-left (b .joins) in
+      let p = b .joins .proper j in
+      let q' = b .proper j in
+      Q.≤-trans (search propers) (search propers) (b .joins .proper i)
+      (Q.≤-of-≈ (Q.≈-sym (Q.≈-+ (b .joins .at-left) (Q.≈-* (b .at-left) (Q.≈-refl _))))) (b .below j i)
+
+-- how far the left tangent is above −200,000
+above-lowest :
+    (left D h t : ℤ) →
+    whole left +ℚ D over pos 100 *ℚ whole (t -ℤ pos 0) -ℚ whole (negℤ (pos 200000))
+    ≈ℚ whole left
+    +ℚ ((D -ℤ negℤ (pos slope-most)) *ℤ t +ℤ pos slope-most *ℤ ((pos gap-most -ℤ h) +ℤ (h -ℤ t))) over pos 100
+above-lowest left D h t = field (left ∷ D ∷ h ∷ t ∷ []) (search ratios depth 20 fits 9999) tt
+
+tangent-low :
+    {left D h t : ℤ} → pos 0 ≤ℤ left → negℤ (pos slope-most) ≤ℤ D → h ≤ℤ pos gap-most → In h t →
+    whole (negℤ (pos 200000)) ≤ℚ whole left +ℚ D over pos 100 *ℚ whole (t -ℤ pos 0)
+tangent-low {left} {D} {h} {t} l m n i =
+    Q.≤-by (search positivity) (search positivity) _ (search positivity) (above-lowest left D h t)
+    (search positivity depth 9)
+
+-- ---- segments
+
+gap-high : (s : Segment) → Neighbours s → gap s ≤ℤ pos gap-most
+gap-high s k = Z.≤-by _ spare (Z.nonneg-difference (Z.pos-≤-of-≤ (k .near)))
   where
-    r : Bends (gap s) (pos (s .left .value)) (pos (s .right .value)) (gradient (s .left)) (gradient (s .right)) (curve-at s convex) (slope-at s)
-    r = segment-bends s k
+    spare : pos gap-most -ℤ gap s ≡ pos (s .left .area) +ℤ pos gap-most -ℤ pos (s .right .area)
+    spare = ring (pos (s .left .area) ∷ pos (s .right .area) ∷ []) (search terms depth 20 fits 9999) tt
 
-    decide : (whole (pos 0) ≤ℚ slope-at s t) ⊎ (slope-at s t <ℚ whole (pos 0)) → curve-at s convex t ≤ℚ whole (pos 200000)
-    decide (inl h) =
-        let e = end-right (gap-positive s (k .ends .ordered)) in
-        let p = r .joins .proper t i in
-        let p' = r .joins .proper (gap s) e in
-        let q = r .proper t i in
-        Q.≤-trans p p' (search propers)
-        (along _ _ (slope-at s t) t (gap s) p p' q (r .below t (gap s) i e) (Q.nonneg-* (Q.nonneg-≈ q (search propers) (field (slope-at s t .num ∷ slope-at s t .den ∷ []) {y = slope-at s t -ℚ whole (pos 0)} (search ratios depth 30 fits 9999) tt) (Q.nonneg-difference h)) (Q.nonneg-whole _ (i .high))))
-        (ranged-right s k (r .joins) .high)
-    decide (inr h) =
-        let e = end-left (gap-positive s (k .ends .ordered)) in
-        let p = r .joins .proper t i in
-        let p' = r .joins .proper (pos 0) e in
-        let q = r .proper t i in
-        Q.≤-trans p p' (search propers)
-        (along _ _ (slope-at s t) t (pos 0) p p' q (r .below t (pos 0) i e) (Q.nonneg-≈ {y = (whole (pos 0) -ℚ slope-at s t) *ℚ whole t} (search propers) (search propers) (field (slope-at s t .num ∷ slope-at s t .den ∷ t ∷ []) (search ratios depth 30 fits 9999) tt) (Q.nonneg-* (Q.nonneg-difference (Q.<-weak h)) (Q.nonneg-whole _ (i .low)))))
-        (ranged-left s k (r .joins) .high)
+pub value-range : {shape : Shape} {s : Segment} {x : ℕ} →
+    Inside (Good shape) s x → Ranged (interpolant shape s x)
+unfolding interpolant gradient
+value-range {shape = rising} {s = s} r =
+    let rises = segment-rises s (r .good) in
+    record {
+      low = rising-low rises (distance-in r) (record { le = tt });
+      high = rising-high rises (distance-in r) (Z.pos-≤-of-≤ (r .good .ends .right .value));
+    }
+value-range {shape = convex} {s = s} r =
+    let k = r .good .ends in
+    let i = distance-in r in
+    let bends = segment-bends s (r .good) in
+    record {
+      low = Q.≤-trans (search propers) (search positivity) (bends .joins .proper i)
+          (tangent-low (Z.nonneg-pos _) (k .left .slope-low) (gap-high s k) i)
+          (not-below-tangent bends i (search positivity));
+      high = convex-high bends i (Z.pos-≤-of-≤ (k .left .value)) (Z.pos-≤-of-≤ (k .right .value));
+    }
 
-convex-low : (s : Segment) → Good convex s → (t : ℤ) → In (gap s) t → whole (negsuc 199999) ≤ℚ curve-at s convex t
-unfolding gradient
-convex-low s k t i =
-    let r = segment-bends s k in
-    let l = end-left (gap-positive s (k .ends .ordered)) in
-    let p = r .joins .proper (pos 0) l in
-    let q = r .proper (pos 0) l in
-    let D : Proper (s .left .slope over pos 100) = search positivity in
-    let short : gap s ≤ℤ pos 2000 = Z.≤-by (pos (s .left .area + 2000) -ℤ pos (s .right .area)) (ring (pos (s .left .area) ∷ pos (s .right .area) ∷ []) {b = pos (s .left .area) +ℤ pos 2000 -ℤ pos (s .right .area)} (search terms depth 20 fits 9999) tt) (Z.≤-difference (Z.pos-≤ (k .ends .near))) in
-    Q.≤-trans (search propers) (search propers) (r .joins .proper t i) (tangent-low (s .left .value) (s .left .slope) (gap s) t (k .ends .left .slope-low) short i)
-    (Q.≤-trans (search propers) (Q.proper-+ p (Q.proper-* q (search propers))) (r .joins .proper t i) (Q.≤-of-≈ (Q.≈-sym (Q.≈-+ (r .joins .at-left) (Q.≈-* (r .at-left) (Q.≈-refl (whole (t -ℤ pos 0))))))) (r .below (pos 0) t l i))
+-- ---- readings
 
-pub value-range : (shape : Shape) (s : Segment) (x : ℕ) → Inside (Good shape) s x → Ranged (interpolant shape s x)
-unfolding interpolant
-value-range rising s x r = rising-range s (r .good) (distance s x) (within s x (r .low) (r .high))
-value-range convex s x r =
-    let i = within s x (r .low) (r .high) in
-    record { low = convex-low s (r .good) (distance s x) i; high = convex-high s (r .good) (distance s x) i }
+pub record ReadingRange (k : ℤ) : Type 0 where
+  pub low : negℤ (pos 200000) ≤ℤ k
+  pub high : k ≤ℤ pos value-most
 
--- and so is every reading
-pub reading-low : (v : Fraction) → Proper v → Ranged v → negsuc 199999 ≤ℤ round v
-reading-low v p r =
-    subst (λ (z : ℤ). z ≤ℤ round v) (round-whole (negsuc 199999)) (round-keeps-order (whole (negsuc 199999)) v (search propers) p (r .low))
-
-pub reading-high : (v : Fraction) → Proper v → Ranged v → round v ≤ℤ pos 200000
-reading-high v p r =
-    subst (λ (z : ℤ). round v ≤ℤ z) (round-whole (pos 200000)) (round-keeps-order v (whole (pos 200000)) p (search propers) (r .high))
+pub reading-range : {rnd : Fraction → ℤ} → Rounding rnd →
+    (v : Fraction) → Proper v → Ranged v → ReadingRange (rnd v)
+reading-range k v p r =
+    record {
+      low = rw (k .keeps-whole) at (k .keeps-order _ v (search propers) p (r .low));
+      high = rw (k .keeps-whole) at (k .keeps-order v _ p (search propers) (r .high));
+    }

@@ -20,7 +20,7 @@ use Rattle.model.specs.Answer.{Answer, gives, refused, row, _then_}
 use Rattle.model.specs.Points.{points-least, points-most, area-most, gap-most, value-most, slope-most, Point}
 use Rattle.model.specs.Check.{lengths-differ, bad-count, bad-area, bad-value, bad-slope, point-rows}
 use Rattle.model.specs.Inner.{Alike, between, Limits, Neighbours}
-use Rattle.model.proofs.TempTests.{or-left, or-right, ≤-of-ltZ-false}
+use Rattle.exact.proofs.Tests.{or-left, or-right, ≤-of-ltZ-false}
 
 -- ---- answers
 

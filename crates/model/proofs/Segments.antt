@@ -1,22 +1,34 @@
--- A segment of an accepted curve: its slopes over 100 × h, and what its curve does between its two areas.
+-- A segment of an accepted curve: its slopes over 100 h, and what its curve does between its two areas.
+--   gap, rise, distance              h, F, and t at an area
+--   v₀, v₁, d₀, d₁                   the values and the slopes of the ends
+--   S, e₀, g, e₁, a, b               as in ClosedForm: S = 100 h, e₀ = h D₀, g = 100 F, e₁ = h D₁, a = e₁ − g, b = g − e₀
+--   curve-at, slope-at               the curve, and the slope of the convex curve, at a distance from the left end
+--   segment-rises, segment-bends     what they do between the ends
+--   distance-in                      an area inside the segment is at a distance from 0 to h
+--   interpolant-proper, -left, -right    the exact value has a denominator above 0, and is the point's value at both ends
 -- Assumes nothing.
-use mathlib.Core.Path.{subst, subst⁻¹}
+use mathlib.Core.Path.{_≡_}
 use mathlib.Core.List.{[], _∷_}
-use Prim.Native.Nat.{ℕ, _≤_, _<_}
+use Prim.Native.Nat.{ℕ, _<_}
 use lib.IntN.{ℤ, pos, _-ℤ_, _*ℤ_, +ℤ-invr}
-use lib.Signed.{_≤ℤ_, _<ℤ_}
-use Rattle.exact.specs.Fraction.{Fraction, Proper, _over_, whole, _≈ℚ_}
+use lib.Signed.{_<ℤ_}
+use Rattle.exact.specs.Fraction.{Fraction, Proper, whole}
 use Rattle.exact.proofs.Ring.{ring, terms}
 use Rattle.exact.proofs.Order as Z
+use Rattle.exact.proofs.Order.{signs}
 use Rattle.exact.proofs.Field.{field, ratios}
-use Rattle.exact.proofs.Fractions as Q
+use Rattle.exact.proofs.Fractions.{positivity}
 use Rattle.model.specs.Points.{Point, gradient, Segment, Shape, rising, convex}
-use Rattle.model.specs.Interpolant as I
+use Rattle.model.specs.Interpolant.{curve, interpolant}
 use Rattle.model.specs.Shape.{fits, has-shape}
-use Rattle.model.specs.Inner.{Good}
-use Rattle.model.proofs.ClosedForm.{Normal, Around}
-use Rattle.model.proofs.Inside.{In}
-use Rattle.model.proofs.Curves.{Joins, Rises, Bends, rise-kind, bend-kind, rising-rises, convex-bends, tangent}
+use Rattle.model.specs.Inner.{Good, Inside}
+use Rattle.model.proofs.ClosedForm.{Closed, In, Normal}
+use Rattle.model.proofs.Inside.{Joins, Rises, Bends, end-left, end-right}
+use Rattle.model.proofs.Curves.{rise-kind, bend-kind, rising-rises, convex-bends, convex-curve-slope}
+
+pub proper-gradient : (p : Point) → Proper (gradient p)
+unfolding gradient
+proper-gradient p = search positivity
 
 module _ (s : Segment) where
   abbrev pub gap : ℤ
@@ -28,7 +40,18 @@ module _ (s : Segment) where
   abbrev pub distance : ℕ → ℤ
   distance x = pos x -ℤ pos (s .left .area)
 
-  -- the common denominator, and the slopes over it: h D₀, 100 F, h D₁
+  abbrev pub v₀ : ℤ
+  v₀ = pos (s .left .value)
+
+  abbrev pub v₁ : ℤ
+  v₁ = pos (s .right .value)
+
+  abbrev pub d₀ : Fraction
+  d₀ = gradient (s .left)
+
+  abbrev pub d₁ : Fraction
+  d₁ = gradient (s .right)
+
   abbrev pub S : ℤ
   S = pos 100 *ℤ gap
 
@@ -47,77 +70,62 @@ module _ (s : Segment) where
   abbrev pub b : ℤ
   b = g -ℤ e₀
 
-  pub normal : Normal gap (pos (s .left .value)) (pos (s .right .value)) (gradient (s .left)) (gradient (s .right)) S e₀ g e₁
-  unfolding gradient
-  normal =
-      record {
-        left-slope = field (s .left .slope ∷ gap ∷ []) (search ratios depth 30 fits 9999) tt;
-        right-slope = field (s .right .slope ∷ gap ∷ []) (search ratios depth 30 fits 9999) tt;
-        chord-slope = field (rise ∷ gap ∷ []) (search ratios depth 30 fits 9999) tt;
-      }
-
-  pub around : Around gap (pos (s .left .value)) (pos (s .right .value)) (gradient (s .left)) (gradient (s .right)) S a g b
-  unfolding gradient
-  around =
-      record {
-        normal = record {
-          left-slope = field (s .left .slope ∷ rise ∷ gap ∷ []) (search ratios depth 30 fits 9999) tt;
-          right-slope = field (s .right .slope ∷ rise ∷ gap ∷ []) (search ratios depth 30 fits 9999) tt;
-          chord-slope = field (rise ∷ gap ∷ []) (search ratios depth 30 fits 9999) tt;
-        };
-      }
-
-  -- the curve and, of the convex one, its slope, at a distance from the left end
   abbrev pub curve-at : Shape → ℤ → Fraction
-  curve-at shape t =
-      I.curve gap (pos (s .left .value)) (pos (s .right .value)) t (gradient (s .left)) (gradient (s .right)) shape
+  curve-at shape t = curve gap v₀ v₁ t d₀ d₁ shape
 
   abbrev pub slope-at : ℤ → Fraction
-  slope-at t = tangent gap (pos (s .left .value)) (pos (s .right .value)) (gradient (s .left)) (gradient (s .right)) S a g b t
+  slope-at t = convex-curve-slope gap v₀ v₁ d₀ d₁ S a g b t
 
-pub proper-gradient : (p : Point) → Proper (gradient p)
-unfolding gradient
-proper-gradient p = Q.proper-over (p .slope) (pos 100) (Z.positive-lit tt)
+  pub gap-positive : s .left .area < s .right .area → pos 0 <ℤ gap
+  gap-positive h = Z.positive-difference (Z.pos-<-of-< h)
 
-pub gap-positive : (s : Segment) → s .left .area < s .right .area → pos 0 <ℤ gap s
-gap-positive s h = Z.<-difference (Z.pos-< h)
+  pub normal : s .left .area < s .right .area → Normal gap v₀ v₁ d₀ d₁ S e₀ g e₁
+  unfolding gradient
+  normal h =
+      let h-positive = gap-positive h in
+      record {
+        h-positive = h-positive;
+        S-positive = search signs;
+        left-proper = search positivity;
+        right-proper = search positivity;
+        left-slope = field (s .left .slope ∷ gap ∷ []) (search ratios depth 20 fits 9999) tt;
+        right-slope = field (s .right .slope ∷ gap ∷ []) (search ratios depth 20 fits 9999) tt;
+        chord-slope = field (rise ∷ gap ∷ []) (search ratios depth 20 fits 9999) tt;
+      }
 
-pub S-positive : (s : Segment) → s .left .area < s .right .area → pos 0 <ℤ S s
-S-positive s h = Z.positive-* (Z.positive-lit tt) (gap-positive s h)
+  pub segment-rises : Good rising s → Rises gap v₀ v₁ (curve-at rising)
+  unfolding curve has-shape fits
+  segment-rises k = rising-rises (normal (k .ends .ordered)) (rise-kind gap v₀ v₁ (k .shaped))
 
-pub segment-rises : (s : Segment) → Good rising s → Rises (gap s) (pos (s .left .value)) (pos (s .right .value)) (curve-at s rising)
-unfolding I.curve has-shape fits
-segment-rises s k =
-    rising-rises (normal s) (S-positive s (k .ends .ordered)) (gap-positive s (k .ends .ordered)) (proper-gradient (s .left)) (proper-gradient (s .right)) (rise-kind (gap s) (pos (s .left .value)) (pos (s .right .value)) (k .shaped))
+  pub segment-bends : Good convex s → Bends gap v₀ v₁ d₀ d₁ (curve-at convex) slope-at
+  unfolding curve has-shape fits
+  segment-bends k = convex-bends (normal (k .ends .ordered)) (bend-kind gap rise (k .shaped))
 
-pub segment-bends : (s : Segment) → Good convex s → Bends (gap s) (pos (s .left .value)) (pos (s .right .value)) (gradient (s .left)) (gradient (s .right)) (curve-at s convex) (slope-at s)
-unfolding I.curve has-shape fits
-segment-bends s k =
-    convex-bends (around s) (S-positive s (k .ends .ordered)) (gap-positive s (k .ends .ordered)) (proper-gradient (s .left)) (proper-gradient (s .right)) (bend-kind (gap s) (rise s) (k .shaped))
+  segment-joins : (shape : Shape) → Good shape s → Joins gap v₀ v₁ (curve-at shape)
+  segment-joins rising k = segment-rises k .joins
+  segment-joins convex k = segment-bends k .joins
 
-pub segment-joins : (shape : Shape) (s : Segment) → Good shape s → Joins (gap s) (pos (s .left .value)) (pos (s .right .value)) (curve-at s shape)
-segment-joins rising s k = segment-rises s k .joins
-segment-joins convex s k = segment-bends s k .joins
+pub distance-in : {G : Segment → Type 0} {s : Segment} {x : ℕ} → Inside G s x → In (gap s) (distance s x)
+distance-in {s = s} {x = x} r =
+    record { low = Z.nonneg-difference (Z.pos-≤-of-≤ (r .low)); high = rw to-right (Z.nonneg-difference (Z.pos-≤-of-≤ (r .high))) }
+  where
+    to-right : gap s -ℤ distance s x ≡ pos (s .right .area) -ℤ pos x
+    to-right = ring (pos (s .right .area) ∷ pos x ∷ pos (s .left .area) ∷ []) (search terms depth 20 fits 9999) tt
 
--- an area between the ends is at a distance between 0 and the gap
-pub within : (s : Segment) (x : ℕ) → s .left .area ≤ x → x ≤ s .right .area → In (gap s) (distance s x)
-within s x low high =
-    record {
-      low = Z.≤-difference (Z.pos-≤ low);
-      high = subst (λ (z : ℤ). pos 0 ≤ℤ z) (ring (pos (s .right .area) ∷ pos x ∷ pos (s .left .area) ∷ []) {a = pos (s .right .area) -ℤ pos x} (search terms depth 20 fits 9999) tt) (Z.≤-difference (Z.pos-≤ high));
-    }
-
-module _ (shape : Shape) (s : Segment) (k : Good shape s) where
-  pub interpolant-proper : (x : ℕ) → s .left .area ≤ x → x ≤ s .right .area → Proper (I.interpolant shape s x)
-  unfolding I.interpolant
-  interpolant-proper x low high = segment-joins shape s k .proper (distance s x) (within s x low high)
+module _ {shape : Shape} {s : Segment} where
+  pub interpolant-proper : {x : ℕ} → Inside (Good shape) s x → Proper (interpolant shape s x)
+  unfolding interpolant
+  interpolant-proper r = segment-joins s shape (r .good) .proper (distance-in r)
 
   -- document 01: at a rated point the segments on both sides give the point's value
-  pub interpolant-left : I.interpolant shape s (s .left .area) ≈ℚ whole (pos (s .left .value))
-  unfolding I.interpolant
-  interpolant-left =
-      subst⁻¹ (λ (t : ℤ). curve-at s shape t ≈ℚ whole (pos (s .left .value))) (+ℤ-invr (pos (s .left .area))) (segment-joins shape s k .at-left)
+  pub interpolant-left : Good shape s → Closed (interpolant shape s (s .left .area)) (whole (v₀ s))
+  unfolding interpolant
+  interpolant-left k =
+      let j = segment-joins s shape k in
+      rw +ℤ-invr (record { proper = j .proper (end-left j); same = j .at-left })
 
-  pub interpolant-right : I.interpolant shape s (s .right .area) ≈ℚ whole (pos (s .right .value))
-  unfolding I.interpolant
-  interpolant-right = segment-joins shape s k .at-right
+  pub interpolant-right : Good shape s → Closed (interpolant shape s (s .right .area)) (whole (v₁ s))
+  unfolding interpolant
+  interpolant-right k =
+      let j = segment-joins s shape k in
+      record { proper = j .proper (end-right j); same = j .at-right }

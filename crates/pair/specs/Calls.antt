@@ -5,6 +5,6 @@ use Rattle.pair.specs.Pair as spec
 use Rattle.pair.specs.declared.Pair.{Pair}
 use Rattle.pair.specs.declared.Pair.the-variants.{Factors, Refused}
 
-unfoldable pub pair-read : Pair → Answer spec.Factors
-pair-read (Factors form plan difference) = gives (record { form = form; plan = plan; difference = difference })
-pair-read (Refused number place) = refused number place
+unfoldable pub factors-answer : Pair → Answer spec.Factors
+factors-answer (Factors form plan difference) = gives (record { form = form; plan = plan; difference = difference })
+factors-answer (Refused number place) = refused number place

@@ -7,7 +7,7 @@ use Prim.Native.Nat.{ℕ, _+_, _%_, _^_, _≤_, _<_}
 use native.Mathlib.Omega.{arith}
 use borrow.Author.Tests.{lt-ltb, leb-true, leb-false}
 use lib.Dec.{leb, ltb, leb→le, le→leb, ltb→lt, lt→ltb}
-use Rattle.exact.proofs.Bits.{same-test}
+use Rattle.exact.proofs.Tests.{same-test}
 use Rattle.model.specs.Points.{area-most, gap-most}
 use Rattle.model.specs.Check.{bad-area}
 

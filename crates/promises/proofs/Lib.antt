@@ -1,2 +1,3 @@
--- Proofs of the third demand.
+-- The third demand, and examples by computation.
 pub mod Demands
+pub mod Example

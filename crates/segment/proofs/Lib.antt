@@ -1,7 +1,7 @@
 -- Laws of one segment's reading and shape in machine numbers.
 pub mod Tests
-pub mod EndSlopes
-pub mod Machine
-pub mod Numbers
+pub mod Figures
+pub mod Rounded
+pub mod RisingReading
+pub mod ConvexReading
 pub mod Sizes
-pub mod Plain

@@ -1,26 +1,40 @@
--- The reading of a segment and its shape, in plain numbers. Nothing here need be believed: contracts above cite the definitions of
--- document 01.
+-- What contracts of inner functions cite: one segment in plain numbers. Nothing here need be believed: the calls' contracts cite
+-- the definitions of document 01.
+--   Distances        t and u, of an area from the two ends of a segment
+--   part             A of the rising curve, from one end; whole-part is B; rising-reading, the rounded value
+--   raised           the convex curve in hundredths, raised so that nothing is negative
+--   SlopesOver       the three slopes of a segment over one denominator; over-most, their largest size
+--   Weights, RisingInput, ConvexInput   how large are the arguments of `part`, `rising` and `raised`
 -- Assumes nothing.
 use mathlib.Core.Path.{_≡_}
 use Prim.Native.Nat.{ℕ, _+_, _*_, _/_, _≤_, _<_}
-use lib.IntN.{ℤ, pos, _*ℤ_, _-ℤ_}
-use Rattle.model.specs.Points.{Segment}
+use lib.IntN.{pos, _*ℤ_, _-ℤ_}
+use Rattle.model.specs.Points.{gap-most, value-most, slope-most, Segment}
 use Rattle.segment.specs.declared.Slopes.{Slopes}
 
--- the distances t and u of an area from the ends of a segment
-pub record Ends (t u : ℕ) : Type 0 where
-  pub most : t + u ≤ 2000
+-- the slopes of a segment over the denominator 100 h
+pub record SlopesOver (s : Segment) (e : Slopes) : Type 0 where
+  pub left : e .left ≡ (pos (s .right .area) -ℤ pos (s .left .area)) *ℤ s .left .slope
+  pub chord : e .chord ≡ pos 100 *ℤ (pos (s .right .value) -ℤ pos (s .left .value))
+  pub right : e .right ≡ (pos (s .right .area) -ℤ pos (s .left .area)) *ℤ s .right .slope
+
+-- h times a slope; of the chord 100 times a value, which is as much
+abbrev pub over-most : ℕ
+over-most = gap-most * slope-most
+
+pub record Distances (t u : ℕ) : Type 0 where
+  pub most : t + u ≤ gap-most
   pub least : 0 < t + u
 
--- A of the rising curve, from the left end; C is A from the right end, and B = A + C
 abbrev pub part : (t u G E : ℕ) → ℕ
 part t u G E = t * (G * t + E * u)
 
 pub record Weights (t u G E : ℕ) : Type 0 where
-  pub ends : Ends t u
-  pub first : G ≤ 20000000
-  pub second : E ≤ 20000000
+  pub near : t + u ≤ gap-most
+  pub first : G ≤ over-most
+  pub second : E ≤ over-most
 
+-- A from the left end and A from the right end
 abbrev pub whole-part : (t u F D₀ D₁ : ℕ) → ℕ
 whole-part t u F D₀ D₁ = part t u (100 * F) ((t + u) * D₀) + part u t (100 * F) ((t + u) * D₁)
 
@@ -29,30 +43,22 @@ rising-reading t u left F D₀ D₁ =
     left + (part t u (100 * F) ((t + u) * D₀) * F + whole-part t u F D₀ D₁ / 2) / whole-part t u F D₀ D₁
 
 pub record RisingInput (t u left F D₀ D₁ : ℕ) : Type 0 where
-  pub ends : Ends t u
-  pub left-value : left ≤ 200000
-  pub rise : F ≤ 200000
-  pub left-slope : D₀ ≤ 10000
-  pub right-slope : D₁ ≤ 10000
+  pub distances : Distances t u
+  pub value : left ≤ value-most
+  pub rise : F ≤ value-most
+  pub left-slope : D₀ ≤ slope-most
+  pub right-slope : D₁ ≤ slope-most
   pub above-0 : 0 < whole-part t u F D₀ D₁
 
--- The convex curve plus 100 t: its left tangent, and above that w² / (W h) hundredths, with w = b t and W = a u + b t. D is the
--- left slope plus 10000.
-abbrev pub raised-reading : (t u h left D a b : ℕ) → ℕ
-raised-reading t u h left D a b = (50 * (2 * left + 1) + D * t + b * t * (b * t) / ((a * u + b * t) * h)) / 100
+-- The left tangent with one half for the rounding, and above it w² / (W h), with w = b t and W = a u + b t. d is the left slope
+-- plus 10,000, so this is 10,000 t too much.
+abbrev pub raised : (t u h left d a b : ℕ) → ℕ
+raised t u h left d a b = 50 * (2 * left + 1) + d * t + b * t * (b * t) / ((a * u + b * t) * h)
 
-pub record ConvexInput (t u h left D a b : ℕ) : Type 0 where
-  pub from-left : t ≤ h
-  pub from-right : u ≤ h
-  pub short : h ≤ 2000
-  pub least : 0 < h
-  pub left-value : left ≤ 200000
-  pub raised-slope : D ≤ 20000
-  pub right-over : a ≤ 40000000
-  pub left-over : b ≤ 40000000
-
--- the slopes of a segment over the denominator 100 h
-pub record SlopesOver (s : Segment) (e : Slopes) : Type 0 where
-  pub left : e .left ≡ (pos (s .right .area) -ℤ pos (s .left .area)) *ℤ s .left .slope
-  pub chord : e .chord ≡ pos 100 *ℤ (pos (s .right .value) -ℤ pos (s .left .value))
-  pub right : e .right ≡ (pos (s .right .area) -ℤ pos (s .left .area)) *ℤ s .right .slope
+pub record ConvexInput (t u h left d a b : ℕ) : Type 0 where
+  pub distances : Distances t u
+  pub whole : h ≡ t + u
+  pub value : left ≤ value-most
+  pub slope : d ≤ 2 * slope-most
+  pub above : a ≤ 2 * over-most
+  pub below : b ≤ 2 * over-most

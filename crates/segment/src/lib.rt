@@ -2,7 +2,7 @@
 ghost use mathlib.Core.Path.{_≡_};
 ghost use Prim.Native.Nat.{_/_};
 ghost use Rattle.segment.specs.Inner as inner;
-ghost use Rattle.segment.specs.Inner.{Weights, RisingInput, rising-reading, ConvexInput, raised-reading, SlopesOver};
+ghost use Rattle.segment.specs.Inner.{SlopesOver, Weights, RisingInput, rising-reading, ConvexInput};
 ghost use Rattle.exact.specs.Rounding.{round};
 ghost use Rattle.model.specs.Points.{Shape, shape-of};
 ghost use Rattle.model.specs.Interpolant.{interpolant};
@@ -10,6 +10,7 @@ ghost use Rattle.model.specs.Shape.{has-shape};
 ghost use Rattle.model.specs.Inner.{Neighbours, Good, Inside};
 ghost use Rattle.point.specs.Inner.{segment-of};
 use point::Point;
+use point::SLOPE_MOST;
 
 // t (g t + e u)
 fn part(t: u64, u: u64, g: u64, e: u64) -> u64
@@ -31,12 +32,12 @@ fn rising(t: u64, u: u64, left: u64, rise: u64, d0: u64, d1: u64) -> u64
     left + (a * rise + b / 2) / b
 }
 
-// 100 times the value of a convex curve, with 50 for the rounding and 10000 t, so that nothing is negative (d is the left slope plus
-// 10000); the last two digits need not be right. a and b are the end slopes' distances from the chord: with w = b t and
+// 100 times the value of a convex curve, with 50 for the rounding and 10000 t, so that nothing is negative: d is the left slope
+// plus 10000. The last two digits need not be right. a and b are the end slopes' distances from the chord: with w = b t and
 // W = a u + w the curve is w w / (W h) hundredths above its left tangent.
 fn raised(t: u64, u: u64, h: u64, left: u64, d: u64, a: u64, b: u64) -> u64
     requires { ⌜ ConvexInput t u h left d a b ⌝ }
-    ensures { λ r. ⌜ r / 100 ≡ raised-reading t u h left d a b ⌝ }
+    ensures { λ r. ⌜ r / 100 ≡ inner.raised t u h left d a b / 100 ⌝ }
 {
     let tangent = 50 * (2 * left + 1) + d * t;
     let w = b * t;
@@ -47,7 +48,8 @@ fn raised(t: u64, u: u64, h: u64, left: u64, d: u64, a: u64, b: u64) -> u64
     if w < 0x1_0000_0000 {
         return tangent + w * w / (divisor * h);
     }
-    // w w passes 64 bits. From the leading bits the sum is at most 1 too low, which changes the last two digits alone unless they are 99.
+    // w w passes 64 bits. From the leading bits the sum is at most 1 too low, which changes the last two digits alone unless they
+    // are 99.
     let x = w / 32;
     let least = tangent + x * x / (divisor * h / 1024 + 1);
     if least % 100 != 99 {
@@ -68,10 +70,14 @@ fn slopes_of(p: Point, q: Point) -> Slopes
     ensures { λ r. ⌜ SlopesOver (segment-of p q) r ⌝ }
 {
     let h = (q.area - p.area) as i32;
+    let rise = (q.value as i32) - (p.value as i32);
+    let left = h * p.slope;
+    let chord = 100 * rise;
+    let right = h * q.slope;
     Slopes {
-        left: h * p.slope,
-        chord: 100 * ((q.value as i32) - (p.value as i32)),
-        right: h * q.slope,
+        left: left,
+        chord: chord,
+        right: right,
     }
 }
 
@@ -85,14 +91,10 @@ fn rising_factor(p: Point, q: Point, area: u32) -> i32
     }
     let t = (area - p.area) as u64;
     let u = (q.area - p.area) as u64 - t;
-    rising(
-        t,
-        u,
-        p.value as u64,
-        (q.value - p.value) as u64,
-        p.slope as u64,
-        q.slope as u64,
-    ) as i32
+    let rise = (q.value - p.value) as u64;
+    let d0 = p.slope as u64;
+    let d1 = q.slope as u64;
+    rising(t, u, p.value as u64, rise, d0, d1) as i32
 }
 
 // The factor at an area of a convex segment.
@@ -100,21 +102,15 @@ fn convex_factor(p: Point, q: Point, area: u32) -> i32
     requires { ⌜ Inside (Good Shape.convex) (segment-of p q) area ⌝ }
     ensures { λ r. ⌜ r ≡ round (interpolant Shape.convex (segment-of p q) area) ⌝ }
 {
+    let e = slopes_of(p, q);
+    let a = (e.right - e.chord) as u64;
+    let b = (e.chord - e.left) as u64;
+    let d = (p.slope + SLOPE_MOST) as u64;
     let t = (area - p.area) as u64;
     let u = (q.area - area) as u64;
     let h = (q.area - p.area) as u64;
-    let e = slopes_of(p, q);
-    let d = (p.slope + 10000) as u64;
-    let r = raised(
-        t,
-        u,
-        h,
-        p.value as u64,
-        d,
-        (e.right - e.chord) as u64,
-        (e.chord - e.left) as u64,
-    );
-    exact::floor_div((r as i64) - ((10000 * t) as i64), 100) as i32
+    let r = raised(t, u, h, p.value as u64, d, a, b);
+    (r / 100) as i32 - (100 * t) as i32
 }
 
 // The factor at an area of a segment that has its shape.

@@ -15,13 +15,13 @@ use Rattle.model.specs.Laws.{Curve}
 use Rattle.model.specs.Inner.{Readable}
 use Rattle.model.proofs.Outside.{not-before}
 use Rattle.model.proofs.Laws.{factors-are-ranged}
-use Rattle.curve.specs.Calls.{reading-answer, Ranged}
+use Rattle.curve.specs.Calls.{reading-answer, InRange}
 use Rattle.curve.proofs.Curve.{Accepts, accepts, curve-refused, on-points}
 use Rattle.curve.proofs.read.Statement.{statement}
 use Rattle.curve.proofs.read.Tie as tie
 
 returns : tie.Need-returns
-unfolding read-answer reading-answer Ranged
+unfolding read-answer reading-answer InRange
 returns c = (
   sym (curve-refused _ _ _ _ _ _ (c .before .before .curve-fault .ensures)
       (λ ps. row (outside ps _) 7 0 then gives (reading ps _ _)) (c .if1 .taken)),
@@ -43,7 +43,7 @@ module _ (c : tie.Else1) where
   after qs = row (outside qs (start .args .area)) 7 0 then gives (reading qs (start .args .shape) (start .args .area))
 
 returns-2 : tie.Need-returns-2
-unfolding read-answer reading-answer Ranged row _then_
+unfolding read-answer reading-answer InRange row _then_
 returns-2 c =
     let b = c .before .before in
     let k = no-fault b in
@@ -70,14 +70,15 @@ factor-at-requires : tie.Need-factor-at-requires
 factor-at-requires c κs = (no-fault (c .before .before .before) .alike, readable c)
 
 returns-3 : tie.Need-returns-3
-unfolding read-answer reading-answer Ranged row _then_
+unfolding read-answer reading-answer InRange row _then_
 returns-3 c =
     let e = c .before .before in
     let b = e .before .before in
     let k = no-fault b in
     let curve : Curve = record { points = ps b; code = start b .args .shape; accepted = k .accepted } in
+    let range = factors-are-ranged curve _ (record { within = within e }) in
     let factor = toZ-ofZ {w = w32} (record { sfits = c .factor-at .ok }) ∙ c .factor-at .ensures in
-    (rw (on-points k (after b), within e, factor), rw factor (factors-are-ranged curve _ (record { within = within e })))
+    (rw (on-points k (after b), within e, factor), rw factor (range .low, range .high))
 
 pub read-spec : {M : Type 1} → statement M
 read-spec =

@@ -13,7 +13,7 @@ use lib.ListN.{length}
 use Rattle.model.specs.Answer.{Answer, gives, row, _then_}
 use Rattle.model.specs.Points.{Point, points}
 use Rattle.model.specs.Sheet.{entries-most, bad-sheet, entry-rows, sheet-answer, sheet-list}
-use Rattle.model.proofs.TempTests.{or-left, or-right}
+use Rattle.exact.proofs.Tests.{or-left, or-right}
 use Rattle.model.proofs.SheetRows.{rows-inside}
 use Rattle.curve.specs.Calls.{filled-answer}
 use Rattle.curve.proofs.Curve.{Accepts, accepts, curve-refused, on-points}

@@ -7,7 +7,7 @@ use lib.IntN.{ℤ, pos, negℤ, _-ℤ_}
 use mir.Syntax.{w32}
 use mir.Val.{SFits, toZ}
 use mir.Facts.{toZ-ofZ, toZ-pos}
-use Rattle.exact.proofs.Magnitude.{fits-size, size--}
+use Rattle.exact.proofs.Magnitude.{sfits-of-size, size--}
 use Rattle.desk.proofs.refusal.Statement.{statement}
 use Rattle.desk.proofs.refusal.Tie as tie
 
@@ -19,7 +19,7 @@ module _ (c : tie.Start) where
   number-is = toZ-pos w32 (omega (arith, c .pre))
 
   result-fits : SFits w32 result
-  result-fits = fits-size w32 result (omega (arith, c .pre, size-- (negℤ (pos 1000000)) (pos (c .args .number))))
+  result-fits = sfits-of-size w32 result (omega (arith, c .pre, size-- (negℤ (pos 1000000)) (pos (c .args .number))))
 
 sub-result : tie.Need-sub-result
 sub-result c = rw (number-is c) (result-fits c)

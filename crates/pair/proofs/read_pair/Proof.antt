@@ -1,119 +1,133 @@
 -- `pair::read_pair` meets its contract, by what Read promises at the two areas.
 -- Assumes nothing.
-use mathlib.Core.Path.{refl, sym, _∙_, ap, subst}
+use mathlib.Core.Path.{_≡_, sym, _∙_, ap, subst}
+use mathlib.Core.Bool.{false}
 use mathlib.Core.List.{List}
 use Prim.Native.Nat.{ℕ, _≤_}
 use native.Mathlib.Omega.{arith}
-use lib.IntN.{ℤ, natAbs, _-ℤ_}
-use mir.Syntax.{w32}
-use mir.Val.{SFits}
-use mir.Facts.{toZ-ofZ}
-use Rattle.exact.proofs.Magnitude.{size-between, size--, fits-size}
-use Rattle.model.specs.Answer.{row, _then_}
-use Rattle.model.specs.Check.{curve-rows}
-use Rattle.model.specs.Read.{outside, reading, read-answer}
-use Rattle.curve.specs.Calls.{reading-answer}
-use Rattle.model.specs.Laws.{Curve, factor-at}
-use Rattle.model.proofs.Laws.{factors-are-ranged}
-use Rattle.model.proofs.Answers.{stopped, Given, given, beyond}
-use Rattle.pair.specs.Pair.{pair-answer, factors}
-use Rattle.pair.specs.Calls.{pair-read}
 use borrow.Author.Needs.{needs}
+use lib.IntN.{ℤ, natAbs, _-ℤ_}
+use lib.ListN.{length}
+use mir.Syntax.{w32}
+use mir.Val.{SFits, toZ, ofZ}
+use mir.Facts.{toZ-ofZ}
+use Rattle.exact.proofs.Magnitude.{size-between, size--, sfits-of-size}
+use Rattle.model.specs.Answer.{Answer, gives, refused, row, _then_}
+use Rattle.model.specs.Points.{Point, points}
+use Rattle.model.specs.Check.{lengths-differ, curve-rows, on-lists}
+use Rattle.model.specs.Read.{outside, reading, read-answer}
+use Rattle.model.proofs.Answers.{Given, given, on-lists-is, on-lists-gives, on-lists-refused, refused-outside, refused-before}
+use Rattle.curve.specs.Calls.{reading-answer, InRange}
+use Rattle.pair.specs.Pair.{pair-answer, factors}
+use Rattle.pair.specs.Calls.{factors-answer}
 use Rattle.pair.proofs.read_pair.Statement.{statement}
 use Rattle.pair.proofs.read_pair.Tie as tie
 
-read-requires : tie.Need-read-requires
-read-requires c κs = search needs
+-- what Read gave at an area
+record Read (areas values : List ℕ) (slopes : List ℤ) (code x : ℕ) (f : ℤ) : Type 0 where
+  pub given : Given (points areas values slopes) code x f
+  pub same-lengths : lengths-differ (length areas) (length values) (length slopes) ≡ false
+  pub small : natAbs f ≤ 200000
 
-enum-known-at-form : tie.Need-enum-known-at-form
-enum-known-at-form c = search needs
+read-of : (areas values : List ℕ) (slopes : List ℤ) (code x : ℕ) (f : ℤ) →
+    on-lists areas values slopes (λ ps. read-answer ps code x) ≡ gives f → InRange (gives f) → Read areas values slopes code x f
+unfolding InRange
+read-of areas values slopes code x f e r =
+    let k = on-lists-gives areas values slopes (λ ps. read-answer ps code x) e in
+    record { given = given _ code x (k .result); same-lengths = k .same-lengths; small = size-between f (r .0) (r .1) }
 
-enum-known-at-form-2 : tie.Need-enum-known-at-form-2
-enum-known-at-form-2 c = search needs
+module _ {areas values : List ℕ} {slopes : List ℤ} {code x : ℕ} {f : ℤ} (k : Read areas values slopes code x f) where
+  on-points : {A : Type 0} (call : List Point → Answer A) → on-lists areas values slopes call ≡ call (points areas values slopes)
+  on-points call = on-lists-is areas values slopes call (k .same-lengths)
 
-read-requires-2 : tie.Need-read-requires-2
-read-requires-2 c κs = search needs
+  factor-bits : toZ w32 (ofZ w32 f) ≡ f
+  factor-bits = toZ-ofZ (sfits-of-size w32 f (let h = k .small in omega arith))
 
-enum-known-at-plan : tie.Need-enum-known-at-plan
-enum-known-at-plan c = search needs
+  -- the difference of two factors fits 32 bits
+  difference-fits : {y : ℕ} {p : ℤ} → Read areas values slopes code y p → SFits w32 (p -ℤ f)
+  difference-fits {p = p} m = sfits-of-size w32 (p -ℤ f) (omega (arith, size-- p f, k .small, m .small))
 
-enum-known-at-plan-2 : tie.Need-enum-known-at-plan-2
-enum-known-at-plan-2 c = search needs
+abbrev start : tie.After-known-told2 → tie.Start
+start c = c .before .before .before .before .before .before
 
--- a factor given is within 200,000 of 0
-size : {areas values : List ℕ} {slopes : List ℤ} {code x : ℕ} {f : ℤ} → Given areas values slopes code x f → natAbs f ≤ 200000
-size {areas} {values} {slopes} {code} {x} k =
-    let c : Curve = record { areas = areas; values = values; slopes = slopes; code = code; accepted = k .accepted } in
-    let r = factors-are-ranged c x (record { within = k .within }) in
-    subst (λ (z : ℤ). natAbs z ≤ 200000) (k .factor) (size-between (factor-at c x) (r .0) (r .1))
+abbrev formed : tie.After-known-told4 → tie.After-known-told2
+formed c = c .before .before .before .before
 
-abbrev Factor : tie.Start → ℕ → ℤ → Type 0
-Factor s x f = Given (s .args .areas .now) (s .args .values .now) (s .args .slopes .now) (s .args .shape) x f
+abbrev ReadAt : tie.Start → ℕ → ℤ → Type 0
+ReadAt s x f = Read (s .args .areas .now) (s .args .values .now) (s .args .slopes .now) (s .args .shape) x f
 
-at-form : (c : tie.After-known-told2) → Factor (c .before .before .before .before .before .before) (c .before .before .before .before .before .before .args .form) (c .before .at-form2 .given .0 .0)
+at-form : (c : tie.After-known-told2) → ReadAt (start c) (start c .args .form) (c .before .at-form2 .given .0 .0)
 unfolding reading-answer
 at-form c =
-    let s = c .before .before .before .before .before .before in
-    given (s .args .areas .now) (s .args .values .now) (s .args .slopes .now) (s .args .shape) (s .args .form)
-    (sym (c .before .before .before .read .ensures) ∙ ap reading-answer (c .before .at-form2 .given .1))
+    let r = c .before .before .before .read .ensures in
+    let e = ap reading-answer (c .before .at-form2 .given .1) in
+    read-of _ _ _ _ _ _ (sym (r .0) ∙ e) (subst InRange e (r .1))
 
-at-plan : (c : tie.After-known-told4) → Factor (c .before .before .before .before .before .before .before .before .before .before) (c .before .before .before .before .before .before .before .before .before .before .args .plan) (c .before .at-plan2 .given .0 .0)
+at-plan : (c : tie.After-known-told4) → ReadAt (start (formed c)) (start (formed c) .args .plan) (c .before .at-plan2 .given .0 .0)
 unfolding reading-answer
 at-plan c =
-    let s = c .before .before .before .before .before .before .before .before .before .before in
-    given (s .args .areas .now) (s .args .values .now) (s .args .slopes .now) (s .args .shape) (s .args .plan)
-    (sym (c .before .before .before .read2 .ensures) ∙ ap reading-answer (c .before .at-plan2 .given .1))
+    let r = c .before .before .before .read2 .ensures in
+    let e = ap reading-answer (c .before .at-plan2 .given .1) in
+    read-of _ _ _ _ _ _ (sym (r .0) ∙ e) (subst InRange e (r .1))
 
-fits : {f : ℤ} → natAbs f ≤ 200000 → SFits w32 f
-fits {f} h = fits-size w32 f (omega arith)
+-- rows that refuse the form area refuse the pair
+form-refused : (ps : List Point) (code form plan : ℕ) {n i : ℕ} → read-answer ps code form ≡ refused n i →
+    pair-answer ps code form plan ≡ refused n i
+unfolding read-answer pair-answer
+form-refused ps code form plan e = refused-before (curve-rows ps code) (outside ps form) 7 (reading ps code form) _ e
 
-apart : (f p : ℤ) → natAbs f ≤ 200000 → natAbs p ≤ 200000 → SFits w32 (p -ℤ f)
-apart f p h k = fits-size w32 (p -ℤ f) (omega (arith, size-- p f))
+abbrev formed-3 : tie.After-known-told3 → tie.After-known-told2
+formed-3 c = c .before .before .before .before
 
 sub-t16 : tie.Need-sub-t16
 sub-t16 c =
-    let f = size (at-form (c .before .before .before .before)) in
-    let p = size (at-plan c) in
-    let x = c .before .before .before .before .before .at-form2 .given .0 .0 in
-    let y = c .before .at-plan2 .given .0 .0 in
-    rw (toZ-ofZ {w = w32} {z = x} (fits f), toZ-ofZ {w = w32} {z = y} (fits p)) (apart x y f p)
+    let f = at-form (formed c) in
+    let p = at-plan c in
+    rw (factor-bits f, factor-bits p) (difference-fits f p)
 
 returns : tie.Need-returns
-unfolding pair-answer pair-read reading-answer read-answer
+unfolding reading-answer factors-answer
 returns c =
     let s = c .before .before .before .before .before .before in
-    sym (stopped (curve-rows (s .args .areas .now) (s .args .values .now) (s .args .slopes .now) (s .args .shape)) (outside (s .args .areas .now) (s .args .form)) 7 (reading (s .args .areas .now) (s .args .values .now) (s .args .slopes .now) (s .args .shape) (s .args .form)) _ (sym (c .before .before .before .read .ensures) ∙ ap reading-answer (c .before .at-form .given .1)))
+    let e = sym (c .before .before .before .read .ensures .0) ∙ ap reading-answer (c .before .at-form .given .1) in
+    sym (on-lists-refused (s .args .areas .now) (s .args .values .now) (s .args .slopes .now) _ _ (form-refused _ _ _ _) e)
 
 returns-2 : tie.Need-returns-2
-unfolding pair-answer pair-read reading-answer row _then_
+unfolding pair-answer factors-answer reading-answer row _then_
 returns-2 c =
-    let s = c .before .before .before .before .before .before .before .before .before .before in
-    let k = at-form (c .before .before .before .before) in
-    let b = beyond (s .args .areas .now) (s .args .values .now) (s .args .slopes .now) (s .args .shape) (s .args .plan) (k .accepted) (sym (c .before .before .before .read2 .ensures) ∙ ap reading-answer (c .before .at-plan .given .1)) in
-    rw (k .accepted .none-applies, k .within, b .1, b .0) refl
+    let f = formed-3 c in
+    let s = start f in
+    let k = at-form f in
+    let e = sym (c .before .before .before .read2 .ensures .0) ∙ ap reading-answer (c .before .at-plan .given .1) in
+    let out = refused-outside _ _ _ (k .given .accepted) (sym (on-points k (λ ps. read-answer ps (s .args .shape) (s .args .plan))) ∙ e) in
+    rw (
+      on-points k (λ ps. pair-answer ps (s .args .shape) (s .args .form) (s .args .plan)),
+      k .given .accepted .none-applies,
+      k .given .within,
+      out .1,
+      out .0,
+    )
 
 returns-3 : tie.Need-returns-3
-unfolding pair-answer pair-read factors row _then_
+unfolding pair-answer factors-answer factors row _then_
 returns-3 c =
-    let k = at-form (c .before .before .before .before) in
+    let s = start (formed c) in
+    let k = at-form (formed c) in
     let m = at-plan c in
-    let f = size k in
-    let p = size m in
-    let x = c .before .before .before .before .before .at-form2 .given .0 .0 in
-    let y = c .before .at-plan2 .given .0 .0 in
-    rw (k .accepted .none-applies, k .within, m .within, k .factor, m .factor, toZ-ofZ {w = w32} {z = x} (fits f), toZ-ofZ {w = w32} {z = y} (fits p), toZ-ofZ {w = w32} {z = y -ℤ x} (apart x y f p)) refl
+    rw (
+      on-points k (λ ps. pair-answer ps (s .args .shape) (s .args .form) (s .args .plan)),
+      k .given .accepted .none-applies,
+      k .given .within,
+      m .given .within,
+      k .given .factor,
+      m .given .factor,
+      factor-bits k,
+      factor-bits m,
+      toZ-ofZ {w = w32} (difference-fits k m),
+    )
 
 pub read-pair-spec : {M : Type 1} → statement M
 read-pair-spec =
     tie.close
-    (tie.spec
-    read-requires
-    enum-known-at-form
-    enum-known-at-form-2
-    read-requires-2
-    enum-known-at-plan
-    enum-known-at-plan-2
-    sub-t16
-    returns
-    returns-2
-    returns-3)
+    (tie.spec (search needs) (search needs) (search needs) (search needs) (search needs) (search needs) sub-t16
+    returns returns-2 returns-3)

@@ -5,7 +5,7 @@ use mathlib.Core.Bool.{false}
 use lib.IntN.{pos}
 use lib.Signed.{ltZ}
 use mir.Facts.{toZ-ofZ}
-use Rattle.exact.proofs.Signed.{natural, not-below}
+use Rattle.exact.proofs.Signed.{cast-of-natural, natural-of-not-negative}
 use Rattle.print.proofs.above.Statement.{statement}
 use Rattle.print.proofs.above.Tie as tie
 
@@ -16,7 +16,7 @@ not-negative : (c : tie.Else1) → ltZ (c .before .args .n) (pos 0) ≡ false
 not-negative c = rw (toZ-ofZ (c .before .fits .n)) at (c .if1 .left)
 
 cast-result : tie.Need-cast-result
-cast-result c = rw (toZ-ofZ (c .before .fits .n)) (natural tt (c .before .fits .n) (not-below _ (not-negative c)))
+cast-result c = rw (toZ-ofZ (c .before .fits .n)) (cast-of-natural tt (c .before .fits .n) (natural-of-not-negative _ (not-negative c)))
 
 returns-2 : tie.Need-returns-2
 returns-2 c = rw (toZ-ofZ (c .before .fits .n), not-negative c)

@@ -11,7 +11,7 @@ use lib.Signed.{ltZ}
 use mir.Syntax.{w32}
 use mir.Val.{SFits}
 use mir.Facts.{toZ-ofZ, fits-natAbs}
-use Rattle.exact.proofs.Signed.{natural, mirror, mirror-negsuc, sfits-mirror, below}
+use Rattle.exact.proofs.Signed.{cast-of-natural, mirror, mirror-negsuc, sfits-mirror, mirror-natural-of-negative}
 use Rattle.print.proofs.below.Statement.{statement}
 use Rattle.print.proofs.below.Tie as tie
 
@@ -41,7 +41,7 @@ sub-result c = rw (toZ-ofZ (fits c)) (mirror-fits c)
 
 cast-result : tie.Need-cast-result
 cast-result c =
-    rw (toZ-ofZ (fits c), toZ-ofZ (mirror-fits c)) (natural tt (mirror-fits c) (below (n c) (negative c)))
+    rw (toZ-ofZ (fits c), toZ-ofZ (mirror-fits c)) (cast-of-natural tt (mirror-fits c) (mirror-natural-of-negative (n c) (negative c)))
 
 add-result : tie.Need-add-result
 add-result c = rw (toZ-ofZ (fits c), toZ-ofZ (mirror-fits c), size c) (fits-natAbs tt (fits c))

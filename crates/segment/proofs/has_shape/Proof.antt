@@ -1,8 +1,5 @@
 -- `segment::has_shape` meets its contract.
 -- Assumes nothing.
-use mathlib.Core.Path.{_∙_, sym, ap}
-use Rattle.model.specs.Points.{Shape}
-use Rattle.model.specs.Shape.{has-shape}
 use Rattle.model.proofs.Codes.{is-rising, is-convex}
 use Rattle.segment.proofs.has_shape.Statement.{statement}
 use Rattle.segment.proofs.has_shape.Tie as tie

@@ -4,90 +4,44 @@ use borrow.Author.Needs.{needs}
 use mathlib.Core.Path.{refl}
 use native.Mathlib.Nat.{mul-pos, div-div-eq-div-mul}
 use native.Mathlib.Omega.{arith}
-use Rattle.exact.proofs.Size.{product-size}
-use Rattle.segment.proofs.Sizes.{tangent-size, w-size, divisor-size, denominator-size, above-size, leading-size, least-near}
+use Rattle.exact.proofs.Magnitude.{product-size}
+use Rattle.segment.proofs.Sizes.{h-positive, tangent-size, divisor-size, denominator-size}
+use Rattle.segment.proofs.Sizes.{excess-size, raised-size, least-near}
 use Rattle.segment.proofs.raised.Statement.{statement}
 use Rattle.segment.proofs.raised.Tie as tie
 
-mul-tangent : tie.Need-mul-tangent
-mul-tangent c = search needs
-
-add-tangent : tie.Need-add-tangent
-add-tangent c = search needs
-
-mul-tangent-2 : tie.Need-mul-tangent-2
-mul-tangent-2 c = search needs
-
-mul-tangent-3 : tie.Need-mul-tangent-3
-mul-tangent-3 c = omega (arith, tangent-size (c .pre))
-
-add-tangent-2 : tie.Need-add-tangent-2
-add-tangent-2 c = omega (arith, tangent-size (c .pre))
-
-mul-w : tie.Need-mul-w
-mul-w c = omega (arith, w-size (c .pre))
-
-returns : tie.Need-returns
-returns c = omega (arith, above-size (c .before .pre))
-
-mul-divisor : tie.Need-mul-divisor
-mul-divisor c = omega (arith, divisor-size (c .before .pre))
-
-add-divisor : tie.Need-add-divisor
-add-divisor c = omega (arith, divisor-size (c .before .pre))
-
+-- w w in 64 bits
 mul-result : tie.Need-mul-result
 mul-result c = record { fits = product-size 32 32 (omega arith) (omega arith) }
 
-mul-result-2 : tie.Need-mul-result-2
-mul-result-2 c = omega (arith, denominator-size (c .before .before .pre))
-
 div-result : tie.Need-div-result
-div-result c = mul-pos (omega arith) (c .before .before .pre .least)
+div-result c = mul-pos (omega arith) (h-positive (c .before .before .pre))
 
-add-result : tie.Need-add-result
-add-result c =
-    let k = c .before .before .pre in
-    omega (arith, tangent-size k, w-size k, above-size k)
-
-returns-2 : tie.Need-returns-2
-returns-2 c = refl
-
+-- by leading bits
 mul-least : tie.Need-mul-least
-mul-least c = omega (arith, leading-size (c .before .before .pre))
-
-mul-least-2 : tie.Need-mul-least-2
-mul-least-2 c = omega (arith, denominator-size (c .before .before .pre))
-
-add-least : tie.Need-add-least
-add-least c = omega (arith, denominator-size (c .before .before .pre))
-
-div-least : tie.Need-div-least
-div-least c = search needs
+mul-least c =
+    let n = divisor-size (c .before .before .pre) in
+    record { fits = product-size 32 32 (omega arith) (omega arith) }
 
 add-least-2 : tie.Need-add-least-2
 add-least-2 c =
-    let k = c .before .before .pre in
-    let n = least-near k (omega arith) in
-    omega (arith, tangent-size k, w-size k, above-size k)
+    let n = least-near (c .before .before .pre) (omega arith) in
+    omega (arith, raised-size (c .before .before .pre))
 
 returns-3 : tie.Need-returns-3
 returns-3 c =
     let n = least-near (c .before .before .before .pre) (omega arith) in
     omega arith
 
+-- in full
 mul-div-requires : tie.Need-mul-div-requires
 mul-div-requires c κs =
     let n = divisor-size (c .before .before .before .pre) in
     record { part = omega arith; above-0 = omega arith; divisor = omega arith; factor = omega arith }
 
-div-result-2 : tie.Need-div-result-2
-div-result-2 c = search needs
-
 add-result-2 : tie.Need-add-result-2
 add-result-2 c =
-    let k = c .before .before .before .before .pre in
-    rw (c .mul-div .ensures, div-div-eq-div-mul) (omega (arith, tangent-size k, w-size k, above-size k))
+    rw (c .mul-div .ensures, div-div-eq-div-mul) (omega (arith, raised-size (c .before .before .before .before .pre)))
 
 returns-4 : tie.Need-returns-4
 returns-4 c = rw (c .mul-div .ensures, div-div-eq-div-mul)
@@ -95,4 +49,8 @@ returns-4 c = rw (c .mul-div .ensures, div-div-eq-div-mul)
 pub raised-spec : {M : Type 1} → statement M
 raised-spec =
     tie.close
-    (tie.spec mul-tangent add-tangent mul-tangent-2 mul-tangent-3 add-tangent-2 mul-w returns mul-divisor add-divisor mul-result mul-result-2 div-result add-result returns-2 mul-least mul-least-2 add-least div-least add-least-2 returns-3 mul-div-requires div-result-2 add-result-2 returns-4)
+    (tie.spec (search needs) (search needs) (search needs) (omega (arith, tangent-size)) (omega (arith, tangent-size))
+    (omega (arith, divisor-size)) (omega (arith, excess-size)) (omega (arith, divisor-size)) (omega (arith, divisor-size))
+    mul-result (omega (arith, denominator-size)) div-result (λ c. omega (arith, raised-size (c .before .before .pre))) (λ c. refl)
+    mul-least (omega (arith, denominator-size)) (omega (arith, denominator-size)) (search needs)
+    add-least-2 returns-3 mul-div-requires (omega (arith, h-positive)) add-result-2 returns-4)

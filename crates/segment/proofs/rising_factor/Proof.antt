@@ -2,66 +2,73 @@
 -- Assumes nothing.
 use borrow.Author.Needs.{needs}
 use mathlib.Core.Path.{_≡_, _∙_, ap, sym, subst⁻¹}
-use lib.IntN.{ℤ, pos}
+use lib.IntN.{pos}
 use mir.Syntax.{w32}
 use mir.Val.{SFits}
 use mir.Facts.{toZ-pos}
 use Rattle.exact.specs.Rounding.{round}
-use Rattle.model.specs.Points.{rising}
+use Rattle.exact.proofs.Signed.{cast-of-natural}
+use Rattle.model.specs.Points.{Segment, rising}
 use Rattle.model.specs.Interpolant.{interpolant}
 use Rattle.point.specs.Inner.{segment-of}
-use Rattle.exact.proofs.Signed.{natural}
-use Rattle.segment.proofs.EndSlopes.{slope-fits, slope-read, value-read}
-use Rattle.segment.proofs.Plain.{Rising, rest, rising-inside, flat-inside, reading-fits}
+use Rattle.segment.proofs.Figures.{slope-fits, slope-read, value-read, u-read, reading-fits}
+use Rattle.segment.proofs.RisingReading.{Rising, rising-inside, flat-inside}
 use Rattle.segment.proofs.rising_factor.Statement.{statement}
 use Rattle.segment.proofs.rising_factor.Tie as tie
 
-abbrev reads : tie.Start → ℤ
-reads c = round (interpolant rising (segment-of (c .args .p) (c .args .q)) (c .args .area))
+-- the places
+abbrev entry : tie.Else1 → tie.Start
+entry c = c .before .before .before
 
-facts : (c : tie.Else1) → Rising (segment-of (c .before .before .before .args .p) (c .before .before .before .args .q)) (c .before .before .before .args .area)
-facts c = rising-inside (c .before .before .before .pre) (c .if1 .left)
+abbrev at-rise : tie.After-struct-known8 → tie.Else1
+at-rise c = c .before .before .before .before .before
 
-abbrev at-rise : tie.After-struct-known9 → tie.Else1
-at-rise c = c .before .before .before .before .before .before
+abbrev at-d0 : tie.After-struct-told → tie.Else1
+at-d0 c = at-rise (c .before .before)
 
-abbrev at-left : tie.After-struct-told → tie.Else1
-at-left c = at-rise (c .before .before)
+abbrev at-d1 : tie.After-struct-told2 → tie.Else1
+at-d1 c = at-d0 (c .before .before)
 
-abbrev at-right : tie.After-struct-told2 → tie.Else1
-at-right c = at-left (c .before .before)
+abbrev segment : tie.Start → Segment
+segment c = segment-of (c .args .p) (c .args .q)
+
+facts : (c : tie.Else1) → Rising (segment (entry c)) (entry c .args .area)
+facts c = rising-inside (entry c .pre) (c .if1 .left)
 
 returns : tie.Need-returns
 returns c =
-    let s = c .before .before .before .before in
-    value-read (s .pre .good .ends .left) ∙ sym (flat-inside (s .pre) (c .before .if1 .taken))
+    let i = c .before .before .before .before .pre in
+    value-read (i .good .ends .left) ∙ sym (flat-inside i (c .before .if1 .taken))
 
-sub-rising : tie.Need-sub-rising
-sub-rising c = facts (at-rise c) .up
+cast-d0 : tie.Need-cast-d0
+cast-d0 c =
+    let l = entry (at-d0 c) .pre .good .ends .left in
+    rw (slope-read l) (cast-of-natural tt (slope-fits l) (facts (at-d0 c) .d₀-is))
 
-cast-rising-3 : tie.Need-cast-rising-3
-cast-rising-3 c =
-    let l = at-left c .before .before .before .pre .good .ends .left in
-    rw (slope-read l) (natural tt (slope-fits l) (facts (at-left c) .left-slope))
-
-cast-rising-4 : tie.Need-cast-rising-4
-cast-rising-4 c =
-    let l = at-right c .before .before .before .pre .good .ends .right in
-    rw (slope-read l) (natural tt (slope-fits l) (facts (at-right c) .right-slope))
+cast-d1 : tie.Need-cast-d1
+cast-d1 c =
+    let l = entry (at-d1 c) .pre .good .ends .right in
+    rw (slope-read l) (cast-of-natural tt (slope-fits l) (facts (at-d1 c) .d₁-is))
 
 rising-requires : tie.Need-rising-requires
 rising-requires c κs =
-    let k = at-right c .before .before .before .pre in
-    rw (rest k, slope-read (k .good .ends .left), slope-read (k .good .ends .right)) (facts (at-right c) .climbing)
+    let k = at-d1 (c .before) in
+    let i = entry k .pre in
+    rw (u-read i, slope-read (i .good .ends .left), slope-read (i .good .ends .right)) (facts k .input)
 
 -- the result is the reading
-read : (c : tie.After-rising) → pos (c .rising .result) ≡ reads (at-right (c .before) .before .before .before)
-read c =
-    let k = at-right (c .before) .before .before .before .pre in
-    ap pos (rw (rest k, slope-read (k .good .ends .left), slope-read (k .good .ends .right)) at (c .rising .ensures)) ∙ sym (facts (at-right (c .before)) .reading)
+module _ (c : tie.After-rising) where
+  abbrev start : tie.Start
+  start = entry (at-d1 (c .before .before))
 
-read-fits : (c : tie.After-rising) → SFits w32 (pos (c .rising .result))
-read-fits c = subst⁻¹ (SFits w32) (read c) (reading-fits (at-right (c .before) .before .before .before .pre))
+  read : pos (c .rising .result) ≡ round (interpolant rising (segment start) (start .args .area))
+  read =
+      let n = start .pre .good .ends in
+      ap pos (rw (u-read (start .pre), slope-read (n .left), slope-read (n .right)) at (c .rising .ensures))
+      ∙ sym (facts (at-d1 (c .before .before)) .reading)
+
+  read-fits : SFits w32 (pos (c .rising .result))
+  read-fits = subst⁻¹ (SFits w32) read (reading-fits (start .pre))
 
 returns-2 : tie.Need-returns-2
 returns-2 c = toZ-pos w32 (read-fits c .sfits) ∙ read c
@@ -69,4 +76,5 @@ returns-2 c = toZ-pos w32 (read-fits c .sfits) ∙ read c
 pub rising-factor-spec : {M : Type 1} → statement M
 rising-factor-spec =
     tie.close
-    (tie.spec (search needs) returns (search needs) (search needs) (search needs) (search needs) (search needs) (search needs) sub-rising (search needs) cast-rising-3 cast-rising-4 rising-requires read-fits returns-2)
+    (tie.spec (search needs) returns (search needs) (search needs) (search needs) (search needs) (search needs)
+    (λ c. facts (at-rise c) .up) (search needs) cast-d0 cast-d1 (search needs) rising-requires read-fits returns-2)

@@ -1,0 +1,208 @@
+-- The reading of a convex segment, in the natural numbers that the code computes with.
+--   Convex          the arguments of `raised`, and the reading from its result; convex-inside
+--   raised-slope    the left slope plus 10,000; above, below, the distances of the end slopes from the chord
+--   raised-at       `raised` at an area
+-- Assumes nothing.
+use mathlib.Core.Path.{_≡_, ap}
+use mathlib.Core.List.{[], _∷_}
+use Prim.Native.Nat.{ℕ, _+_, _*_, _/_, _<_}
+use native.Mathlib.Nat.{mul-pos, le-mul-of-pos-right, zero-mul, zero-div}
+use native.Mathlib.Omega.{arith}
+use lib.Dec.{lit<}
+use lib.IntN.{ℤ, pos, natAbs, _+ℤ_, _-ℤ_, _*ℤ_, *ℤ-comm, +ℤ-invr}
+use lib.Signed.{_<ℤ_, ≤ℤ-refl}
+use Rattle.exact.specs.Fraction.{_over_, whole, _+ℚ_, _*ℚ_, _≈ℚ_, _<ℚ_}
+use Rattle.exact.specs.Rounding.{half, round}
+use Rattle.exact.proofs.Ring.{ring, terms}
+use Rattle.exact.proofs.Order as Z
+use Rattle.exact.proofs.Order.{signs}
+use Rattle.exact.proofs.Field.{field, ratios}
+use Rattle.exact.proofs.Fractions as Q
+use Rattle.exact.proofs.Fractions.{propers, positivity}
+use Rattle.exact.proofs.Magnitude.{size-+}
+use Rattle.model.specs.Points.{slope-most, gradient, Segment, convex}
+use Rattle.model.specs.Interpolant as I
+use Rattle.model.specs.Interpolant.{interpolant}
+use Rattle.model.specs.Shape.{fits, has-shape}
+use Rattle.model.specs.Inner.{Good, Inside}
+use Rattle.model.proofs.ClosedForm.{Closed, congruence, W, convex-form, bending-of-normal, bent-value, straight-value}
+use Rattle.model.proofs.Curves.{bent, straight, bend-kind}
+use Rattle.model.proofs.Segments.{gap, rise, distance, S, g, e₀, e₁, a, b, normal, gap-positive, distance-in}
+use Rattle.segment.specs.Inner.{raised, ConvexInput}
+use Rattle.segment.proofs.Figures.{natural-is, slope-size, gap-is, a-size, b-size}
+use Rattle.segment.proofs.Figures.{t, u, h, from-left, from-right, h-is, distances}
+use Rattle.segment.proofs.Rounded.{round-lowered}
+
+module _ (s : Segment) where
+  abbrev raised-slope : ℕ
+  raised-slope = natAbs (s .left .slope +ℤ pos slope-most)
+
+  abbrev above : ℕ
+  above = natAbs (a s)
+
+  abbrev below : ℕ
+  below = natAbs (b s)
+
+  abbrev pub raised-at : ℕ → ℕ
+  raised-at x = raised (t s x) (u s x) (h s) (s .left .value) raised-slope above below
+
+pub record Convex (s : Segment) (x : ℕ) : Type 0 where
+  pub slope-is : s .left .slope +ℤ pos slope-most ≡ pos (raised-slope s)
+  pub above-is : a s ≡ pos (above s)
+  pub below-is : b s ≡ pos (below s)
+  pub input : ConvexInput (t s x) (u s x) (h s) (s .left .value) (raised-slope s) (above s) (below s)
+  pub reading : round (interpolant convex s x) ≡ pos (raised-at s x / 100) -ℤ pos (100 * t s x)
+
+-- ---- the end slopes and the chord
+
+module _ (s : Segment) where
+  below-positive : gradient (s .left) <ℚ rise s over gap s → pos 0 <ℤ b s
+  unfolding gradient _over_
+  below-positive k = Z.positive-difference (rw (*ℤ-comm (s .left .slope) (gap s), *ℤ-comm (rise s) (pos 100)) at (k .cross))
+
+  above-positive : rise s over gap s <ℚ gradient (s .right) → pos 0 <ℤ a s
+  unfolding gradient _over_
+  above-positive k = Z.positive-difference (rw (*ℤ-comm (rise s) (pos 100), *ℤ-comm (s .right .slope) (gap s)) at (k .cross))
+
+  below-zero : gradient (s .left) ≈ℚ rise s over gap s → b s ≡ pos 0
+  unfolding gradient _over_
+  below-zero k = rw (*ℤ-comm (gap s) (s .left .slope), k .cross, *ℤ-comm (rise s) (pos 100)) (+ℤ-invr (g s))
+
+  above-zero : rise s over gap s ≈ℚ gradient (s .right) → a s ≡ pos 0
+  unfolding gradient _over_
+  above-zero k = rw (*ℤ-comm (pos 100) (rise s), k .cross, *ℤ-comm (s .right .slope) (gap s)) (+ℤ-invr (e₁ s))
+
+-- ---- the curve and one half, as one fraction
+
+-- 100 times the left tangent and 50, raised and lowered again
+abbrev tangent-hundredths : (l d t : ℤ) → ℤ
+tangent-hundredths l d t = pos 50 *ℤ (pos 2 *ℤ l +ℤ pos 1) +ℤ (d +ℤ pos slope-most) *ℤ t -ℤ pos 100 *ℤ t *ℤ pos 100
+
+straight-half : (l d t : ℤ) →
+    whole l +ℚ (d over pos 100) *ℚ whole t +ℚ half ≈ℚ (tangent-hundredths l d t *ℤ pos 1 +ℤ pos 0) over (pos 1 *ℤ pos 100)
+straight-half l d t = field (l ∷ d ∷ t ∷ []) (search ratios depth 20 fits 9999) tt
+
+bent-half : (l d t h W w : ℤ) →
+    whole l +ℚ ((h *ℤ d *ℤ t) over (pos 100 *ℤ h)) +ℚ ((w *ℤ w) over (pos 100 *ℤ h *ℤ W)) +ℚ half
+    ≈ℚ (tangent-hundredths l d t *ℤ (W *ℤ h) +ℤ w *ℤ w) over (W *ℤ h *ℤ pos 100)
+bent-half l d t h W w = field (l ∷ d ∷ t ∷ w ∷ h ∷ W ∷ []) (search ratios depth 20 fits 9999) tt
+
+-- ---- the reading
+
+module _ {s : Segment} {x : ℕ} (i : Inside (Good convex) s x) where
+  slope-is : s .left .slope +ℤ pos slope-most ≡ pos (raised-slope s)
+  slope-is = natural-is (Z.≤-+ (i .good .ends .left .slope-low) (≤ℤ-refl (pos slope-most)))
+
+  -- the left tangent, as in `raised`
+  abbrev raised-tangent : ℕ
+  raised-tangent = 50 * (2 * s .left .value + 1) + raised-slope s * t s x
+
+  abbrev Reads : Type 0
+  Reads = round (interpolant convex s x) ≡ pos (raised-at s x / 100) -ℤ pos (100 * t s x)
+
+  convex-facts : a s ≡ pos (above s) → b s ≡ pos (below s) → Reads → Convex s x
+  convex-facts above-is below-is reads =
+      let n = i .good .ends in
+      record {
+        slope-is = slope-is;
+        above-is = above-is;
+        below-is = below-is;
+        input = record {
+          distances = distances i n;
+          whole = h-is i;
+          value = n .left .value;
+          slope = omega (arith, size-+ (s .left .slope) (pos slope-most), slope-size (n .left));
+          above = a-size n;
+          below = b-size n;
+        };
+        reading = reads;
+      }
+
+  -- ---- the straight line
+
+  module _ (low : gradient (s .left) ≈ℚ rise s over gap s) (high : rise s over gap s ≈ℚ gradient (s .right)) where
+    straight-closed : Closed (interpolant convex s x)
+        (whole (pos (s .left .value)) +ℚ (rise s over gap s) *ℚ whole (distance s x))
+    unfolding I.interpolant I.curve
+    straight-closed = straight-value (normal s (i .good .ends .ordered)) (distance s x) low
+
+    along-slope : Closed (interpolant convex s x)
+        (whole (pos (s .left .value)) +ℚ (s .left .slope over pos 100) *ℚ whole (pos (t s x)))
+    unfolding gradient
+    along-slope =
+        let hp = gap-positive s (i .good .ends .ordered) in
+        let e = Q.≈-sym low in
+        record {
+          proper = straight-closed .proper;
+          same = Q.≈-trans (search propers) (rw (from-left i) at (straight-closed .same)) (search congruence);
+        }
+
+    straight-reads : Reads
+    straight-reads =
+        rw (ap natAbs (below-zero s low)) (simp (zero-mul, zero-div)
+        (round-lowered raised-tangent (100 * t s x) 0 {w = 1} along-slope (search positivity) (lit< tt)
+        (rw slope-is at (straight-half (pos (s .left .value)) (s .left .slope) (pos (t s x))))))
+
+    straight-facts : Convex s x
+    straight-facts = convex-facts (rw (above-zero s high)) (rw (below-zero s low)) straight-reads
+
+  -- ---- the curve
+
+  module _ (low : gradient (s .left) <ℚ rise s over gap s) (high : rise s over gap s <ℚ gradient (s .right)) where
+    bent-closed : Closed (interpolant convex s x)
+        (convex-form (gap s) (pos (s .left .value)) (distance s x) (S s) (a s) (g s) (b s))
+    unfolding I.interpolant I.curve
+    bent-closed = bent-value (bending-of-normal (normal s (i .good .ends .ordered)) low high) (distance-in i)
+
+    above-is : a s ≡ pos (above s)
+    above-is = natural-is (Z.≤-of-< (above-positive s high))
+
+    below-is : b s ≡ pos (below s)
+    below-is = natural-is (Z.≤-of-< (below-positive s low))
+
+    abbrev w : ℕ
+    w = below s * t s x
+
+    abbrev divisor : ℕ
+    divisor = above s * u s x + w
+
+    W-is : W (gap s) (distance s x) (a s) (b s) ≡ pos divisor
+    W-is = rw (from-right i, from-left i, above-is, below-is)
+
+    left-is : g s -ℤ b s ≡ pos (h s) *ℤ s .left .slope
+    left-is = rw (← gap-is (i .good .ends)) (ring (g s ∷ e₀ s ∷ []) (search terms depth 20 fits 9999) tt)
+
+    S-is : S s ≡ pos 100 *ℤ pos (h s)
+    S-is = rw (gap-is (i .good .ends))
+
+    over-tangent : Closed (interpolant convex s x)
+        (whole (pos (s .left .value)) +ℚ ((pos (h s) *ℤ s .left .slope *ℤ pos (t s x)) over (pos 100 *ℤ pos (h s)))
+        +ℚ ((pos w *ℤ pos w) over (pos 100 *ℤ pos (h s) *ℤ pos divisor)))
+    over-tangent = rw (W-is, left-is, S-is, from-left i, below-is) at bent-closed
+
+    divisor-positive : 0 < divisor
+    divisor-positive =
+        let k : 0 < above s = Z.<-of-pos-< (rw above-is at (above-positive s high)) in
+        let l : 0 < below s = Z.<-of-pos-< (rw below-is at (below-positive s low)) in
+        let d = distances i (i .good .ends) in
+        omega (arith, le-mul-of-pos-right (u s x) k, le-mul-of-pos-right (t s x) l)
+
+    bent-reads : Reads
+    bent-reads =
+        let k : 0 < h s = (let o = i .good .ends .ordered in omega arith) in
+        let h-pos : pos 0 <ℤ pos (h s) = Z.pos-<-of-< k in
+        let W-pos : pos 0 <ℤ pos divisor = Z.pos-<-of-< divisor-positive in
+        round-lowered raised-tangent (100 * t s x) (w * w) {w = divisor * h s} over-tangent (search (propers, signs) depth 9)
+        (mul-pos divisor-positive k)
+        (rw slope-is at (bent-half (pos (s .left .value)) (s .left .slope) (pos (t s x)) (pos (h s)) (pos divisor) (pos w)))
+
+    bent-facts : Convex s x
+    bent-facts = convex-facts above-is below-is bent-reads
+
+pub convex-inside : {s : Segment} {x : ℕ} → Inside (Good convex) s x → Convex s x
+unfolding has-shape fits
+convex-inside {s} i =
+    elim (bend-kind (gap s) (rise s) (i .good .shaped)) [
+      | bent low high ↦ bent-facts i low high
+      | straight low high ↦ straight-facts i low high
+    ]

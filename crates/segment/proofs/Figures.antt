@@ -1,0 +1,156 @@
+-- The figures of a segment within its limits, in machine numbers.
+--   slope-fits, slope-read, value-read   a point's figures in 32 bits
+--   gap-read, rise-read, u-read          differences, as the code computes them
+--   e₀-fits, g-fits, e₁-fits             the slopes over 100 h; a-fits, b-fits, a-read, b-read, their distances from the chord
+--   t, u, h                              the distances of an area from the two ends, and their sum
+--   reading-fits                         the reading in 32 bits
+-- Assumes nothing.
+use mathlib.Core.Path.{_≡_, sym, _∙_, ap, ap₂}
+use mathlib.Core.List.{[], _∷_}
+use Prim.Native.Nat.{ℕ, _+_, _-_, _*_, _≤_}
+use native.Mathlib.Nat.{mul-le-mul}
+use native.Mathlib.Omega.{arith}
+use lib.IntN.{ℤ, pos, natAbs, _+ℤ_, _-ℤ_, _*ℤ_}
+use lib.Signed.{_≤ℤ_, yes-nonNeg, pos-natAbs}
+use mir.Syntax.{w32}
+use mir.Val.{SFits, toZ, ofZ}
+use mir.Facts.{toZ-ofZ, toZ-pos}
+use Rattle.exact.specs.Rounding.{round}
+use Rattle.exact.proofs.Ring.{ring, terms}
+use Rattle.exact.proofs.Magnitude.{size-between, size--, size-*, size-difference, sfits-of-size}
+use Rattle.model.specs.Points.{gap-most, value-most, slope-most, Point, Segment, Shape}
+use Rattle.model.specs.Inner.{Limits, Neighbours, Good, Inside}
+use Rattle.model.specs.Interpolant.{interpolant}
+use Rattle.model.proofs.Segments.{gap, rise, distance, e₀, e₁, g, a, b, interpolant-proper}
+use Rattle.exact.proofs.Rounding.{round-rounding}
+use Rattle.model.proofs.Range.{value-range, reading-range}
+use Rattle.segment.specs.Inner.{Distances, over-most, SlopesOver}
+use Rattle.segment.specs.declared.Slopes.{Slopes}
+
+-- a difference that is not negative
+pub difference-pos : {m n : ℕ} → n ≤ m → pos m -ℤ pos n ≡ pos (m - n)
+difference-pos {m} {n} k = rw (sum k) at (cancel n (m - n))
+  where
+    sum : n ≤ m → n + (m - n) ≡ m
+    sum k = omega arith
+
+    cancel : (n d : ℕ) → pos (n + d) -ℤ pos n ≡ pos d
+    cancel n d = ring (pos n ∷ pos d ∷ []) {a = pos n +ℤ pos d -ℤ pos n} (search terms depth 20 fits 9999) tt
+
+pub natural-is : {z : ℤ} → pos 0 ≤ℤ z → z ≡ pos (natAbs z)
+natural-is {z} k = sym (pos-natAbs z (yes-nonNeg k))
+
+-- ---- a point
+
+module _ {p : Point} (l : Limits p) where
+  pub slope-size : natAbs (p .slope) ≤ slope-most
+  slope-size = size-between (p .slope) (l .slope-low) (l .slope-high)
+
+  pub slope-fits : SFits w32 (p .slope)
+  slope-fits = sfits-of-size w32 (p .slope) (omega (arith, slope-size))
+
+  pub slope-read : toZ w32 (ofZ w32 (p .slope)) ≡ p .slope
+  slope-read = toZ-ofZ slope-fits
+
+  pub value-read : toZ w32 (p .value) ≡ pos (p .value)
+  value-read = toZ-pos w32 (let m = l .value in omega arith)
+
+-- ---- a segment
+
+abbrev pub h : Segment → ℕ
+h s = s .right .area - s .left .area
+
+over-fits : (z : ℤ) → natAbs z ≤ 2 * over-most → SFits w32 z
+over-fits z k = sfits-of-size w32 z (omega arith)
+
+module _ {s : Segment} (n : Neighbours s) where
+  pub gap-is : gap s ≡ pos (h s)
+  gap-is = difference-pos (let k = n .ordered in omega arith)
+
+  pub gap-read : toZ w32 (h s) ≡ gap s
+  gap-read = toZ-pos w32 (let k = n .near in omega arith) ∙ sym gap-is
+
+  rise-size : natAbs (rise s) ≤ value-most
+  rise-size = size-difference (n .right .value) (n .left .value)
+
+  pub rise-fits : SFits w32 (rise s)
+  rise-fits = over-fits (rise s) (omega (arith, rise-size))
+
+  pub rise-read : toZ w32 (s .right .value) -ℤ toZ w32 (s .left .value) ≡ rise s
+  rise-read = ap₂ (λ x y. x -ℤ y) (value-read (n .right)) (value-read (n .left))
+
+  -- the slope of an end, over 100 h
+  over-size : {p : Point} → Limits p → natAbs (gap s *ℤ p .slope) ≤ over-most
+  over-size {p} l =
+      let k = n .near in
+      let m = ap natAbs gap-is in
+      omega (arith, size-* (gap s) (p .slope), mul-le-mul {n₁ = natAbs (gap s)} {n₂ = gap-most} (omega arith) (slope-size l))
+
+  g-size : natAbs (g s) ≤ over-most
+  g-size = omega (arith, rise-size, size-* (pos 100) (rise s))
+
+  pub a-size : natAbs (a s) ≤ 2 * over-most
+  a-size = omega (arith, size-- (e₁ s) (g s), over-size (n .right), g-size)
+
+  pub b-size : natAbs (b s) ≤ 2 * over-most
+  b-size = omega (arith, size-- (g s) (e₀ s), over-size (n .left), g-size)
+
+  pub e₀-fits : SFits w32 (e₀ s)
+  e₀-fits = over-fits (e₀ s) (omega (arith, over-size (n .left)))
+
+  pub g-fits : SFits w32 (g s)
+  g-fits = over-fits (g s) (omega (arith, g-size))
+
+  pub e₁-fits : SFits w32 (e₁ s)
+  e₁-fits = over-fits (e₁ s) (omega (arith, over-size (n .right)))
+
+  pub a-fits : SFits w32 (a s)
+  a-fits = over-fits (a s) a-size
+
+  pub b-fits : SFits w32 (b s)
+  b-fits = over-fits (b s) b-size
+
+  -- a and b, from what `slopes_of` gives
+  module _ {e : Slopes} (k : SlopesOver s e) where
+    pub a-read : toZ w32 (ofZ w32 (e .right)) -ℤ toZ w32 (ofZ w32 (e .chord)) ≡ a s
+    a-read = rw (k .right, k .chord, toZ-ofZ e₁-fits, toZ-ofZ g-fits)
+
+    pub b-read : toZ w32 (ofZ w32 (e .chord)) -ℤ toZ w32 (ofZ w32 (e .left)) ≡ b s
+    b-read = rw (k .chord, k .left, toZ-ofZ g-fits, toZ-ofZ e₀-fits)
+
+-- ---- an area inside
+
+abbrev pub t : Segment → ℕ → ℕ
+t s x = x - s .left .area
+
+abbrev pub u : Segment → ℕ → ℕ
+u s x = s .right .area - x
+
+module _ {G : Segment → Type 0} {s : Segment} {x : ℕ} (i : Inside G s x) where
+  pub from-left : distance s x ≡ pos (t s x)
+  from-left = difference-pos (i .low)
+
+  pub from-right : gap s -ℤ distance s x ≡ pos (u s x)
+  from-right = ends-difference ∙ difference-pos (i .high)
+    where
+      ends-difference : gap s -ℤ distance s x ≡ pos (s .right .area) -ℤ pos x
+      ends-difference = ring (pos (s .right .area) ∷ pos (s .left .area) ∷ pos x ∷ []) (search terms depth 20 fits 9999) tt
+
+  pub h-is : h s ≡ t s x + u s x
+  h-is = let l = i .low in let r = i .high in omega arith
+
+  pub u-read : h s - t s x ≡ u s x
+  u-read = let l = i .low in let r = i .high in omega arith
+
+  pub distances : Neighbours s → Distances (t s x) (u s x)
+  distances n =
+      let k = n .near in
+      let l = n .ordered in
+      let e = h-is in
+      record { most = omega arith; least = omega arith }
+
+-- the reading fits 32 bits
+pub reading-fits : {shape : Shape} {s : Segment} {x : ℕ} → Inside (Good shape) s x → SFits w32 (round (interpolant shape s x))
+reading-fits {shape} {s} {x} i =
+    let r = reading-range round-rounding (interpolant shape s x) (interpolant-proper i) (value-range i) in
+    sfits-of-size w32 (round (interpolant shape s x)) (omega (arith, size-between {n = 200000} _ (r .low) (r .high)))
