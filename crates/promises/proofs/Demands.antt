@@ -173,7 +173,7 @@ half-a-unit c x f r =
     let k = is r in
     let n = factors-are-near c x (k .area) in
     let near = rw (k .same) at n in
-    (values-are-proper c x (k .area), ≤-of-< (near .0), near .1)
+    (values-are-proper c x (k .area), ≤-of-< (near .above), near .below)
 
 pub same-factor : D.SameFactor
 same-factor c x f g r s = sym (is r .same) ∙ is s .same

@@ -12,9 +12,9 @@ use Rattle.model.specs.Answer.{gives}
 use Rattle.model.specs.Points.{area-most, Point, Shape}
 use Rattle.model.specs.Check.{curve-rows, on-lists}
 use Rattle.model.specs.Inner.{areas-of, Good}
-use Rattle.model.proofs.Walk.{chain-ordered}
+use Rattle.model.proofs.Walk.{chain-ordered, good-ordered}
 use Rattle.model.proofs.Indexed.{last-area-at, Chained, chained}
-use Rattle.model.proofs.Accepted.{good-ordered, chained-of, area-limit}
+use Rattle.model.proofs.Accepted.{chained-of, area-limit}
 use Rattle.model.proofs.Outside.{first, last, inside-of-both}
 use Rattle.rows.proofs.Faults.{no-fault}
 use Rattle.curve.proofs.Curve.{Accepts, accepts}

@@ -1,5 +1,8 @@
 // A sheet for the benchmark's C program: the calls of the interface stand in the other crates.
 ghost use mathlib.Core.Path.{_≡_};
+ghost use lib.ListN.{length};
+ghost use Rattle.model.specs.Points.{points};
+ghost use Rattle.model.specs.Check.{on-lists};
 ghost use Rattle.model.specs.Sheet.{sheet-answer, sheet-list};
 ghost use Rattle.sheetshim.specs.Entries.{entries};
 use curve::Filled;
@@ -15,8 +18,14 @@ pub extern "C" fn sheet_factors(
     step: u32,
     out: &mut [i32],
 ) -> u32
-    ensures answer { λ r. ⌜ r ≡ entries (sheet-answer (now (areas .entry)) (now (values .entry)) (now (slopes .entry)) shape start step (now (out .entry))) ⌝ }
-    ensures list { λ _. ⌜ now (out .exit) ≡ sheet-list (now (areas .entry)) (now (values .entry)) (now (slopes .entry)) shape start step (sheet-answer (now (areas .entry)) (now (values .entry)) (now (slopes .entry)) shape start step (now (out .entry))) (now (out .entry)) ⌝ }
+    ensures answer { λ r. ⌜ r
+        ≡ entries (on-lists (now (areas .entry)) (now (values .entry)) (now (slopes .entry))
+        (λ ps. sheet-answer ps shape start step (length (now (out .entry))))) ⌝ }
+    ensures list { λ _. ⌜ now (out .exit)
+        ≡ sheet-list (points (now (areas .entry)) (now (values .entry)) (now (slopes .entry))) shape start step
+        (on-lists (now (areas .entry)) (now (values .entry)) (now (slopes .entry))
+        (λ ps. sheet-answer ps shape start step (length (now (out .entry)))))
+        (now (out .entry)) ⌝ }
 {
     match curve::sheet(areas, values, slopes, shape, start, step, out) {
         Filled::Refused(_, _) => 0,

@@ -7,26 +7,11 @@ use Rattle.sheetshim.specs.Entries.{entries}
 use Rattle.sheetshim.proofs.sheet_factors.Statement.{statement}
 use Rattle.sheetshim.proofs.sheet_factors.Tie as tie
 
-sheet-requires : tie.Need-sheet-requires
-sheet-requires c κs = search needs
-
-enum-told : tie.Need-enum-told
-enum-told c = search needs
-
-enum-known-n : tie.Need-enum-known-n
-enum-known-n c = search needs
-
-same-length : tie.Need-same-length
-same-length c = search needs
-
 returns : tie.Need-returns
 unfolding filled-answer entries
 returns c =
     let e = c .before .before .before .sheet .ensures in
     (ap entries (sym (ap filled-answer (c .enum-told .given .1)) ∙ e .0), rw (← e .0) (e .1))
-
-same-length-2 : tie.Need-same-length-2
-same-length-2 c = search needs
 
 returns-2 : tie.Need-returns-2
 unfolding filled-answer entries
@@ -35,4 +20,6 @@ returns-2 c =
     (ap entries (sym (ap filled-answer (c .before .n .given .1)) ∙ e .0), rw (← e .0) (e .1))
 
 pub sheet-factors-spec : {M : Type 1} → statement M
-sheet-factors-spec = tie.close (tie.spec sheet-requires enum-told enum-known-n same-length returns same-length-2 returns-2)
+sheet-factors-spec =
+    tie.close
+    (tie.spec (search needs) (search needs) (search needs) (search needs) returns (search needs) returns-2)
