@@ -3,18 +3,32 @@ ghost use mathlib.Core.Path.{_≡_};
 ghost use mathlib.Core.Bool.{true, false};
 ghost use mathlib.Core.List.{map, _++_};
 ghost use lib.ListN.{length, drop};
+ghost use Rattle.model.specs.Points.{shape-of};
 ghost use Rattle.model.specs.Check.{bad-code, curve-rows, Accepted};
 ghost use Rattle.model.specs.Read.{outside as lies-outside, reading, read-answer};
-ghost use Rattle.model.specs.Inner.{fault-answer, areas-of, Taken, Readable};
+ghost use Rattle.model.specs.Inner.{fault-answer, areas-of, Limits, Taken, Readable};
+ghost use Rattle.point.specs.Inner.{point-of};
 ghost use Rattle.curve.specs.Calls.{reading-answer};
 ghost use Rattle.layout.specs.Layout.{first-points};
 ghost use Rattle.layout.specs.Inner.{Holds};
-ghost use Rattle.records.specs.Inner.{CurvePoints, Room, Begins};
+ghost use Rattle.records.specs.Inner.{Follows, CurvePoints, Room, Begins};
 use curve::Reading;
 use layout::area_of;
 use layout::record_at;
+use point::Point;
 use rows::Fault;
 use rows::POINTS_MOST;
+
+// Rows 3 to 6 of the second of two points and of the segment between them.
+fn follows(shape: u32, p: Point, q: Point) -> bool
+    requires { ⌜ Limits (point-of p) ⌝ }
+    ensures { λ r. ⌜ (r ≡ true → Follows (shape-of shape) (point-of p) (point-of q)) ⌝ }
+{
+    if point::point_fault(false, p.area, q) != 0 {
+        return false;
+    }
+    segment::has_shape(shape, p, q)
+}
 
 // Rows 3 to 6 in one pass. Where it finds a fault it does not say which.
 fn all_pass(bytes: &[u8], n: usize, shape: u32) -> bool
@@ -28,12 +42,7 @@ fn all_pass(bytes: &[u8], n: usize, shape: u32) -> bool
     let mut left: usize = 0;
     while left < last {
         let right = left + 1;
-        let p = record_at(bytes, left);
-        let q = record_at(bytes, right);
-        if point::point_fault(false, p.area, q) != 0 {
-            return false;
-        }
-        if !segment::has_shape(shape, p, q) {
+        if !follows(shape, record_at(bytes, left), record_at(bytes, right)) {
             return false;
         }
         left = right;

@@ -7,6 +7,7 @@ use mathlib.Core.Option.{none, some}
 use Prim.Native.Nat.{ℕ, _+_, _-_, _≤_, _<_}
 use native.Mathlib.Omega.{arith}
 use borrow.Author.Needs.{needs}
+use borrow.Author.Tests.{not-false}
 use Rattle.model.specs.Answer.{row, _then_}
 use Rattle.model.specs.Points.{Point, shape-of}
 use Rattle.model.specs.Check.{point-rows}
@@ -63,42 +64,17 @@ loop-holds c =
       last-is = omega arith;
       limits = limits-of-no-fault 0 none _ f (c .if1 .left);
       points-pass =
-        sym (passes 0 _ (c .if1 .left))
-        ∙ point-turn (ps c) none 0 _ _ (rw (size-of-first (bytes c) (n c)) first) (sym (point-is (bytes c) (n c) 0 first)) f;
+          sym (passes 0 _ (c .if1 .left))
+          ∙ point-turn (ps c) none 0 _ _ (rw (size-of-first (bytes c) (n c)) first) (sym (point-is (bytes c) (n c) 0 first)) f;
       segments-pass = refl;
     }
 
-left-area : (c : tie.After-record-at2 Inv-loop μ-loop) →
-    c .record-at2 .result .area ≡ record-at (bytes (c .before .before .before)) (c .before .before .loop .left) .area
-left-area c = ap (λ (p : Point). p .area) (c .record-at2 .ensures)
+-- the places before a call of `follows`
+abbrev loop-of : tie.After-record-at3 Inv-loop μ-loop → tie.At-loop Inv-loop μ-loop
+loop-of c = c .before .before .before
 
--- the point to the right of `left`
-module _ (c : tie.Else2 Inv-loop μ-loop) where
-  abbrev loop-of : tie.At-loop Inv-loop μ-loop
-  loop-of = c .before .before .before .before .before
-
-  abbrev left : ℕ
-  left = loop-of .loop .left
-
-  abbrev right : ℕ
-  right = left + 1
-
-  abbrev at : ℕ → Point
-  at = record-at (bytes (loop-of .before))
-
-  right-rows : fault-answer (c .before .point-fault2 .result) right ≡ point-rows right (some (at left .area)) (at right ∷ [])
-  unfolding earlier
-  right-rows =
-      c .before .point-fault2 .ensures right
-      ∙ ap₂ (λ a q. point-rows right (some a) (q ∷ [])) (left-area (c .before .before .before)) (c .before .before .record-at3 .ensures)
-
-  right-passed : Passed right (some (at left .area)) (at right) []
-  right-passed = passed right _ (at right) [] (sym right-rows ∙ no-fault right (c .if2 .left))
-
-has-shape-requires : tie.Need-has-shape-requires Inv-loop μ-loop
-has-shape-requires c κs =
-    rw (c .before .before .record-at3 .ensures, c .before .before .before .record-at2 .ensures)
-    (neighbours (loop-of c .loop .inv .limits) (right-passed c))
+follows-requires : tie.Need-follows-requires Inv-loop μ-loop
+follows-requires c κs = rw (c .before .record-at2 .ensures) (loop-of c .loop .inv .limits)
 
 loop-again : tie.Need-loop-again Inv-loop μ-loop
 unfolding row _then_
@@ -109,28 +85,27 @@ loop-again c =
     let k = l .loop .inv in
     let i = l .loop .left in
     let size = size-of-first (bytes s) (n s) in
-    let t = e .before .before .before .before .loop-test .taken in
+    let t = e .before .before .loop-test .taken in
     let inner : i + 1 < n s = omega arith in
     let outer : i < n s = omega arith in
-    let here = sym (point-is (bytes s) (n s) i outer) in
     let next = sym (point-is (bytes s) (n s) (i + 1) inner) in
+    let f = rw (e .before .record-at2 .ensures, e .record-at3 .ensures) at (c .before .follows .ensures (not-false _ (c .if2 .left))) in
     record {
       inner = omega arith;
       last-is = k .last-is;
-      limits = right-passed e .limits;
+      limits = passed (i + 1) _ _ [] (f .point-passes (i + 1)) .limits;
       points-pass =
-        sym (passes (i + 1) _ (e .if2 .left)) ∙ point-turn (ps s) _ (i + 1) _ _ (rw size inner) next (right-rows e)
-        ∙ k .points-pass;
+          sym (passes (i + 1) _ refl)
+          ∙ point-turn (ps s) _ (i + 1) 0 _ (rw size inner) next (no-fault (i + 1) refl ∙ sym (f .point-passes (i + 1)))
+          ∙ k .points-pass;
       segments-pass =
-        rw (c .if3 .left) at
-        (segment-turn (ps s) (shape-of (start s .args .shape)) i _ _ (rw size inner)
-        (e .before .before .before .record-at2 .ensures ∙ here) (e .before .before .record-at3 .ensures ∙ next)
-        (c .before .has-shape .ensures))
-        ∙ k .segments-pass;
+          segment-turn (ps s) (shape-of (start s .args .shape)) i _ _ (rw size inner) (sym (point-is (bytes s) (n s) i outer)) next
+          (sym (f .segment-passes))
+          ∙ k .segments-pass;
     }
 
-returns-4 : tie.Need-returns-4 Inv-loop μ-loop
-returns-4 c = λ e.
+returns-3 : tie.Need-returns-3 Inv-loop μ-loop
+returns-3 c = λ e.
     let l = c .before in
     let s = l .before in
     let k = l .loop .inv in
@@ -144,6 +119,4 @@ all-pass-spec =
     tie.close
     (tie.spec Inv-loop μ-loop record-at-requires (search needs) (λ c e. absurd (true≢false (sym e))) (λ c. omega arith)
     loop-holds (λ c. omega arith) (λ c κs. record { file = omega arith }) (λ c κs. record { file = omega arith })
-    (λ c κs. rw (left-area (c .before)) (c .before .before .before .loop .inv .limits .area))
-    (λ c e. absurd (true≢false (sym e))) has-shape-requires (λ c e. absurd (true≢false (sym e)))
-    (λ c. omega arith) loop-again returns-4)
+    follows-requires (λ c e. absurd (true≢false (sym e))) (λ c. omega arith) loop-again returns-3)
