@@ -1,6 +1,7 @@
 // The curve's calls on the cases of standard input, a line for each. tests/examples.py writes the cases.
-// The input: the number of cases; each case begins with ten numbers of 4 bytes: its size, call, shape, two arguments, entries, the
-// lengths of the three lists, and where its points of 12 bytes start. Between these two stands what the line has before the answer.
+// The input: the number of cases; each case begins with ten numbers of 4 bytes: its size, call, shape, two arguments, entries,
+// the lengths of the three lists, and where its points of 12 bytes start. Between these two stands what the line has before the
+// answer.
 mod answers;
 mod numbers;
 

@@ -1,8 +1,8 @@
 -- `records::all_pass` meets its contract. The loop's invariant: no row refuses the points to `left` or the segments between them.
 -- Assumes nothing.
-use mathlib.Core.Path.{_≡_, refl, sym, _∙_, ap, ap₂}
+use mathlib.Core.Path.{_≡_, refl, sym, _∙_}
 use mathlib.Core.Bool.{true≢false}
-use mathlib.Core.List.{List, [], _∷_}
+use mathlib.Core.List.{List, []}
 use mathlib.Core.Option.{none, some}
 use Prim.Native.Nat.{ℕ, _+_, _-_, _≤_, _<_}
 use native.Mathlib.Omega.{arith}
@@ -10,9 +10,8 @@ use borrow.Author.Needs.{needs}
 use borrow.Author.Tests.{not-false}
 use Rattle.model.specs.Answer.{row, _then_}
 use Rattle.model.specs.Points.{Point, shape-of}
-use Rattle.model.specs.Check.{point-rows}
-use Rattle.model.specs.Inner.{fault-answer, Limits}
-use Rattle.model.proofs.Rows.{Passed, passed, neighbours}
+use Rattle.model.specs.Inner.{Limits}
+use Rattle.model.proofs.Rows.{passed}
 use Rattle.point.specs.Inner.{earlier}
 use Rattle.rows.proofs.Faults.{no-fault, passes, limits-of-no-fault}
 use Rattle.rows.proofs.Faults.{points-from, point-turn, point-end, segments-from, segment-turn, segment-end}
@@ -27,7 +26,8 @@ record Passing (bytes : List ℕ) (n code last left : ℕ) : Type 0 where
   pub last-is : last + 1 ≡ n
   pub limits : Limits (record-at bytes left)
   pub points-pass :
-      points-from (first-points bytes n) (some (record-at bytes left .area)) (left + 1) ≡ points-from (first-points bytes n) none 0
+      points-from (first-points bytes n) (some (record-at bytes left .area)) (left + 1)
+      ≡ points-from (first-points bytes n) none 0
   pub segments-pass :
       segments-from (first-points bytes n) (shape-of code) left ≡ segments-from (first-points bytes n) (shape-of code) 0
 
@@ -88,8 +88,10 @@ loop-again c =
     let t = e .before .before .loop-test .taken in
     let inner : i + 1 < n s = omega arith in
     let outer : i < n s = omega arith in
+    let here = sym (point-is (bytes s) (n s) i outer) in
     let next = sym (point-is (bytes s) (n s) (i + 1) inner) in
-    let f = rw (e .before .record-at2 .ensures, e .record-at3 .ensures) at (c .before .follows .ensures (not-false _ (c .if2 .left))) in
+    let yes = c .before .follows .ensures (not-false _ (c .if2 .left)) in
+    let f = rw (e .before .record-at2 .ensures, e .record-at3 .ensures) at yes in
     record {
       inner = omega arith;
       last-is = k .last-is;
@@ -99,8 +101,7 @@ loop-again c =
           ∙ point-turn (ps s) _ (i + 1) 0 _ (rw size inner) next (no-fault (i + 1) refl ∙ sym (f .point-passes (i + 1)))
           ∙ k .points-pass;
       segments-pass =
-          segment-turn (ps s) (shape-of (start s .args .shape)) i _ _ (rw size inner) (sym (point-is (bytes s) (n s) i outer)) next
-          (sym (f .segment-passes))
+          segment-turn (ps s) (shape-of (start s .args .shape)) i _ _ (rw size inner) here next (sym (f .segment-passes))
           ∙ k .segments-pass;
     }
 
