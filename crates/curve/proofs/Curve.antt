@@ -10,8 +10,8 @@ use lib.IntN.{ℤ}
 use lib.ListN.{length}
 use Rattle.model.specs.Answer.{Answer, refused, _then_}
 use Rattle.model.specs.Points.{Point, points, points-least, points-most}
-use Rattle.model.specs.Check.{lengths-differ, curve-rows, Accepted, on-lists}
-use Rattle.model.specs.Inner.{fault-answer, Alike, areas-of}
+use Rattle.model.specs.Check.{lengths-differ, curve-rows, on-lists}
+use Rattle.model.specs.Inner.{Accepted, fault-answer, Alike, areas-of}
 use Rattle.model.proofs.Lists.{fields-of, fields-length}
 use Rattle.model.proofs.Answers.{on-lists-is, on-lists-gives, on-lists-refused, then-refused}
 use Rattle.model.proofs.Accepted.{count-of}

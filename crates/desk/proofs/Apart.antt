@@ -24,7 +24,7 @@ factor-is-high : (ps : List Point) (code x : ℕ) {factor : ℤ} → read-answer
 factor-is-high ps code x e =
     let g = given ps code x e in
     subst (λ z. negℤ (pos 200000) ≤ℤ z) (g .factor)
-    (factors-are-ranged (record { points = ps; code = code; accepted = g .accepted }) x (record { within = g .within }) .low)
+    (factors-are-ranged (record { points = ps; code = code; accepted = g .accepted .none-applies }) x (record { within = g .within }) .low)
 
 -- what a refusal's number is below −1,000,001
 below-by : (number : ℕ) → negℤ (pos 1000001) -ℤ (negℤ (pos 1000000) -ℤ pos number) ≡ pos number -ℤ pos 1

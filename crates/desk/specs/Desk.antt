@@ -13,8 +13,7 @@ use Rattle.layout.specs.Head.{head-rows}
 -- of the bytes, the area and the scratch's length: rows 9 and 10; 11, scratch shorter than 12 × count; then 1 to 6, and 7
 unfoldable pub desk-answer : List ℕ → ℕ → ℕ → Answer ℤ
 desk-answer bytes area scratch =
-    head-rows bytes
-    then row (ltb scratch (record-size * count bytes)) 11 0
+    head-rows bytes then row (ltb scratch (record-size * count bytes)) 11 0
     then read-answer (points-of bytes) (shape-code bytes) area
 
 -- one signed number: the factor, or −1,000,000 less the refusal number, without a place

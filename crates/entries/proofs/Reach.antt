@@ -2,9 +2,9 @@
 --   reached-later    a later entry reaches the segments that an earlier one does
 --   <-of-reached     an entry that reaches the next segment is a later one
 -- Assumes nothing.
-use mathlib.Core.Path.{_≡_, subst⁻¹}
+use mathlib.Core.Path.{subst⁻¹}
 use mathlib.Core.List.{List}
-use mathlib.Core.Logic.{_⊎_, inl, inr}
+use mathlib.Core.Logic.{inl, inr}
 use Prim.Native.Nat.{ℕ, suc, _≤_, _<_}
 use native.Mathlib.Nat.{eq-or-lt-of-le, mul-le-mul-right}
 use native.Mathlib.Omega.{arith}

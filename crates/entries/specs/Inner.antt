@@ -1,4 +1,4 @@
--- What contracts of inner functions cite. Nothing here need be believed: the calls' contracts cite the definitions of document 01.
+-- What contracts of inner functions cite. Nothing here need be believed: the calls' contracts cite document 01's definitions.
 --   Fillable      an accepted curve and n entries whose areas are all its own
 --   NextEntry     the next entry of these, and the segment that it takes
 --   FilledUpTo    the entries from an index up to the next to fill are filled too
@@ -10,10 +10,9 @@ use Prim.Native.Nat.{ℕ, _≤_, _<_}
 use lib.IntN.{ℤ}
 use lib.ListN.{length}
 use Rattle.model.specs.Points.{points}
-use Rattle.model.specs.Check.{Accepted}
 use Rattle.model.specs.Read.{outside}
 use Rattle.model.specs.Sheet.{entry-area}
-use Rattle.model.specs.Inner.{Alike, Taken, Filling}
+use Rattle.model.specs.Inner.{Accepted, Alike, Taken, Filling}
 
 pub record Fillable (areas values : List ℕ) (slopes : List ℤ) (code start step n : ℕ) : Type 0 where
   pub alike : Alike (length areas) (length values) (length slopes)

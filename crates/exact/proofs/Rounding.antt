@@ -8,7 +8,8 @@ use mathlib.Core.List.{[], _∷_}
 use lib.IntN.{ℤ, pos, _+ℤ_}
 use lib.Signed.{_≤ℤ_}
 use Rattle.exact.specs.Fraction.{Fraction, Proper, whole, _+ℚ_, _-ℚ_, _≈ℚ_, _≤ℚ_}
-use Rattle.exact.specs.Rounding.{half, round, Rounding, RoundIsRounding, HalfUp, RoundIsHalfUp}
+use Rattle.exact.specs.Rounding.{half, round}
+use Rattle.exact.specs.Inner.{Rounding, HalfUp}
 use Rattle.exact.proofs.Order as Z
 use Rattle.exact.proofs.Field.{field, ratios, _∷ℚ_}
 use Rattle.exact.proofs.Fractions as Q
@@ -48,7 +49,7 @@ half-up-≤ {x} {j} {k} px hj hk =
 pub half-up-unique : {x : Fraction} {j k : ℤ} → Proper x → HalfUp x j → HalfUp x k → j ≡ k
 half-up-unique px hj hk = Z.≤-antisym (half-up-≤ px hj hk) (half-up-≤ px hk hj)
 
-pub round-is-half-up : RoundIsHalfUp
+pub round-is-half-up : (x : Fraction) → Proper x → HalfUp x (round x)
 unfolding round
 round-is-half-up x px = record {
   above = Q.<-by (search positivity) (search positivity)
@@ -68,7 +69,7 @@ half-up-whole z = record {
       (search positivity);
 }
 
-pub round-rounding : RoundIsRounding
+pub round-rounding : Rounding round
 unfolding round
 round-rounding = record {
   keeps-order = λ x y px py h.

@@ -1,11 +1,25 @@
--- What contracts of inner functions cite: equality of integers as a test; the quotient of a product by long division, what
--- it asks and what holds after each digit. Nothing here need be believed.
+-- What laws and contracts of inner functions cite. Nothing here need be believed.
+--   Rounding                what most laws ask of a rounding rule, and no more
+--   HalfUp                  the rule of document 01 at one value
+--   eqZ                     equality of integers, as a test
+--   Scaled, Divided, Step   the quotient of a product by long division: what it asks, and what holds after each digit
 -- Assumes nothing.
 use mathlib.Core.Path.{_≡_}
 use mathlib.Core.Bool.{Bool, _&&_}
 use lib.IntN.{ℤ}
-use lib.Signed.{leZ}
+use lib.Signed.{_≤ℤ_, leZ}
 use Prim.Native.Nat.{ℕ, _*_, _/_, _%_, _^_, _≤_, _<_}
+use Rattle.exact.specs.Fraction.{Fraction, Proper, whole, _+ℚ_, _-ℚ_, _≤ℚ_, _<ℚ_}
+use Rattle.exact.specs.Rounding.{half}
+
+pub record Rounding (rnd : Fraction → ℤ) : Type 0 where
+  pub keeps-order : (x y : Fraction) → Proper x → Proper y → x ≤ℚ y → rnd x ≤ℤ rnd y
+  pub keeps-whole : (z : ℤ) → rnd (whole z) ≡ z
+
+-- k is at most one half off x; where it is exactly one half, k is above x
+pub record HalfUp (x : Fraction) (k : ℤ) : Type 0 where
+  pub above : x -ℚ half <ℚ whole k
+  pub below : whole k ≤ℚ x +ℚ half
 
 abbrev pub eqZ : ℤ → ℤ → Bool
 eqZ a b = leZ a b && leZ b a

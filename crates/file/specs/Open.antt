@@ -22,8 +22,7 @@ pub record Head : Type 0 where
 -- rows 9, 10, 11 and 1 to 6, of the bytes and the lengths of the lent lists
 unfoldable pub open-answer : List ℕ → ℕ → ℕ → ℕ → Answer Head
 open-answer bytes areas values slopes =
-    head-rows bytes
-    then row (short-list (count bytes) areas values slopes) 11 0
+    head-rows bytes then row (short-list (count bytes) areas values slopes) 11 0
     then curve-rows (points-of bytes) (shape-code bytes)
     then gives (record { shape = shape-code bytes; count = count bytes })
 

@@ -16,13 +16,13 @@ use borrow.Author.Tests.{not-false}
 use lib.Dec.{T}
 use lib.ListN.{length}
 use Rattle.exact.specs.Rounding.{round}
-use Rattle.model.specs.Answer.{gives, row, _then_}
+use Rattle.model.specs.Answer.{gives, row}
 use Rattle.model.specs.Points.{points-least, points-most, area-most, Point, Segment, segments, Shape, shape-of}
 use Rattle.model.specs.Interpolant.{interpolant}
 use Rattle.model.specs.Shape.{has-shape}
-use Rattle.model.specs.Check.{bad-count, bad-code, point-rows, segment-rows, curve-rows, Accepted}
+use Rattle.model.specs.Check.{bad-count, bad-code, point-rows, segment-rows, curve-rows}
 use Rattle.model.specs.Read.{value-in, outside, exact-value, reading}
-use Rattle.model.specs.Inner.{between, segment-at, areas-of, Limits, Neighbours, Good, Inside, Taken, Readable}
+use Rattle.model.specs.Inner.{Accepted, between, segment-at, areas-of, Limits, Neighbours, Good, Inside, Taken, Readable}
 use Rattle.model.proofs.Walk.{Chain, end, link, taken-is-stop, good-ordered}
 use Rattle.model.proofs.Indexed.{Chained, chained, stop-in, stop-at, stop-in-inside}
 use Rattle.model.proofs.Rows.{then-first, then-rest, row-passed, count-of-row-1, passed, neighbours}

@@ -1,22 +1,24 @@
 -- What answers of the calls say.
 --   on-lists-is        a call on lists that are equally long is the call on their points
---   on-lists-gives     and so is one that gives a result
+--   on-lists-of-is     on the lists of some points it is the call on these
+--   on-lists-gives     where one gives a result the lists are equally long
 --   on-lists-refused   calls that refuse alike on points do so on lists
 --   Given              what a factor that Read gives says; reading-given
 --   refused-outside    on an accepted curve Read refuses by row 7 only
 --   refused-before     rows that refuse before a result refuse before whatever follows
 -- Assumes nothing.
-use mathlib.Core.Path.{_≡_, refl, sym}
+use mathlib.Core.Path.{_≡_, refl, sym, _∙_, ap}
 use mathlib.Core.Bool.{Bool, true, false}
-use mathlib.Core.List.{List}
+use mathlib.Core.List.{List, map}
 use Prim.Native.Nat.{ℕ}
 use lib.IntN.{ℤ}
 use lib.ListN.{length}
 use Rattle.model.specs.Answer.{Answer, gives, refused, row, _then_}
 use Rattle.model.specs.Points.{Point, points}
-use Rattle.model.specs.Check.{lengths-differ, curve-rows, Accepted, on-lists}
+use Rattle.model.specs.Check.{lengths-differ, curve-rows, on-lists, on-lists-of}
 use Rattle.model.specs.Read.{outside, reading, read-answer}
-use Rattle.model.specs.Inner.{Alike}
+use Rattle.model.specs.Inner.{Accepted, Alike}
+use Rattle.model.proofs.Lists.{points-of-fields, same-lengths-of}
 use Rattle.model.proofs.Rows.{gives-injective, refused≢gives, then-first, then-rest, row-passed, alike-of-row-1}
 
 -- ---- calls on lists
@@ -54,6 +56,12 @@ module _ (areas values : List ℕ) (slopes : List ℤ) where
           (row b 1 0 then g (points areas values slopes)) ≡ refused n i
       decide true e = cc
       decide false e = h e
+
+-- the lists of some points are equally long, and their points are these
+pub on-lists-of-is : {A : Type 0} (ps : List Point) (call : List Point → Answer A) → on-lists-of ps call ≡ call ps
+on-lists-of-is ps call =
+    on-lists-is (map (λ p. p .area) ps) (map (λ p. p .value) ps) (map (λ p. p .slope) ps) call (same-lengths-of ps)
+    ∙ ap call (points-of-fields ps)
 
 pub then-refused : {A : Type 0} {n i : ℕ} (rows : Answer (Unit {0})) (rest : Answer A) → rows ≡ refused n i →
     (rows then rest) ≡ refused n i

@@ -115,6 +115,7 @@ Q-over h t r = whole (pos 1) +ℚ (r -ℚ whole (pos 3)) *ℚ (t over h *ℚ (h 
 pub ruleset congruence = (Q.≈-+, Q.≈--, Q.≈-*, Q.≈-/, Q.≈-refl)
 
 module _ {h left right : ℤ} {d₀ d₁ : Fraction} {S e₀ g e₁ : ℤ} (n : Normal h left right d₀ d₁ S e₀ g e₁) where
+  -- F is h times the chord
   rise-≈ : whole (right -ℤ left) ≈ℚ whole h *ℚ g over S
   rise-≈ =
       Q.≈-trans {y = whole h *ℚ (right -ℤ left) over h} (search propers)
@@ -156,7 +157,7 @@ module _ {h left right : ℤ} {d₀ d₁ : Fraction} {S e₀ g e₁ : ℤ} (n : 
         b-positive = positive-over-S (n .S-positive) (search propers) below-chord (search positivity);
       }
 
-  -- P / Q by r is x, where it is over S, by an equal r'
+  -- the curve by r is x, where P / Q over S by an equal r' is x
   closed-over : {r r' x : Fraction} (t : ℤ) → Proper r → Proper r' → r ≈ℚ r' → Positive (Q-over h t r') →
       P-over h left t S e₀ g e₁ r' /ℚ Q-over h t r' ≈ℚ x → Closed (I.rational h left right t d₀ d₁ r) x
   unfolding I.p I.q I.P I.Q I.rational
@@ -180,6 +181,7 @@ module _ {h left right : ℤ} {d₀ d₁ : Fraction} {S e₀ g e₁ : ℤ} (n : 
   straight-value t e = rw (Q.ltℚ-false-of-≤ (Q.≤-of-≈ (Q.≈-sym e))) (search (propers, Q.≈-refl))
 
 module _ {h left right : ℤ} {d₀ d₁ : Fraction} {S e₀ g e₁ t : ℤ} (c : Climbing h left right d₀ d₁ S e₀ g e₁) (i : In h t) where
+  -- a sum of what is above 0 and what is not negative
   twice-B :
       B h t e₀ g e₁ *ℤ pos 2 -ℤ pos 0 *ℤ pos 2
       ≡ g *ℤ (h *ℤ h) +ℤ g *ℤ ((t +ℤ t -ℤ h) *ℤ (t +ℤ t -ℤ h)) +ℤ pos 2 *ℤ ((e₀ +ℤ e₁) *ℤ (t *ℤ (h -ℤ t)))
@@ -191,6 +193,7 @@ module _ {h left right : ℤ} {d₀ d₁ : Fraction} {S e₀ g e₁ t : ℤ} (c 
   abbrev r-climbing : Fraction
   r-climbing = whole (pos 1) +ℚ (e₀ over S +ℚ e₁ over S) /ℚ g over S
 
+  -- Q is above 0, and P / Q has the closed form
   Q-climbing : Q-over h t r-climbing ≈ℚ B h t e₀ g e₁ over (g *ℤ (h *ℤ h))
   Q-climbing = field (e₀ ∷ g ∷ e₁ ∷ S ∷ t ∷ h ∷ []) (search ratios depth 20 fits 9999) tt
 
@@ -210,6 +213,7 @@ module _ {h left right : ℤ} {d₀ d₁ : Fraction} {S e₀ g e₁ t : ℤ} (c 
       (Q.≈-trans (search propers) P-climbing (search congruence)))
 
 module _ {h t a b : ℤ} (h-positive : pos 0 <ℤ h) (i : In h t) (a-positive : pos 0 <ℤ a) (b-positive : pos 0 <ℤ b) where
+  -- h − t times a and t times b, where a and b are at least 1, is at least h
   W-by-h : W h t a b -ℤ pos 0 ≡ h +ℤ ((a -ℤ pos 1) *ℤ (h -ℤ t) +ℤ (b -ℤ pos 1) *ℤ t)
   W-by-h = ring (a ∷ b ∷ t ∷ h ∷ []) (search terms depth 20 fits 9999) tt
 
@@ -226,6 +230,7 @@ module _ {h left right : ℤ} {d₀ d₁ : Fraction} {S a g b t : ℤ} (c : Bend
   abbrev r-bending : Fraction
   r-bending = whole (pos 1) +ℚ a over S /ℚ b over S +ℚ b over S /ℚ a over S
 
+  -- Q is above 0, and P / Q is the closed form
   Q-bending : Q-over h t r-bending ≈ℚ (W h t a b *ℤ W h t b a) over (a *ℤ b *ℤ (h *ℤ h))
   Q-bending = field (a ∷ b ∷ S ∷ t ∷ h ∷ []) (search ratios depth 20 fits 9999) tt
 

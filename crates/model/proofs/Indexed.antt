@@ -6,8 +6,8 @@
 use mathlib.Core.Path.{_≡_, refl, _∙_, ap}
 use mathlib.Core.Bool.{false}
 use mathlib.Core.List.{List, [], _∷_, _++_}
-use mathlib.Core.Logic.{_⊎_, inl, inr}
-use Prim.Native.Nat.{ℕ, zero, suc, _+_, _-_, _≤_, _<_}
+use mathlib.Core.Logic.{inl, inr}
+use Prim.Native.Nat.{ℕ, zero, suc, _-_, _≤_, _<_}
 use native.Mathlib.Nat.{le-refl}
 use native.Mathlib.Omega.{arith}
 use borrow.Author.Tests.{le-leb, lt-leb, ltb-false}
@@ -17,7 +17,7 @@ use Rattle.model.specs.Points.{Point, Segment, segments}
 use Rattle.model.specs.Read.{last-area, outside}
 use Rattle.model.specs.Inner.{between, origin, point-at, segment-at, areas-of, Inside, Taken}
 use Rattle.exact.proofs.Tests.{or-left, or-right}
-use Rattle.model.proofs.Walk.{Chain, end, link, stop, chain-ordered, stop-inside}
+use Rattle.model.proofs.Walk.{Chain, end, link, stop, stop-inside}
 
 abbrev pub stop-in : List Point → ℕ → Segment
 stop-in [] x = between origin origin

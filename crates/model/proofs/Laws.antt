@@ -6,18 +6,19 @@
 --   rising-factors        a larger area never reads less, on a rising curve
 --   convex-steps          of three areas equally far apart, the second step is at most one unit smaller, on a convex curve
 -- Assumes nothing.
-use mathlib.Core.Path.{_≡_, sym, _∙_, ap, subst, subst⁻¹, subst₂}
-use mathlib.Core.Bool.{true, false}
+use mathlib.Core.Path.{_≡_, sym, _∙_, ap, subst, subst₂}
+use mathlib.Core.Bool.{false}
 use mathlib.Core.List.{List, [], _∷_, _++_}
-use mathlib.Core.Logic.{_⊎_, inl, inr}
+use mathlib.Core.Logic.{inl, inr}
 use Prim.Native.Nat.{ℕ, zero, suc, _+_, _*_, _≤_, _<_}
-use native.Mathlib.Nat.{le-refl, le-of-lt, le-of-eq}
+use native.Mathlib.Nat.{le-of-lt, le-of-eq}
 use native.Mathlib.Omega.{arith}
-use lib.IntN.{ℤ, pos, negℤ, _+ℤ_, _-ℤ_, _*ℤ_}
+use lib.IntN.{ℤ, pos, _+ℤ_, _-ℤ_, _*ℤ_}
 use lib.ListN.{length, getD, length-map, length-append, List·getD-map}
-use lib.Signed.{_≤ℤ_, _<ℤ_}
-use Rattle.exact.specs.Fraction.{Fraction, Proper, whole, _+ℚ_, _-ℚ_, _*ℚ_, _/ℚ_, _≈ℚ_, _≤ℚ_, _<ℚ_}
-use Rattle.exact.specs.Rounding.{half, HalfUp}
+use lib.Signed.{_≤ℤ_}
+use Rattle.exact.specs.Fraction.{Fraction, Proper, whole, _+ℚ_, _-ℚ_, _*ℚ_, _≤ℚ_, _<ℚ_}
+use Rattle.exact.specs.Rounding.{half}
+use Rattle.exact.specs.Inner.{HalfUp}
 use Rattle.exact.proofs.Order as Z
 use Rattle.exact.proofs.Field.{field, ratios, _∷ℚ_}
 use Rattle.exact.proofs.Fractions as Q
@@ -26,19 +27,27 @@ use Rattle.exact.proofs.Rounding.{round-rounding, round-is-half-up, rounding-at
 use Rattle.model.specs.Points.{Point, Segment, Shape, rising, convex, shape-of}
 use Rattle.model.specs.Interpolant.{interpolant}
 use Rattle.model.specs.Read.{outside, reading}
-use Rattle.model.specs.Laws.{Curve, Area, exact, factor, chord-slope, Gives, SegmentsMeet, ConvexChords}
-use Rattle.model.specs.Inner.{origin, point-at, segment-at, areas-of, Good, Inside, Taken}
+use Rattle.model.specs.Laws.{Curve, Area, exact, SegmentsMeet, ConvexChords}
+use Rattle.model.specs.Inner.{Accepted, origin, point-at, segment-at, areas-of, Good, Inside, Taken}
 use Rattle.model.proofs.ClosedForm.{Closed}
 use Rattle.model.proofs.Codes.{is-rising, code-2}
 use Rattle.exact.proofs.Tests.{compare}
 use Rattle.model.proofs.Walk.{good-ordered}
 use Rattle.model.proofs.Segments.{interpolant-proper, interpolant-left, interpolant-right}
 use Rattle.model.proofs.Range.{Ranged, value-range, ReadingRange, reading-range}
-use Rattle.model.proofs.Relations.{values-rise, curve-slope, Supports, tangents-support, curve-slope-proper}
-use Rattle.model.proofs.Indexed.{Chained, chained, stop-in, point-at-append, segment-at-append, chained-at, low-of, high-of}
+use Rattle.model.proofs.Relations.{values-rise, curve-slope, curve-slope-proper, Supports, tangents-support}
+use Rattle.model.proofs.Relations.{Line, _under_, chord-proper, chord-≤-slope, slope-≤-chord}
+use Rattle.model.proofs.Indexed.{Chained, chained, chained-at, stop-in, low-of, high-of}
+use Rattle.model.proofs.Indexed.{point-at-append, segment-at-append}
 use Rattle.model.proofs.Accepted.{count-of, chained-of, stops-inside, value-is, value-at-index}
 
 module _ (c : Curve) where
+  pub accepted-of : Accepted (c .points) (c .code)
+  accepted-of = record { none-applies = c .accepted }
+
+  abbrev pub factor : ℕ → ℤ
+  factor x = reading (c .points) (c .code) x
+
   abbrev shape : Shape
   shape = shape-of (c .code)
 
@@ -47,15 +56,15 @@ module _ (c : Curve) where
   segment-of x = stop-in (c .points) x
 
   segment-inside : (x : ℕ) → Area c x → Inside (Good shape) (segment-of x) x
-  segment-inside x k = stops-inside (c .accepted) x (k .within)
+  segment-inside x k = stops-inside accepted-of x (k .within)
 
   good-at : (i : ℕ) → suc i < length (c .points) → Good shape (segment-at (c .points) i)
-  good-at = chained-at (Good shape) good-ordered (chained-of (c .accepted))
+  good-at = chained-at (Good shape) good-ordered (chained-of accepted-of)
 
 -- ---- values and factors
 
 pub values-are-proper : (c : Curve) (x : ℕ) → Area c x → Proper (exact c x)
-values-are-proper c x k = rw (value-is (c .accepted) x) (interpolant-proper (segment-inside c x k))
+values-are-proper c x k = rw (value-is (accepted-of c) x) (interpolant-proper (segment-inside c x k))
 
 pub factors-are-near : (c : Curve) (x : ℕ) → Area c x → HalfUp (exact c x) (factor c x)
 unfolding reading
@@ -64,12 +73,12 @@ factors-are-near c x k = round-is-half-up (exact c x) (values-are-proper c x k)
 pub factors-are-ranged : (c : Curve) (x : ℕ) → Area c x → ReadingRange (factor c x)
 unfolding reading
 factors-are-ranged c x k =
-    let range : Ranged (exact c x) = rw (value-is (c .accepted) x) (value-range (segment-inside c x k)) in
+    let range : Ranged (exact c x) = rw (value-is (accepted-of c) x) (value-range (segment-inside c x k)) in
     reading-range round-rounding (exact c x) (values-are-proper c x k) range
 
 -- ---- rated points
 
-pub segments-meet : SegmentsMeet
+pub segments-meet : (c : Curve) → SegmentsMeet c
 segments-meet c before after p q e =
     let n = ap length e ∙ length-append before (p ∷ q ∷ after) in
     let s = ap (λ (ps : List Point). segment-at ps (length before)) e ∙ segment-at-append before after p q in
@@ -98,7 +107,7 @@ module _ (c : Curve) where
         reached = record { inner = rw size n; low = le-of-eq (area-is i) };
         high = inl (rw (area-is (suc i)) (g .ends .ordered));
       } in
-      rw (value-at-index (c .accepted) taken) (interpolant-left g)
+      rw (value-at-index (accepted-of c) taken) (interpolant-left g)
 
   -- the last is the right end of the last segment
   rated-right : (k : ℕ) → suc (suc k) ≡ length (c .points) → Rated (suc k)
@@ -109,10 +118,10 @@ module _ (c : Curve) where
         reached = record { inner = rw size n; low = rw (area-is k) (le-of-lt (g .ends .ordered)) };
         high = inr (e ∙ sym size);
       } in
-      rw (value-at-index (c .accepted) taken) (interpolant-right g)
+      rw (value-at-index (accepted-of c) taken) (interpolant-right g)
 
   rated-last : (i : ℕ) → suc i ≡ length (c .points) → Rated i
-  rated-last zero e = absurd (let n = count-of (c .accepted) .0 in omega arith)
+  rated-last zero e = absurd (let n = count-of (accepted-of c) .0 in omega arith)
   rated-last (suc k) e = rated-right k e
 
   rated-value : (i : ℕ) → i < length (c .points) → Rated i
@@ -135,10 +144,10 @@ rated-points-read c before after p e =
 
 -- the value at x, on a curve of a known shape
 value-as : (c : Curve) {shape : Shape} → shape-of (c .code) ≡ shape → (x : ℕ) → exact c x ≡ interpolant shape (segment-of c x) x
-value-as c e x = value-is (c .accepted) x ∙ ap (λ (sh : Shape). interpolant sh (segment-of c x) x) e
+value-as c e x = value-is (accepted-of c) x ∙ ap (λ (sh : Shape). interpolant sh (segment-of c x) x) e
 
 chained-as : (c : Curve) {shape : Shape} → shape-of (c .code) ≡ shape → Chained (Good shape) (c .points)
-chained-as c e = subst (λ (sh : Shape). Chained (Good sh) (c .points)) e (chained-of (c .accepted))
+chained-as c e = subst (λ (sh : Shape). Chained (Good sh) (c .points)) e (chained-of (accepted-of c))
 
 rises-across : {ps : List Point} → Chained (Good rising) ps → (x y : ℕ) → outside ps x ≡ false → outside ps y ≡ false → x ≤ y →
     interpolant rising (stop-in ps x) x ≤ℚ interpolant rising (stop-in ps y) y
@@ -175,8 +184,12 @@ module _ (c : Curve) (e : c .code ≡ 2) where
   σ-proper x k =
       curve-slope-proper (subst (λ (sh : Shape). Inside (Good sh) (segment-of c x) x) (code-2 e) (segment-inside c x k))
 
+  abbrev tangent-at : (x : ℕ) → Area c x → Line
+  tangent-at x k =
+      record { x = pos x; v = exact c x; σ = σ x; v-proper = values-are-proper c x k; σ-proper = σ-proper x k }
+
   -- the tangent at x is nowhere above the curve
-  supports : (x z : ℕ) → Area c x → Area c z → exact c x +ℚ σ x *ℚ whole (pos z -ℤ pos x) ≤ℚ exact c z
+  supports : (x z : ℕ) (kx : Area c x) (kz : Area c z) → tangent-at x kx under tangent-at z kz
   supports x z kx kz =
       rw (value-as c (code-2 e) x, value-as c (code-2 e) z)
       (elim (compare x z) [
@@ -184,52 +197,17 @@ module _ (c : Curve) (e : c .code ≡ 2) where
         | inr (h, t) ↦ related z x kz kx (le-of-lt h) .leftwards
       ])
 
--- two chords, the tangents at whose inner ends are below the curve
-module _ (v₁ v₂ v₃ v₄ s₂ s₃ : Fraction) (x₁ x₂ x₃ x₄ : ℤ)
-    (p₁ : Proper v₁) (p₂ : Proper v₂) (p₃ : Proper v₃) (p₄ : Proper v₄) (q₂ : Proper s₂) (q₃ : Proper s₃) where
-  abbrev left-chord : Fraction
-  left-chord = (v₂ -ℚ v₁) /ℚ whole (x₂ -ℤ x₁)
-
-  abbrev right-chord : Fraction
-  right-chord = (v₄ -ℚ v₃) /ℚ whole (x₄ -ℤ x₃)
-
-  -- what the curve is above the tangents at the outer ends, over the chords' lengths, and the tangents' difference
-  abbrev excess : Fraction
-  excess =
-      (v₄ -ℚ (v₃ +ℚ s₃ *ℚ whole (x₄ -ℤ x₃))) /ℚ whole (x₄ -ℤ x₃)
-      +ℚ (v₁ -ℚ (v₂ +ℚ s₂ *ℚ whole (x₁ -ℤ x₂))) /ℚ whole (x₂ -ℤ x₁)
-      +ℚ (s₃ -ℚ s₂)
-
-  chords-certificate : right-chord -ℚ left-chord ≈ℚ excess
-  chords-certificate =
-      field
-      (v₁ ∷ℚ v₂ ∷ℚ v₃ ∷ℚ v₄ ∷ℚ s₂ ∷ℚ s₃ ∷ℚ x₁ ∷ x₂ ∷ x₃ ∷ x₄ ∷ [])
-      (search ratios depth 30 fits 9999) tt
-
-  chords : x₁ <ℤ x₂ → x₃ <ℤ x₄ →
-      v₂ +ℚ s₂ *ℚ whole (x₁ -ℤ x₂) ≤ℚ v₁ →
-      s₂ ≤ℚ s₃ →
-      v₃ +ℚ s₃ *ℚ whole (x₄ -ℤ x₃) ≤ℚ v₄ →
-      Proper left-chord × Proper right-chord × (left-chord ≤ℚ right-chord)
-  chords h h' k m k' =
-      let w = Q.positive-whole (x₂ -ℤ x₁) (Z.positive-difference h) in
-      let w' = Q.positive-whole (x₄ -ℤ x₃) (Z.positive-difference h') in (
-        search propers,
-        search propers,
-        Q.≤-by (search propers) (search propers) excess (search propers depth 9) chords-certificate
-            (Q.nonneg-+ (search propers depth 9) (search propers)
-            (Q.nonneg-+ (search propers depth 9) (search propers depth 9)
-            (Q.nonneg-/ (Q.nonneg-difference k') (search propers)) (Q.nonneg-/ (Q.nonneg-difference k) (search propers)))
-            (Q.nonneg-difference m)),
-      )
-
-pub convex-chords : ConvexChords
+-- the chord to the left, the slopes at its right end and at the other's left end, the chord to the right
+pub convex-chords : (c : Curve) → ConvexChords c
 convex-chords c e x₁ x₂ x₃ x₄ k₁ k₂ k₃ k₄ h m h' =
-    let p = values-are-proper c in
-    chords _ _ _ _ _ _ (pos x₁) (pos x₂) (pos x₃) (pos x₄)
-    (p x₁ k₁) (p x₂ k₂) (p x₃ k₃) (p x₄ k₄) (σ-proper c e x₂ k₂) (σ-proper c e x₃ k₃)
-    (Z.pos-<-of-< h) (Z.pos-<-of-< h')
-    (supports c e x₂ x₁ k₂ k₁) (related c e x₂ x₃ k₂ k₃ m .slopes) (supports c e x₃ x₄ k₃ k₄)
+    let l = tangent-at c e in
+    let q₂ = σ-proper c e x₂ k₂ in
+    let q₃ = σ-proper c e x₃ k₃ in
+    let p = chord-proper (l x₁ k₁) (l x₂ k₂) (Z.pos-<-of-< h) in
+    let p' = chord-proper (l x₃ k₃) (l x₄ k₄) (Z.pos-<-of-< h') in
+    let to-left = chord-≤-slope (l x₁ k₁) (l x₂ k₂) (Z.pos-<-of-< h) (supports c e x₂ x₁ k₂ k₁) in
+    let to-right = slope-≤-chord (l x₃ k₃) (l x₄ k₄) (Z.pos-<-of-< h') (supports c e x₃ x₄ k₃ k₄) in
+    (p, p', Q.≤-trans p q₂ p' to-left (Q.≤-trans q₂ q₃ p' (related c e x₂ x₃ k₂ k₃ m .slopes) to-right))
 
 -- of three areas equally far apart, twice the middle value is at most the sum of the outer ones
 module _ (v₀ v₁ v₂ s : Fraction) (x k : ℤ) (p₀ : Proper v₀) (p₁ : Proper v₁) (p₂ : Proper v₂) (q : Proper s) where

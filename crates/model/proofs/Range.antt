@@ -1,6 +1,6 @@
--- Every exact value of an accepted curve is from −200,000 to 200,000. A rising curve is between its ends, at most value-most each.
--- A convex curve is not above its larger end, and not below its left tangent, which falls by at most slope-most / 100 for each of at
--- most gap-most tenths.
+-- Every exact value of an accepted curve is from −200,000 to 200,000. A rising curve is between its ends, at most value-most.
+-- A convex curve is not above its larger end, and not below its left tangent: that falls by at most slope-most / 100 for each of
+-- at most gap-most tenths.
 --   Ranged, value-range            that range, and that an exact value is in it
 --   ReadingRange, reading-range    so is a reading, by any rounding that keeps order and whole numbers
 -- Assumes nothing.
@@ -11,10 +11,10 @@ use Prim.Native.Nat.{ℕ}
 use lib.IntN.{ℤ, pos, negℤ, _+ℤ_, _-ℤ_, _*ℤ_}
 use lib.Signed.{_≤ℤ_}
 use Rattle.exact.specs.Fraction.{Fraction, Proper, _over_, whole, _+ℚ_, _-ℚ_, _*ℚ_, _≈ℚ_, _≤ℚ_}
-use Rattle.exact.specs.Rounding.{Rounding}
+use Rattle.exact.specs.Inner.{Rounding}
 use Rattle.exact.proofs.Ring.{ring, terms}
 use Rattle.exact.proofs.Order as Z
-use Rattle.exact.proofs.Field.{field, ratios}
+use Rattle.exact.proofs.Field.{field, ratios, _∷ℚ_}
 use Rattle.exact.proofs.Fractions as Q
 use Rattle.exact.proofs.Fractions.{NonNeg, propers, positivity}
 use Rattle.model.specs.Points.{gap-most, value-most, slope-most, gradient, Segment, Shape, rising, convex}
@@ -47,11 +47,11 @@ module _ {v w : Fraction} {e k : ℤ} (p : Proper v) (q : Proper w) (is : v ≈�
 ≤-of-sum : {v w v' : Fraction} → Proper v → Proper w → Proper v' → v +ℚ w ≤ℚ v' → NonNeg w → v ≤ℚ v'
 ≤-of-sum {v} {w} {v'} p q p' h n =
     Q.≤-by p p' ((v' -ℚ (v +ℚ w)) +ℚ w) (search propers)
-    (field (v .num ∷ v .den ∷ w .num ∷ w .den ∷ v' .num ∷ v' .den ∷ []) (search ratios depth 20 fits 9999) tt)
+    (field (v ∷ℚ w ∷ℚ v' ∷ℚ []) (search ratios depth 20 fits 9999) tt)
     (search positivity)
 
 backwards : (σ : Fraction) (t : ℤ) → σ *ℚ whole (pos 0 -ℤ t) ≈ℚ (0ℚ -ℚ σ) *ℚ whole t
-backwards σ t = field (σ .num ∷ σ .den ∷ t ∷ []) (search ratios depth 20 fits 9999) tt
+backwards σ t = field (σ ∷ℚ t ∷ []) (search ratios depth 20 fits 9999) tt
 
 -- ---- curves
 

@@ -1,35 +1,29 @@
--- K1 to K10, three points and the printed sheet, by computation.
+-- K1 to K10 and further readings, by computation.
 -- Assumes nothing.
 use mathlib.Core.Path.{refl}
 use Rattle.exact.specs.Fraction.{_over_, whole, _+ℚ_, _-ℚ_, _*ℚ_, _/ℚ_, leℚ, ltℚ, eqℚ}
 use Rattle.exact.specs.Rounding.{floorDiv, floor, round}
 use Rattle.model.specs.Answer.{row, _then_}
 use Rattle.model.specs.Points.{gradient, points, segments, shape-of}
-use Rattle.model.specs.Interpolant.{chord, p, q, P, Q, rational, r-rising, r-convex, rising-curve, convex-curve, curve, interpolant}
+use Rattle.model.specs.Interpolant.{chord, p, q, P, Q, rational, r-rising, r-convex}
+use Rattle.model.specs.Interpolant.{rising-curve, convex-curve, curve, interpolant}
 use Rattle.model.specs.Shape.{rises, bends, fits, has-shape}
 use Rattle.model.specs.Check.{lengths-differ, bad-count, bad-code, bad-area, bad-value, bad-slope}
 use Rattle.model.specs.Check.{point-rows, segment-rows, curve-rows, check-answer, on-lists}
 use Rattle.model.specs.Read.{taken, value-in, outside, exact-value, reading, read-answer}
 use Rattle.model.specs.Sheet.{bad-sheet, entry-rows, tabulate, sheet-answer, sheet-list}
-use Rattle.model.specs.Readings.{Holds, All, bow, ten, TenReadings, kink, three, ThreePointReadings, SheetReadings}
+use Rattle.model.specs.Readings.{bow, ten, TenReadings, kink, FurtherReadings}
 
-computed : TenReadings × ThreePointReadings × SheetReadings
+computed : TenReadings × FurtherReadings
 unfolding _over_ whole _+ℚ_ _-ℚ_ _*ℚ_ _/ℚ_ leℚ ltℚ eqℚ floorDiv floor round row _then_ gradient points segments shape-of
     chord p q P Q rational r-rising r-convex rising-curve convex-curve curve interpolant rises bends fits has-shape
     lengths-differ bad-count bad-code bad-area bad-value bad-slope point-rows segment-rows curve-rows check-answer on-lists
     taken value-in outside exact-value reading read-answer bad-sheet entry-rows tabulate sheet-answer sheet-list
-    Holds All bow ten kink three
-computed = (
-  (refl, (refl, (refl, (refl, (refl, (refl, (refl, (refl, ((refl, λ area. refl), ((refl, λ area. refl), tt)))))))))),
-  (refl, (refl, (refl, tt))),
-  (refl, refl, refl, refl),
-)
+    bow ten kink
+computed = (λ area. refl, (refl, refl, refl, refl, refl, refl, refl, refl))
 
 pub ten-readings : TenReadings
 ten-readings = computed .0
 
-pub three-point-readings : ThreePointReadings
-three-point-readings = computed .1
-
-pub sheet-readings : SheetReadings
-sheet-readings = computed .2
+pub further-readings : FurtherReadings
+further-readings = computed .1

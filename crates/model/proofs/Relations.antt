@@ -1,6 +1,7 @@
 -- The two relations between areas that hold inside each segment and join at the points: the values rise; the tangents lie below.
 --   values-rise          on a rising curve a later area has no smaller value
 --   Line, l under m      a line through a value at an area; the line l is not above the value of m
+--   chord-of l m         the slope of their chord, between theirs (slope-≤-chord, chord-≤-slope)
 --   curve-slope s x      the slope of a convex segment's curve at an area; line, its tangent there
 --   Supports s x s' y    x is not after y, the tangent at each is not above the curve at the other, and the slopes do not fall
 --   tangents-support     on a convex curve all areas are so
@@ -15,7 +16,7 @@ use lib.Signed.{_<ℤ_}
 use Rattle.exact.specs.Fraction.{Fraction, Proper, whole, _+ℚ_, _-ℚ_, _*ℚ_, _/ℚ_, _≈ℚ_, _≤ℚ_}
 use Rattle.exact.proofs.Ring.{ring, terms}
 use Rattle.exact.proofs.Order as Z
-use Rattle.exact.proofs.Field.{field, ratios}
+use Rattle.exact.proofs.Field.{field, ratios, _∷ℚ_}
 use Rattle.exact.proofs.Tests.{compare}
 use Rattle.exact.proofs.Fractions as Q
 use Rattle.exact.proofs.Fractions.{NonNeg, propers, positivity}
@@ -71,7 +72,7 @@ l under m = height l (m .x) ≤ℚ m .v
 
 -- what the field tactic goes by
 abbrev atoms : Line → List ℤ → List ℤ
-atoms l ρ = l .v .num ∷ l .v .den ∷ l .σ .num ∷ l .σ .den ∷ l .x ∷ ρ
+atoms l ρ = l .v ∷ℚ l .σ ∷ℚ l .x ∷ ρ
 
 own-height : (l : Line) → height l (l .x) ≈ℚ l .v
 own-height l = field (atoms l []) (search ratios depth 20 fits 9999) tt
@@ -112,7 +113,7 @@ module _ (l m : Line) (lt : l .x <ℤ m .x) where
 
 -- a product of two differences is that of their opposites
 opposites : (σ τ : Fraction) (x y : ℤ) → (σ -ℚ τ) *ℚ whole (x -ℤ y) ≈ℚ (τ -ℚ σ) *ℚ whole (y -ℤ x)
-opposites σ τ x y = field (σ .num ∷ σ .den ∷ τ .num ∷ τ .den ∷ x ∷ y ∷ []) (search ratios depth 20 fits 9999) tt
+opposites σ τ x y = field (σ ∷ℚ τ ∷ℚ x ∷ y ∷ []) (search ratios depth 20 fits 9999) tt
 
 -- ---- convex
 
@@ -123,13 +124,9 @@ pub curve-slope-proper : {s : Segment} {x : ℕ} → Inside (Good convex) s x �
 curve-slope-proper {s} r = segment-bends s (r .good) .proper (distance-in r)
 
 abbrev pub line : {s : Segment} {x : ℕ} → Inside (Good convex) s x → Line
-line {s} {x} r = record {
-  x = pos x;
-  v = interpolant convex s x;
-  σ = curve-slope s x;
-  v-proper = interpolant-proper r;
-  σ-proper = curve-slope-proper r;
-}
+line {s} {x} r =
+    let v = interpolant convex s x in
+    record { x = pos x; v = v; σ = curve-slope s x; v-proper = interpolant-proper r; σ-proper = curve-slope-proper r }
 
 -- the tangent at x is not above the curve at y
 abbrev pub Under : Segment → ℕ → Segment → ℕ → Type 0

@@ -6,7 +6,7 @@
 --   Passed                    rows 3 to 5 at one point, and the rows of the points after it
 --   neighbours                two points that pass rows 3 to 5
 -- Assumes nothing.
-use mathlib.Core.Path.{_≡_, refl, subst⁻¹}
+use mathlib.Core.Path.{_≡_, refl}
 use mathlib.Core.Bool.{Bool, true, false, not, _||_}
 use mathlib.Core.List.{List, _∷_}
 use mathlib.Core.Option.{Option, none, some}
@@ -30,12 +30,14 @@ gives-injective e = cc
 pub refused≢gives : {A : Type 0} {n i : ℕ} {x : A} → refused n i ≡ gives x → ⊥
 refused≢gives e = let z : _≡_ {A = ℕ} 0 1 = cc in omega arith
 
-pub then-first : {A : Type 0} {x : A} (first : Answer (Unit {0})) (rest : Answer A) → (first then rest) ≡ gives x → first ≡ gives tt
+pub then-first : {A : Type 0} {x : A} (first : Answer (Unit {0})) (rest : Answer A) → (first then rest) ≡ gives x →
+    first ≡ gives tt
 unfolding _then_
 then-first (gives u) rest e = refl
 then-first (refused n i) rest e = absurd (refused≢gives e)
 
-pub then-rest : {A : Type 0} {x : A} (first : Answer (Unit {0})) (rest : Answer A) → (first then rest) ≡ gives x → rest ≡ gives x
+pub then-rest : {A : Type 0} {x : A} (first : Answer (Unit {0})) (rest : Answer A) → (first then rest) ≡ gives x →
+    rest ≡ gives x
 unfolding _then_
 then-rest (gives u) rest e = e
 then-rest (refused n i) rest e = absurd (refused≢gives e)
@@ -80,7 +82,8 @@ pub record Passed (i : ℕ) (before : Option ℕ) (p : Point) (ps : List Point) 
   pub limits : Limits p
   pub later : point-rows (suc i) (some (p .area)) ps ≡ gives tt
 
-pub passed : (i : ℕ) (before : Option ℕ) (p : Point) (ps : List Point) → point-rows i before (p ∷ ps) ≡ gives tt → Passed i before p ps
+pub passed : (i : ℕ) (before : Option ℕ) (p : Point) (ps : List Point) → point-rows i before (p ∷ ps) ≡ gives tt →
+    Passed i before p ps
 unfolding point-rows bad-value bad-slope
 passed i before p ps e =
     let after-3 = then-rest (row (bad-area before (p .area)) 3 i) _ e in

@@ -107,7 +107,10 @@ module _ (s : Segment) where
 
 pub distance-in : {G : Segment → Type 0} {s : Segment} {x : ℕ} → Inside G s x → In (gap s) (distance s x)
 distance-in {s = s} {x = x} r =
-    record { low = Z.nonneg-difference (Z.pos-≤-of-≤ (r .low)); high = rw to-right (Z.nonneg-difference (Z.pos-≤-of-≤ (r .high))) }
+    record {
+      low = Z.nonneg-difference (Z.pos-≤-of-≤ (r .low));
+      high = rw to-right (Z.nonneg-difference (Z.pos-≤-of-≤ (r .high)));
+    }
   where
     to-right : gap s -ℤ distance s x ≡ pos (s .right .area) -ℤ pos x
     to-right = ring (pos (s .right .area) ∷ pos x ∷ pos (s .left .area) ∷ []) (search terms depth 20 fits 9999) tt

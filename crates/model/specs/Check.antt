@@ -1,9 +1,8 @@
 -- Document 01, "Refusals and their places", rows 1 to 6, and what Check answers.
 -- Assumes nothing.
 use Prim.Native.Nat.{ℕ, suc, _+_}
-use mathlib.Core.Path.{_≡_}
 use mathlib.Core.Bool.{Bool, not, _&&_, _||_}
-use mathlib.Core.List.{List, [], _∷_}
+use mathlib.Core.List.{List, [], _∷_, map}
 use mathlib.Core.Option.{Option, none, some}
 use lib.Dec.{eqb, leb, ltb}
 use lib.IntN.{ℤ, pos, negℤ}
@@ -54,14 +53,8 @@ segment-rows i shape (s ∷ ss) = row (not (has-shape shape s)) 6 i then segment
 -- rows 1 to 6 of points and a shape code
 unfoldable pub curve-rows : List Point → ℕ → Answer (Unit {0})
 curve-rows ps code =
-    row (bad-count (length ps)) 1 0
-    then row (bad-code code) 2 0
-    then point-rows 0 none ps
-    then segment-rows 0 (shape-of code) (segments ps)
-
--- none of Check's refusals applies
-pub record Accepted (ps : List Point) (code : ℕ) : Type 0 where
-  pub none-applies : curve-rows ps code ≡ gives tt
+    row (bad-count (length ps)) 1 0 then row (bad-code code) 2 0
+    then point-rows 0 none ps then segment-rows 0 (shape-of code) (segments ps)
 
 -- Check: the number of segments
 unfoldable pub check-answer : List Point → ℕ → Answer ℕ
@@ -71,3 +64,7 @@ check-answer ps code = curve-rows ps code then gives (length (segments ps))
 unfoldable pub on-lists : {A : Type 0} → List ℕ → List ℕ → List ℤ → (List Point → Answer A) → Answer A
 on-lists areas values slopes call =
     row (lengths-differ (length areas) (length values) (length slopes)) 1 0 then call (points areas values slopes)
+
+-- a call on the three lists of some points
+abbrev pub on-lists-of : {A : Type 0} → List Point → (List Point → Answer A) → Answer A
+on-lists-of ps = on-lists (map (λ p. p .area) ps) (map (λ p. p .value) ps) (map (λ p. p .slope) ps)

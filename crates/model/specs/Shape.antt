@@ -1,5 +1,5 @@
--- Document 01, "When a segment has its shape". Slopes are compared as fractions, by cross products: of the left slope D₀ / 100 and
--- the chord F / h these are h × D₀ and 100 × F.
+-- Document 01, "When a segment has its shape". Slopes are compared as fractions, by cross products: of the left slope D₀ / 100
+-- and the chord F / h these are h × D₀ and 100 × F.
 -- Assumes nothing.
 use mathlib.Core.Bool.{Bool, _&&_, _||_}
 use lib.IntN.{ℤ, pos, _-ℤ_}

@@ -32,16 +32,13 @@ unfoldable pub tabulate : {A : Type 0} → (ℕ → A) → ℕ → ℕ → List 
 tabulate f index zero = []
 tabulate f index (suc n) = f index ∷ tabulate f (suc index) n
 
-module _ (ps : List Point) (code start step : ℕ) where
-  -- rows 1 to 6, then 8, then 7; the number of entries
-  unfoldable pub sheet-answer : ℕ → Answer ℕ
-  sheet-answer entries =
-      curve-rows ps code
-      then row (bad-sheet step entries) 8 0
-      then entry-rows ps start step 0 entries
-      then gives entries
+-- rows 1 to 6, then 8, then 7; the number of entries
+unfoldable pub sheet-answer : List Point → ℕ → ℕ → ℕ → ℕ → Answer ℕ
+sheet-answer ps code start step entries =
+    curve-rows ps code then row (bad-sheet step entries) 8 0
+    then entry-rows ps start step 0 entries then gives entries
 
-  -- the list after the call, by its answer: into every entry the factor at its area, or what it held
-  unfoldable pub sheet-list : Answer ℕ → List ℤ → List ℤ
-  sheet-list (gives entries) out = tabulate (λ index. reading ps code (entry-area start step index)) 0 entries
-  sheet-list (refused number place) out = out
+-- the list after the call, by its answer: into every entry the factor at its area, or what it held
+unfoldable pub sheet-list : List Point → ℕ → ℕ → ℕ → Answer ℕ → List ℤ → List ℤ
+sheet-list ps code start step (gives n) out = tabulate (λ index. reading ps code (entry-area start step index)) 0 n
+sheet-list ps code start step (refused number place) out = out

@@ -20,7 +20,5 @@ factors form plan = record { form = form; plan = plan; difference = plan -ℤ fo
 -- rows 1 to 6, then 7: place 0 for the form area, 1 for the plan area, form first
 unfoldable pub pair-answer : List Point → ℕ → ℕ → ℕ → Answer Factors
 pair-answer ps code form plan =
-    curve-rows ps code
-    then row (outside ps form) 7 0
-    then row (outside ps plan) 7 1
+    curve-rows ps code then row (outside ps form) 7 0 then row (outside ps plan) 7 1
     then gives (factors (reading ps code form) (reading ps code plan))

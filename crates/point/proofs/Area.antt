@@ -22,7 +22,9 @@ pub wrapped : {before area r : ℕ} → before ≤ area-most → area ≤ area-m
 wrapped {before} {area} {r} h k f e = decide (leb area before) refl
   where
     decide : (b : Bool) → leb area before ≡ b → leb gap-most r ≡ (b || ltb (before + gap-most) area)
-    decide true t = same-test (leb gap-most r) true (λ s. tt) (λ s. let m = leb-true area before t in le→leb gap-most r (omega arith))
+    decide true t =
+        let m = leb-true area before t in
+        same-test (leb gap-most r) true (λ s. tt) (λ s. le→leb gap-most r (omega arith))
     decide false t =
         let m : before < area = leb-false area before t in
         same-test (leb gap-most r) (ltb (before + gap-most) area)

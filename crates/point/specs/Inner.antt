@@ -1,4 +1,4 @@
--- What contracts of inner functions cite. Nothing here need be believed: the calls' contracts cite the definitions of document 01.
+-- What contracts of inner functions cite. Nothing here need be believed: the calls' contracts cite document 01's definitions.
 --   point-of      a point of the code, as a point of the definitions; segment-of, of two
 --   earlier       the area before a point
 --   Listed        an index of three lists that are equally long

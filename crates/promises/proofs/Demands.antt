@@ -1,29 +1,30 @@
--- The third demand: a factor read, whichever call gives it, is the reading at an area of the curve; the laws of the reading do the rest.
+-- The third demand: a factor read, whichever call gives it, is the reading at an area of the curve; the laws of the reading do
+-- the rest.
 -- Assumes nothing.
-use Prim.Native.Nat.{ℕ, zero, suc, _+_, _*_, _<_, zero-le}
-use mathlib.Core.Path.{_≡_, refl, sym, _∙_, ap, subst, subst₂}
+use Prim.Native.Nat.{ℕ, _*_, _<_, zero-le}
+use mathlib.Core.Path.{_≡_, refl, sym, _∙_, ap, subst}
 use mathlib.Core.Bool.{Bool, true, false}
-use mathlib.Core.List.{List, [], _∷_, _++_}
+use mathlib.Core.List.{List}
 use native.Mathlib.Nat.{zero-add}
 use native.Mathlib.Omega.{arith}
 use lib.Dec.{ltb}
-use lib.IntN.{ℤ, pos, negℤ, _-ℤ_}
+use lib.IntN.{ℤ, pos, negℤ}
 use lib.ListN.{length, getD}
 use lib.Signed.{_≤ℤ_}
-use Rattle.exact.specs.Fraction.{whole, _+ℚ_, _-ℚ_, _≤ℚ_}
+use Rattle.exact.specs.Fraction.{Proper, whole, _+ℚ_, _-ℚ_, _≤ℚ_}
 use Rattle.exact.specs.Rounding.{half}
 use Rattle.exact.proofs.Order as Z
 use Rattle.exact.proofs.Fractions.{≤-of-<}
 use Rattle.model.specs.Answer.{Answer, gives, refused, row, _then_}
-use Rattle.model.specs.Points.{Point}
-use Rattle.model.specs.Check.{curve-rows, check-answer}
-use Rattle.model.specs.Laws.{Curve, Area, exact, factor}
+use Rattle.model.specs.Points.{Point, points}
+use Rattle.model.specs.Check.{curve-rows, check-answer, on-lists-of}
+use Rattle.model.specs.Laws.{Curve, Area, exact}
 use Rattle.model.specs.Read.{outside, reading, read-answer}
 use Rattle.model.specs.Sheet.{bad-sheet, entry-area, entry-rows, sheet-answer, sheet-list}
 use Rattle.model.proofs.Rows.{gives-injective, refused≢gives, then-first, then-rest, row-passed}
-use Rattle.model.proofs.Answers.{on-lists-is, on-lists-gives, given, reading-given}
-use Rattle.model.proofs.Laws as laws
-use Rattle.model.proofs.Laws.{values-are-proper, factors-are-near, rated-points-read}
+use Rattle.model.proofs.Answers.{on-lists-of-is, on-lists-gives, given, reading-given}
+use Rattle.model.proofs.Lists.{fields-of}
+use Rattle.model.proofs.Laws.{accepted-of, factor, values-are-proper, factors-are-near, segments-meet, rated-points-read}
 use Rattle.model.proofs.Laws.{rising-factors, convex-chords, convex-steps}
 use Rattle.model.proofs.Filling.{tabulate-at}
 use Rattle.model.proofs.SheetRows.{rows-inside, rows-pass}
@@ -33,9 +34,8 @@ use Rattle.desk.specs.Desk.{desk-answer, desk-number}
 use Rattle.desk.specs.Laws.{Apart}
 use Rattle.desk.proofs.Apart.{apart}
 use Rattle.pair.specs.Pair.{Factors, factors, pair-answer}
-use Rattle.promises.specs.FactorRead.{Lists, FileOf, FactorRead, by-read, by-pair-form, by-pair-plan, by-sheet, by-desk}
-use Rattle.promises.specs.FactorRead.{call, read-of, pair-of, sheet-of, list-of}
-use Rattle.promises.specs.Demands as D
+use Rattle.promises.specs.FactorRead.{FileOf, FactorRead, by-read, by-pair-form, by-pair-plan, by-sheet, by-desk}
+use Rattle.promises.specs.Demands.{CheckAccepts, ThirdDemand}
 
 -- a factor read is the reading at an area of the curve
 record Is (c : Curve) (x : ℕ) (f : ℤ) : Type 0 where
@@ -43,20 +43,16 @@ record Is (c : Curve) (x : ℕ) (f : ℤ) : Type 0 where
   pub same : factor c x ≡ f
 
 -- a call on the lists is the call on the curve's points
-on-curve : {c : Curve} (l : Lists c) {A : Type 0} (f : List Point → Answer A) → call l f ≡ f (c .points)
-on-curve l f = on-lists-is (l .areas) (l .values) (l .slopes) f (l .equal-lengths) ∙ ap f (l .points)
+on-curve : (c : Curve) {A : Type 0} (f : List Point → Answer A) → on-lists-of (c .points) f ≡ f (c .points)
+on-curve c f = on-lists-of-is (c .points) f
 
-pub check-accepts : D.CheckAccepts
+pub check-accepts : CheckAccepts
 unfolding check-answer
 check-accepts areas values slopes code n e =
-    let r = on-lists-gives areas values slopes (λ ps. check-answer ps code) e in (
-      record { points = _; code = code; accepted = record { none-applies = then-first _ _ (r .result) } },
-      record { areas = areas; values = values; slopes = slopes; equal-lengths = r .same-lengths; points = refl },
-      refl,
-      refl,
-      refl,
-      refl,
-    )
+    let r = on-lists-gives areas values slopes (λ ps. check-answer ps code) e in
+    let fields = fields-of areas values slopes (r .alike) in
+    let c : Curve = record { points = points areas values slopes; code = code; accepted = then-first _ _ (r .result) } in
+    (c, refl, fields .areas-are, fields .values-are, fields .slopes-are)
 
 -- ---- Read and Pair
 
@@ -99,7 +95,9 @@ is-entry c start step out entries index e h =
     let count = gives-injective (then-rest rows (gives n) after-8) in
     let f : ℕ → ℤ = λ j. reading (c .points) (c .code) (entry-area start step j) in
     record {
-      area = record { within = rows-inside (c .points) start step 0 n index (then-first rows (gives n) after-8) zero-le (omega (arith, count)) };
+      area = record {
+        within = rows-inside (c .points) start step 0 n index (then-first rows (gives n) after-8) zero-le (omega (arith, count));
+      };
       same = sym (tabulate-at f (pos 0) 0 index entries h ∙ ap f (zero-add index));
     }
 
@@ -123,70 +121,70 @@ is-desk c bytes x scratch f k e =
     is-read c x f (sym (file-reads c bytes x k) ∙ after-11)
 
 is : {c : Curve} {x : ℕ} {f : ℤ} → FactorRead c x f → Is c x f
-is {c} (by-read l x f e) = is-read c x f (sym (on-curve l _) ∙ e)
-is {c} (by-pair-form l form plan r e) = is-pair c form plan r (sym (on-curve l _) ∙ e) .at-form
-is {c} (by-pair-plan l form plan r e) = is-pair c form plan r (sym (on-curve l _) ∙ e) .at-plan
-is {c} (by-sheet l start step out entries index e h) =
-    rw (e, l .points) (is-entry c start step out entries index (sym (on-curve l _) ∙ e) h)
+is {c} (by-read x f e) = is-read c x f (sym (on-curve c _) ∙ e)
+is {c} (by-pair-form form plan r e) = is-pair c form plan r (sym (on-curve c _) ∙ e) .at-form
+is {c} (by-pair-plan form plan r e) = is-pair c form plan r (sym (on-curve c _) ∙ e) .at-plan
+is {c} (by-sheet start step out n index e h) = rw e (is-entry c start step out n index (sym (on-curve c _) ∙ e) h)
 is {c} (by-desk bytes x scratch f k e h) =
     is-desk c bytes x scratch f k (factor-of-number _ f (apart bytes x scratch) e h)
 
 -- ---- each area can be read
 
-pub segments-meet : D.SegmentsMeet
-segments-meet = laws.segments-meet
+module _ (c : Curve) where
+  reads : (x : ℕ) → Area c x → read-answer (c .points) (c .code) x ≡ gives (factor c x)
+  reads x k = reading-given (c .points) (c .code) x (accepted-of c) (k .within)
 
-pub read-refuses-none : D.ReadRefusesNone
-read-refuses-none c l x k = (factor c x, on-curve l _ ∙ reading-given (c .points) (c .code) x (c .accepted) (k .within))
+  pair-reads : (form plan : ℕ) → Area c form → Area c plan →
+      pair-answer (c .points) (c .code) form plan ≡ gives (factors (factor c form) (factor c plan))
+  unfolding pair-answer row _then_
+  pair-reads form plan k m = rw (c .accepted, k .within, m .within)
 
-pub pair-refuses-none : D.PairRefusesNone
-unfolding pair-answer row _then_
-pair-refuses-none c l form plan k m =
-    (factors (factor c form) (factor c plan), on-curve l _ ∙ (rw (c .accepted .none-applies, k .within, m .within)))
+  sheet-refuses-by-8 : (start step n : ℕ) → ((index : ℕ) → index < n → Area c (entry-area start step index)) →
+      (number place : ℕ) → sheet-answer (c .points) (c .code) start step n ≡ refused number place → number ≡ 8
+  unfolding sheet-answer row _then_
+  sheet-refuses-by-8 start step n inside number place e = decide (bad-sheet step n) (rw (c .accepted, pass) at e)
+    where
+      pass : entry-rows (c .points) start step 0 n ≡ gives tt
+      pass = rows-pass (c .points) start step 0 n (λ i h. inside i (rw zero-add at h) .within)
 
-pub sheet-refuses-by-8 : D.SheetRefusesBy8
-unfolding sheet-answer row _then_
-sheet-refuses-by-8 c l start step entries inside number place e =
-    decide (bad-sheet step entries) (rw (c .accepted .none-applies, pass) at (sym (on-curve l _) ∙ e))
-  where
-    pass : entry-rows (c .points) start step 0 entries ≡ gives tt
-    pass = rows-pass (c .points) start step 0 entries (λ i h. inside i (rw zero-add at h) .within)
+      decide : (b : Bool) → (row b 8 0 then gives n) ≡ refused number place → number ≡ 8
+      decide true h = cc
+      decide false h = absurd (refused≢gives (sym h))
 
-    decide : (b : Bool) → (row b 8 0 then gives entries) ≡ refused number place → number ≡ 8
-    decide true h = cc
-    decide false h = absurd (refused≢gives (sym h))
+  desk-refuses-by-11 : (bytes : List ℕ) (x scratch : ℕ) → FileOf c bytes → Area c x →
+      (number place : ℕ) → desk-answer bytes x scratch ≡ refused number place → number ≡ 11
+  unfolding desk-answer row _then_
+  desk-refuses-by-11 bytes x scratch k m number place e =
+      decide (ltb scratch (record-size * count bytes)) (rw (k .head, file-reads c bytes x k, reads x m) at e)
+    where
+      decide : (b : Bool) → (row b 11 0 then gives (factor c x)) ≡ refused number place → number ≡ 11
+      decide true h = cc
+      decide false h = absurd (refused≢gives (sym h))
 
-pub desk-refuses-by-11 : D.DeskRefusesBy11
-unfolding desk-answer row _then_
-desk-refuses-by-11 c bytes x scratch k m number place e =
-    decide (ltb scratch (record-size * count bytes))
-    (rw (k .head, file-reads c bytes x k, reading-given (c .points) (c .code) x (c .accepted) (m .within)) at e)
-  where
-    decide : (b : Bool) → (row b 11 0 then gives (factor c x)) ≡ refused number place → number ≡ 11
-    decide true h = cc
-    decide false h = absurd (refused≢gives (sym h))
+  -- ---- the factors
 
--- ---- the factors
+  half-a-unit : (x : ℕ) (f : ℤ) → FactorRead c x f →
+      Proper (exact c x) × (exact c x -ℚ half ≤ℚ whole f) × (whole f ≤ℚ exact c x +ℚ half)
+  half-a-unit x f r =
+      let k = is r in
+      let near = rw (k .same) at (factors-are-near c x (k .area)) in
+      (values-are-proper c x (k .area), ≤-of-< (near .above), near .below)
 
-pub half-a-unit : D.HalfAUnit
-half-a-unit c x f r =
-    let k = is r in
-    let n = factors-are-near c x (k .area) in
-    let near = rw (k .same) at n in
-    (values-are-proper c x (k .area), ≤-of-< (near .above), near .below)
-
-pub same-factor : D.SameFactor
-same-factor c x f g r s = sym (is r .same) ∙ is s .same
-
-pub rising : D.Rising
-rising c e x y f g r s h = rw (← is r .same, ← is s .same) (rising-factors c e x y (is r .area) (is s .area) h)
-
-pub convex-steps-read : D.ConvexSteps
-convex-steps-read c e x k f₀ f₁ f₂ h r₀ r₁ r₂ =
-    rw (← is r₀ .same, ← is r₁ .same, ← is r₂ .same) (convex-steps c e x k (is r₀ .area) (is r₁ .area) (is r₂ .area))
-
-pub convex-chords-exact : D.ConvexChords
-convex-chords-exact = convex-chords
-
-pub rated-factors : D.RatedFactors
-rated-factors c before after p e f r = sym (is r .same) ∙ rated-points-read c before after p e
+pub third-demand : (c : Curve) → ThirdDemand c
+third-demand c =
+    record {
+      segments-meet = segments-meet c;
+      read-refuses-none = λ x k. (factor c x, on-curve c _ ∙ reads c x k);
+      pair-refuses-none = λ form plan k m. (factors (factor c form) (factor c plan), on-curve c _ ∙ pair-reads c form plan k m);
+      sheet-refuses-by-8 = λ start step n inside number place e.
+          sheet-refuses-by-8 c start step n inside number place (sym (on-curve c _) ∙ e);
+      desk-refuses-by-11 = desk-refuses-by-11 c;
+      half-a-unit = half-a-unit c;
+      same-factor = λ x f g r s. sym (is r .same) ∙ is s .same;
+      rising = λ e x y f g r s h. rw (← is r .same, ← is s .same) (rising-factors c e x y (is r .area) (is s .area) h);
+      convex-steps = λ e x k f₀ f₁ f₂ h r₀ r₁ r₂.
+          rw (← is r₀ .same, ← is r₁ .same, ← is r₂ .same)
+          (convex-steps c e x k (is r₀ .area) (is r₁ .area) (is r₂ .area));
+      convex-chords = convex-chords c;
+      rated-factors = λ before after p f e r. sym (is r .same) ∙ rated-points-read c before after p e;
+    }

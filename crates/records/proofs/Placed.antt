@@ -19,9 +19,9 @@ use lib.Dec.{ltb}
 use lib.ListN.{length, length-map}
 use Rattle.model.specs.Answer.{gives, row, _then_}
 use Rattle.model.specs.Points.{points-least, points-most, segments, shape-of}
-use Rattle.model.specs.Check.{bad-count, bad-code, point-rows, segment-rows, curve-rows, Accepted}
+use Rattle.model.specs.Check.{bad-count, bad-code, point-rows, segment-rows, curve-rows}
 use Rattle.model.specs.Read.{outside}
-use Rattle.model.specs.Inner.{between, segment-at, areas-of, Taken}
+use Rattle.model.specs.Inner.{Accepted, between, segment-at, areas-of, Taken}
 use Rattle.model.proofs.Accepted.{count-of}
 use Rattle.model.proofs.Outside.{outside-of, not-before}
 use Rattle.layout.specs.Layout.{record-at, first-points}

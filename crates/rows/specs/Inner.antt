@@ -1,4 +1,4 @@
--- What contracts of inner functions cite. Nothing here need be believed: the calls' contracts cite the definitions of document 01.
+-- What contracts of inner functions cite. Nothing here need be believed: the calls' contracts cite document 01's definitions.
 --   Lengths    the lengths of three lists, where row 1 is passed
 --   Limited    three lists, where rows 3 to 5 are passed too
 -- Assumes nothing.

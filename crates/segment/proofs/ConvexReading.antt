@@ -3,16 +3,16 @@
 --   raised-slope    the left slope plus 10,000; above, below, the distances of the end slopes from the chord
 --   raised-at       `raised` at an area
 -- Assumes nothing.
-use mathlib.Core.Path.{_≡_, ap}
+use mathlib.Core.Path.{_≡_, sym, _∙_, ap}
 use mathlib.Core.List.{[], _∷_}
 use Prim.Native.Nat.{ℕ, _+_, _*_, _/_, _<_}
-use native.Mathlib.Nat.{mul-pos, le-mul-of-pos-right, zero-mul, zero-div}
+use native.Mathlib.Nat.{mul-pos, zero-mul, zero-div}
 use native.Mathlib.Omega.{arith}
 use lib.Dec.{lit<}
 use lib.IntN.{ℤ, pos, natAbs, _+ℤ_, _-ℤ_, _*ℤ_, *ℤ-comm, +ℤ-invr}
 use lib.Signed.{_<ℤ_, ≤ℤ-refl}
 use Rattle.exact.specs.Fraction.{_over_, whole, _+ℚ_, _*ℚ_, _≈ℚ_, _<ℚ_}
-use Rattle.exact.specs.Rounding.{half, round}
+use Rattle.exact.specs.Rounding.{floorDiv, half, round}
 use Rattle.exact.proofs.Ring.{ring, terms}
 use Rattle.exact.proofs.Order as Z
 use Rattle.exact.proofs.Order.{signs}
@@ -25,13 +25,14 @@ use Rattle.model.specs.Interpolant as I
 use Rattle.model.specs.Interpolant.{interpolant}
 use Rattle.model.specs.Shape.{fits, has-shape}
 use Rattle.model.specs.Inner.{Good, Inside}
-use Rattle.model.proofs.ClosedForm.{Closed, congruence, W, convex-form, bending-of-normal, bent-value, straight-value}
+use Rattle.model.proofs.ClosedForm.{Closed, congruence, Bending, W, W-positive, convex-form}
+use Rattle.model.proofs.ClosedForm.{bending-of-normal, bent-value, straight-value}
 use Rattle.model.proofs.Curves.{bent, straight, bend-kind}
-use Rattle.model.proofs.Segments.{gap, rise, distance, S, g, e₀, e₁, a, b, normal, gap-positive, distance-in}
+use Rattle.model.proofs.Segments.{gap, rise, distance, v₀, v₁, d₀, d₁, S, g, e₀, e₁, a, b, normal, gap-positive, distance-in}
 use Rattle.segment.specs.Inner.{raised, ConvexInput}
 use Rattle.segment.proofs.Figures.{natural-is, slope-size, gap-is, a-size, b-size}
 use Rattle.segment.proofs.Figures.{t, u, h, from-left, from-right, h-is, distances}
-use Rattle.segment.proofs.Rounded.{round-lowered}
+use Rattle.segment.proofs.Rounded.{round-lowered, same-hundreds}
 
 module _ (s : Segment) where
   abbrev raised-slope : ℕ
@@ -51,24 +52,17 @@ pub record Convex (s : Segment) (x : ℕ) : Type 0 where
   pub above-is : a s ≡ pos (above s)
   pub below-is : b s ≡ pos (below s)
   pub input : ConvexInput (t s x) (u s x) (h s) (s .left .value) (raised-slope s) (above s) (below s)
-  pub reading : round (interpolant convex s x) ≡ pos (raised-at s x / 100) -ℤ pos (100 * t s x)
+  pub reading : (r : ℕ) → r / 100 ≡ raised-at s x / 100 →
+      floorDiv (pos r -ℤ pos (slope-most * t s x)) 100 ≡ round (interpolant convex s x)
 
 -- ---- the end slopes and the chord
 
 module _ (s : Segment) where
-  below-positive : gradient (s .left) <ℚ rise s over gap s → pos 0 <ℤ b s
-  unfolding gradient _over_
-  below-positive k = Z.positive-difference (rw (*ℤ-comm (s .left .slope) (gap s), *ℤ-comm (rise s) (pos 100)) at (k .cross))
-
-  above-positive : rise s over gap s <ℚ gradient (s .right) → pos 0 <ℤ a s
-  unfolding gradient _over_
-  above-positive k = Z.positive-difference (rw (*ℤ-comm (rise s) (pos 100), *ℤ-comm (s .right .slope) (gap s)) at (k .cross))
-
-  below-zero : gradient (s .left) ≈ℚ rise s over gap s → b s ≡ pos 0
+  below-zero : d₀ s ≈ℚ rise s over gap s → b s ≡ pos 0
   unfolding gradient _over_
   below-zero k = rw (*ℤ-comm (gap s) (s .left .slope), k .cross, *ℤ-comm (rise s) (pos 100)) (+ℤ-invr (g s))
 
-  above-zero : rise s over gap s ≈ℚ gradient (s .right) → a s ≡ pos 0
+  above-zero : rise s over gap s ≈ℚ d₁ s → a s ≡ pos 0
   unfolding gradient _over_
   above-zero k = rw (*ℤ-comm (pos 100) (rise s), k .cross, *ℤ-comm (s .right .slope) (gap s)) (+ℤ-invr (e₁ s))
 
@@ -76,7 +70,7 @@ module _ (s : Segment) where
 
 -- 100 times the left tangent and 50, raised and lowered again
 abbrev tangent-hundredths : (l d t : ℤ) → ℤ
-tangent-hundredths l d t = pos 50 *ℤ (pos 2 *ℤ l +ℤ pos 1) +ℤ (d +ℤ pos slope-most) *ℤ t -ℤ pos 100 *ℤ t *ℤ pos 100
+tangent-hundredths l d t = pos 50 *ℤ (pos 2 *ℤ l +ℤ pos 1) +ℤ (d +ℤ pos slope-most) *ℤ t -ℤ pos slope-most *ℤ t
 
 straight-half : (l d t : ℤ) →
     whole l +ℚ (d over pos 100) *ℚ whole t +ℚ half ≈ℚ (tangent-hundredths l d t *ℤ pos 1 +ℤ pos 0) over (pos 1 *ℤ pos 100)
@@ -98,7 +92,7 @@ module _ {s : Segment} {x : ℕ} (i : Inside (Good convex) s x) where
   raised-tangent = 50 * (2 * s .left .value + 1) + raised-slope s * t s x
 
   abbrev Reads : Type 0
-  Reads = round (interpolant convex s x) ≡ pos (raised-at s x / 100) -ℤ pos (100 * t s x)
+  Reads = round (interpolant convex s x) ≡ floorDiv (pos (raised-at s x) -ℤ pos (slope-most * t s x)) 100
 
   convex-facts : a s ≡ pos (above s) → b s ≡ pos (below s) → Reads → Convex s x
   convex-facts above-is below-is reads =
@@ -109,25 +103,25 @@ module _ {s : Segment} {x : ℕ} (i : Inside (Good convex) s x) where
         below-is = below-is;
         input = record {
           distances = distances i n;
-          whole = h-is i;
+          sum = h-is i;
           value = n .left .value;
           slope = omega (arith, size-+ (s .left .slope) (pos slope-most), slope-size (n .left));
           above = a-size n;
           below = b-size n;
         };
-        reading = reads;
+        reading = λ r e. same-hundreds r (raised-at s x) (t s x) e ∙ sym reads;
       }
 
   -- ---- the straight line
 
-  module _ (low : gradient (s .left) ≈ℚ rise s over gap s) (high : rise s over gap s ≈ℚ gradient (s .right)) where
+  module _ (low : d₀ s ≈ℚ rise s over gap s) (high : rise s over gap s ≈ℚ d₁ s) where
     straight-closed : Closed (interpolant convex s x)
-        (whole (pos (s .left .value)) +ℚ (rise s over gap s) *ℚ whole (distance s x))
+        (whole (v₀ s) +ℚ (rise s over gap s) *ℚ whole (distance s x))
     unfolding I.interpolant I.curve
     straight-closed = straight-value (normal s (i .good .ends .ordered)) (distance s x) low
 
     along-slope : Closed (interpolant convex s x)
-        (whole (pos (s .left .value)) +ℚ (s .left .slope over pos 100) *ℚ whole (pos (t s x)))
+        (whole (v₀ s) +ℚ (s .left .slope over pos 100) *ℚ whole (pos (t s x)))
     unfolding gradient
     along-slope =
         let hp = gap-positive s (i .good .ends .ordered) in
@@ -140,25 +134,28 @@ module _ {s : Segment} {x : ℕ} (i : Inside (Good convex) s x) where
     straight-reads : Reads
     straight-reads =
         rw (ap natAbs (below-zero s low)) (simp (zero-mul, zero-div)
-        (round-lowered raised-tangent (100 * t s x) 0 {w = 1} along-slope (search positivity) (lit< tt)
-        (rw slope-is at (straight-half (pos (s .left .value)) (s .left .slope) (pos (t s x))))))
+        (round-lowered raised-tangent (slope-most * t s x) 0 {w = 1} along-slope (search positivity) (lit< tt) (lit< tt)
+        (rw slope-is at (straight-half (v₀ s) (s .left .slope) (pos (t s x))))))
 
     straight-facts : Convex s x
     straight-facts = convex-facts (rw (above-zero s high)) (rw (below-zero s low)) straight-reads
 
   -- ---- the curve
 
-  module _ (low : gradient (s .left) <ℚ rise s over gap s) (high : rise s over gap s <ℚ gradient (s .right)) where
+  module _ (low : d₀ s <ℚ rise s over gap s) (high : rise s over gap s <ℚ d₁ s) where
+    bending : Bending (gap s) (v₀ s) (v₁ s) (d₀ s) (d₁ s) (S s) (a s) (g s) (b s)
+    bending = bending-of-normal (normal s (i .good .ends .ordered)) low high
+
     bent-closed : Closed (interpolant convex s x)
-        (convex-form (gap s) (pos (s .left .value)) (distance s x) (S s) (a s) (g s) (b s))
+        (convex-form (gap s) (v₀ s) (distance s x) (S s) (a s) (g s) (b s))
     unfolding I.interpolant I.curve
-    bent-closed = bent-value (bending-of-normal (normal s (i .good .ends .ordered)) low high) (distance-in i)
+    bent-closed = bent-value bending (distance-in i)
 
     above-is : a s ≡ pos (above s)
-    above-is = natural-is (Z.≤-of-< (above-positive s high))
+    above-is = natural-is (Z.≤-of-< (bending .a-positive))
 
     below-is : b s ≡ pos (below s)
-    below-is = natural-is (Z.≤-of-< (below-positive s low))
+    below-is = natural-is (Z.≤-of-< (bending .b-positive))
 
     abbrev w : ℕ
     w = below s * t s x
@@ -176,25 +173,21 @@ module _ {s : Segment} {x : ℕ} (i : Inside (Good convex) s x) where
     S-is = rw (gap-is (i .good .ends))
 
     over-tangent : Closed (interpolant convex s x)
-        (whole (pos (s .left .value)) +ℚ ((pos (h s) *ℤ s .left .slope *ℤ pos (t s x)) over (pos 100 *ℤ pos (h s)))
+        (whole (v₀ s) +ℚ ((pos (h s) *ℤ s .left .slope *ℤ pos (t s x)) over (pos 100 *ℤ pos (h s)))
         +ℚ ((pos w *ℤ pos w) over (pos 100 *ℤ pos (h s) *ℤ pos divisor)))
     over-tangent = rw (W-is, left-is, S-is, from-left i, below-is) at bent-closed
 
     divisor-positive : 0 < divisor
-    divisor-positive =
-        let k : 0 < above s = Z.<-of-pos-< (rw above-is at (above-positive s high)) in
-        let l : 0 < below s = Z.<-of-pos-< (rw below-is at (below-positive s low)) in
-        let d = distances i (i .good .ends) in
-        omega (arith, le-mul-of-pos-right (u s x) k, le-mul-of-pos-right (t s x) l)
+    divisor-positive = Z.<-of-pos-< (rw W-is at (W-positive bending (distance-in i)))
 
     bent-reads : Reads
     bent-reads =
         let k : 0 < h s = (let o = i .good .ends .ordered in omega arith) in
         let h-pos : pos 0 <ℤ pos (h s) = Z.pos-<-of-< k in
         let W-pos : pos 0 <ℤ pos divisor = Z.pos-<-of-< divisor-positive in
-        round-lowered raised-tangent (100 * t s x) (w * w) {w = divisor * h s} over-tangent (search (propers, signs) depth 9)
-        (mul-pos divisor-positive k)
-        (rw slope-is at (bent-half (pos (s .left .value)) (s .left .slope) (pos (t s x)) (pos (h s)) (pos divisor) (pos w)))
+        round-lowered raised-tangent (slope-most * t s x) (w * w) {w = divisor * h s} over-tangent
+        (search (propers, signs) depth 9) (mul-pos divisor-positive k) (lit< tt)
+        (rw slope-is at (bent-half (v₀ s) (s .left .slope) (pos (t s x)) (pos (h s)) (pos divisor) (pos w)))
 
     bent-facts : Convex s x
     bent-facts = convex-facts above-is below-is bent-reads

@@ -153,4 +153,4 @@ module _ {G : Segment → Type 0} {s : Segment} {x : ℕ} (i : Inside G s x) whe
 pub reading-fits : {shape : Shape} {s : Segment} {x : ℕ} → Inside (Good shape) s x → SFits w32 (round (interpolant shape s x))
 reading-fits {shape} {s} {x} i =
     let r = reading-range round-rounding (interpolant shape s x) (interpolant-proper i) (value-range i) in
-    sfits-of-size w32 (round (interpolant shape s x)) (omega (arith, size-between {n = 200000} _ (r .low) (r .high)))
+    sfits-of-size w32 (round (interpolant shape s x)) (omega (arith, size-between {n = value-most} _ (r .low) (r .high)))

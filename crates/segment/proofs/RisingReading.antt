@@ -15,9 +15,7 @@ use Rattle.exact.specs.Fraction.{_over_, whole, _+ℚ_, _*ℚ_, _≈ℚ_}
 use Rattle.exact.specs.Rounding.{floorDiv, half, round}
 use Rattle.exact.proofs.Ring.{ring-ℕ, terms}
 use Rattle.exact.proofs.Order as Z
-use Rattle.exact.proofs.Order.{signs}
 use Rattle.exact.proofs.Field.{field, ratios}
-use Rattle.exact.proofs.Fractions as Q
 use Rattle.exact.proofs.Fractions.{NonNeg, propers}
 use Rattle.exact.proofs.Rounding.{round-rounding, rounding-at-whole}
 use Rattle.model.specs.Points.{Point, gradient, Segment, rising}
@@ -67,13 +65,13 @@ slope-is p k = natural-is (k .sign)
 module _ {s : Segment} {x : ℕ}
     (i : Inside (Good rising) s x)
     (climb : pos 0 <ℤ rise s)
-    (k₀ : NonNeg (gradient (s .left)))
-    (k₁ : NonNeg (gradient (s .right))) where
+    (k₀ : NonNeg (d₀ s))
+    (k₁ : NonNeg (d₁ s)) where
   climbing : Climbing (gap s) (v₀ s) (v₁ s) (d₀ s) (d₁ s) (S s) (e₀ s) (g s) (e₁ s)
   climbing = climbing-of-normal (normal s (i .good .ends .ordered)) climb k₀ k₁
 
   closed : Closed (interpolant rising s x)
-      (rising-form (gap s) (pos (s .left .value)) (pos (s .right .value)) (distance s x) (e₀ s) (g s) (e₁ s))
+      (rising-form (gap s) (v₀ s) (v₁ s) (distance s x) (e₀ s) (g s) (e₁ s))
   unfolding I.interpolant I.curve
   closed = rising-value climbing (distance-in i)
 
@@ -101,7 +99,7 @@ module _ {s : Segment} {x : ℕ}
   B-is : B (gap s) (distance s x) (e₀ s) (g s) (e₁ s) ≡ pos whole-at
   B-is = rw (from-right i, from-left i, e₀-is, e₁-is, rise-is) (ap pos (two-parts _ _ _ _ _))
 
-  same : Closed (interpolant rising s x) (whole (pos (s .left .value)) +ℚ whole (pos (F s)) *ℚ (pos part-at over pos whole-at))
+  same : Closed (interpolant rising s x) (whole (v₀ s) +ℚ whole (pos (F s)) *ℚ (pos part-at over pos whole-at))
   same = rw (A-is, B-is, rise-is) at closed
 
   positive : 0 < whole-at
@@ -113,7 +111,7 @@ module _ {s : Segment} {x : ℕ}
       let b-pos : pos 0 <ℤ pos whole-at = Z.pos-<-of-< positive in
       round-twice (pos (s .left .value * whole-at + part-at * F s)) whole-at {w = 2} {m = whole-at} same
       (search propers) (lit< tt) positive
-      (rising-half (pos (s .left .value)) (pos (F s)) (pos part-at) (pos whole-at))
+      (rising-half (v₀ s) (pos (F s)) (pos part-at) (pos whole-at))
       ∙ ap pos (ap (λ n. n / whole-at) (add-assoc (s .left .value * whole-at) (part-at * F s) (whole-at / 2))
       ∙ mul-add-div-right positive (s .left .value) (part-at * F s + whole-at / 2))
 
@@ -141,7 +139,7 @@ module _ {s : Segment} {x : ℕ}
 pub rising-inside : {s : Segment} {x : ℕ} → Inside (Good rising) s x → (s .right .value ≡ s .left .value → ⊥) → Rising s x
 unfolding has-shape fits
 rising-inside {s} i differ =
-    elim (rise-kind (gap s) (pos (s .left .value)) (pos (s .right .value)) (i .good .shaped)) [
+    elim (rise-kind (gap s) (v₀ s) (v₁ s) (i .good .shaped)) [
       | climbs f k₀ k₁ ↦ rising-facts i f k₀ k₁
       | flat e ↦ absurd (differ (Z.pos-injective e))
     ]
@@ -151,4 +149,4 @@ pub flat-inside : {s : Segment} {x : ℕ} → Inside (Good rising) s x → s .ri
 unfolding I.interpolant I.curve
 flat-inside {s} {x} i e =
     let v = flat-value (normal s (i .good .ends .ordered)) (distance s x) (ap pos e) in
-    rounding-at-whole round-rounding (pos (s .left .value)) _ (v .proper) (v .same)
+    rounding-at-whole round-rounding (v₀ s) _ (v .proper) (v .same)

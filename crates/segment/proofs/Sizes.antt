@@ -3,7 +3,7 @@
 --   left-weights, right-weights   what the two calls of `part` ask
 --   whole-size, share-size, rising-size   B, A F with B / 2 for the rounding, and the factor
 --   tangent-size, divisor-size, denominator-size, excess-size, raised-size   the parts of the convex curve, and their sum
---   Near, least-near   what is above the tangent, by leading bits: at most 1 too low
+--   OneLow, least-near   what is above the tangent, by leading bits: at most 1 too low
 -- Assumes nothing.
 use Prim.Native.Nat.{ℕ, _+_, _-_, _*_, _/_, _^_, _≤_, _<_}
 use native.Mathlib.Nat.{mul-le-mul, mul-le-mul-left, mul-le-mul-right, le-mul-of-pos-right, div-le-self, add-div-right}
@@ -62,7 +62,7 @@ module _ {t u left F D₀ D₁ : ℕ} (k : RisingInput t u left F D₀ D₁) whe
 
 -- ---- w w / z by leading bits
 
-pub record Near (e least : ℕ) : Type 0 where
+pub record OneLow (e least : ℕ) : Type 0 where
   pub not-above : least ≤ e
   pub one-below : e ≤ least + 1
 
@@ -85,7 +85,7 @@ module _ (w x y z : ℕ)
       let l = mul-le-mul-right w small in
       omega (arith, mul-le-mul-right z square, mul-le-mul-right z rest, mul-le-mul-right z y-low)
 
-  leading : Near (w * w / z) (x * x / y)
+  leading : OneLow (w * w / z) (x * x / y)
   leading =
       record {
         not-above = div-mono (x * x) y (w * w) z (omega arith) (omega arith) leading-low;
@@ -103,10 +103,10 @@ module _ {t u h left d a b : ℕ} (k : ConvexInput t u h left d a b) where
   W = a * u + b * t
 
   h-size : h ≤ gap-most
-  h-size = let m = k .distances .most in let e = k .whole in omega arith
+  h-size = let m = k .distances .most in let e = k .sum in omega arith
 
   pub h-positive : 0 < h
-  h-positive = let l = k .distances .least in let e = k .whole in omega arith
+  h-positive = let l = k .distances .least in let e = k .sum in omega arith
 
   pub tangent-size : 50 * (2 * left + 1) + d * t ≤ 100 * value-most + 50 + 2 * over-most
   tangent-size =
@@ -125,10 +125,10 @@ module _ {t u h left d a b : ℕ} (k : ConvexInput t u h left d a b) where
       let n = le-mul-of-pos-right W h-positive in
       scaled-size {x = w} {c = W * h} w (omega arith)
 
-  pub least-near : 2 ^ 32 ≤ w → Near (w * w / (W * h)) (w / 32 * (w / 32) / (W * h / 1024 + 1))
+  pub least-near : 2 ^ 32 ≤ w → OneLow (w * w / (W * h)) (w / 32 * (w / 32) / (W * h / 1024 + 1))
   least-near n =
       let long = mul-le-mul-right t (k .below) in
-      let m = k .whole in
+      let m = k .sum in
       leading w (w / 32) (W * h / 1024 + 1) (W * h) (omega arith) (omega arith) (omega arith) (omega arith) (omega arith)
       (mul-le-mul {n₁ = w} {m₁ = 100} {n₂ = W} {m₂ = h} (omega arith) (omega arith))
 

@@ -47,7 +47,8 @@ module _ {s : Segment} (n : Neighbours s) where
   climbing-test h =
       let up : ltZ (pos 0) (rise s) ≡ true = T-true _ (Z.positive-difference (Z.pos-<-of-< h) .lt) in
       rw (slope-read (n .left), slope-read (n .right), sym (leZ-not-ltZ (pos 0) (s .left .slope)))
-      (rw (times-one (rise s), times-one (s .left .slope), times-one (s .right .slope), leZ-not-ltZ (rise s) (pos 0), up) (or-false _))
+      (rw (times-one (rise s), times-one (s .left .slope), times-one (s .right .slope), leZ-not-ltZ (rise s) (pos 0), up)
+      (or-false _))
 
   pub level-test : s .left .value ≡ s .right .value →
       has-shape rising s ≡ (eqb (bits (s .left .slope)) 0 && eqb (bits (s .right .slope)) 0)

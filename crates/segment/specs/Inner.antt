@@ -57,7 +57,7 @@ raised t u h left d a b = 50 * (2 * left + 1) + d * t + b * t * (b * t) / ((a * 
 
 pub record ConvexInput (t u h left d a b : ℕ) : Type 0 where
   pub distances : Distances t u
-  pub whole : h ≡ t + u
+  pub sum : h ≡ t + u
   pub value : left ≤ value-most
   pub slope : d ≤ 2 * slope-most
   pub above : a ≤ 2 * over-most

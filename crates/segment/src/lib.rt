@@ -110,7 +110,8 @@ fn convex_factor(p: Point, q: Point, area: u32) -> i32
     let u = (q.area - area) as u64;
     let h = (q.area - p.area) as u64;
     let r = raised(t, u, h, p.value as u64, d, a, b);
-    (r / 100) as i32 - (100 * t) as i32
+    let n = (r as i64) - ((SLOPE_MOST as u64 * t) as i64);
+    exact::floor_div(n, 100) as i32
 }
 
 // The factor at an area of a segment that has its shape.

@@ -1,2 +1,2 @@
--- The number of entries of a sheet's answer.
-pub mod Entries
+-- What contracts cite.
+pub mod Inner

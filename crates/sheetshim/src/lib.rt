@@ -4,7 +4,7 @@ ghost use lib.ListN.{length};
 ghost use Rattle.model.specs.Points.{points};
 ghost use Rattle.model.specs.Check.{on-lists};
 ghost use Rattle.model.specs.Sheet.{sheet-answer, sheet-list};
-ghost use Rattle.sheetshim.specs.Entries.{entries};
+ghost use Rattle.sheetshim.specs.Inner.{entries};
 use curve::Filled;
 
 // The number of entries written, or 0.

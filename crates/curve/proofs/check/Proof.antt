@@ -1,6 +1,6 @@
 -- `curve::check` meets its contract: a fault of the curve, or the number of its segments.
 -- Assumes nothing.
-use mathlib.Core.Path.{_≡_, sym, _∙_, ap}
+use mathlib.Core.Path.{sym, _∙_, ap}
 use Prim.Native.Nat.{ℕ, _-_}
 use native.Mathlib.Omega.{arith}
 use borrow.Author.Needs.{needs}
@@ -20,7 +20,8 @@ returns c =
     sym (curve-refused _ _ _ _ _ _ (c .before .before .curve-fault .ensures) (λ ps. gives (length (segments ps))) (c .if1 .taken))
 
 no-fault : (c : tie.Else1) →
-    (let k = c .before .before .before .before .before .args in Accepts (k .areas .now) (k .values .now) (k .slopes .now) (k .shape))
+    (let k = c .before .before .before .before .before .args in
+    Accepts (k .areas .now) (k .values .now) (k .slopes .now) (k .shape))
 no-fault c = accepts _ _ _ _ _ _ (c .before .before .curve-fault .ensures) (c .if1 .left)
 
 returns-2 : tie.Need-returns-2

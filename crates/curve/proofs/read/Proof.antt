@@ -1,6 +1,6 @@
 -- `curve::read` meets its contract: a fault of the curve, row 7, or the reading in the segment found.
 -- Assumes nothing.
-use mathlib.Core.Path.{_≡_, sym, _∙_, ap}
+use mathlib.Core.Path.{_≡_, sym, _∙_}
 use mathlib.Core.Bool.{false}
 use mathlib.Core.List.{List}
 use native.Mathlib.Omega.{arith}
@@ -75,7 +75,7 @@ returns-3 c =
     let e = c .before .before in
     let b = e .before .before in
     let k = no-fault b in
-    let curve : Curve = record { points = ps b; code = start b .args .shape; accepted = k .accepted } in
+    let curve : Curve = record { points = ps b; code = start b .args .shape; accepted = k .accepted .none-applies } in
     let range = factors-are-ranged curve _ (record { within = within e }) in
     let factor = toZ-ofZ {w = w32} (record { sfits = c .factor-at .ok }) ∙ c .factor-at .ensures in
     (rw (on-points k (after b), within e, factor), rw factor (range .low, range .high))

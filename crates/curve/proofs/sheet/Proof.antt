@@ -95,7 +95,8 @@ all-inside : (c : tie.Else3) →
     (let b = curve (c .before .before) in entry-rows (ps b) (start b .args .start) (start b .args .step) 0 (n b) ≡ gives tt)
 unfolding row
 all-inside c =
-    sym (c .before .first-outside .ensures _ (no-fault (curve (c .before .before)) .areas-are) _) ∙ (rw (le-ltb _ _ (c .if3 .left)))
+    sym (c .before .first-outside .ensures _ (no-fault (curve (c .before .before)) .areas-are) _)
+    ∙ (rw (le-ltb _ _ (c .if3 .left)))
 
 fill-requires : tie.Need-fill-requires
 fill-requires c κs =

@@ -1,6 +1,6 @@
--- `entries::fill` meets its contract. The loop's invariant: the first entries are filled, and the next one reaches the segment at k.
+-- `entries::fill` meets its contract. The loop's invariant: the first entries are filled, and the next reaches the segment at k.
 -- Assumes nothing.
-use mathlib.Core.Path.{_≡_, _∙_, ap}
+use mathlib.Core.Path.{_≡_, _∙_}
 use mathlib.Core.List.{List}
 use Prim.Native.Nat.{ℕ, _-_, _≤_, _<_}
 use native.Mathlib.Nat.{le-of-lt}
@@ -10,7 +10,7 @@ use lib.ListN.{length}
 use Rattle.model.specs.Points.{points}
 use Rattle.model.specs.Read.{reading}
 use Rattle.model.specs.Sheet.{entry-area}
-use Rattle.model.specs.Inner.{areas-of, Reached, Filling}
+use Rattle.model.specs.Inner.{Reached, Filling}
 use Rattle.model.proofs.Lists.{fields-of, fields-length}
 use Rattle.model.proofs.Accepted.{count-of, area-limit}
 use Rattle.model.proofs.Outside.{not-before}

@@ -63,7 +63,8 @@ at-form c =
     let e = ap reading-answer (c .before .at-form2 .given .1) in
     read-of _ _ _ _ _ _ (sym (r .0) ∙ e) (subst InRange e (r .1))
 
-at-plan : (c : tie.After-known-told4) → ReadAt (start (formed c)) (start (formed c) .args .plan) (c .before .at-plan2 .given .0 .0)
+at-plan : (c : tie.After-known-told4) →
+    (let s = start (formed c) in ReadAt s (s .args .plan) (c .before .at-plan2 .given .0 .0))
 unfolding reading-answer
 at-plan c =
     let r = c .before .before .before .read2 .ensures in
@@ -99,7 +100,8 @@ returns-2 c =
     let s = start f in
     let k = at-form f in
     let e = sym (c .before .before .before .read2 .ensures .0) ∙ ap reading-answer (c .before .at-plan .given .1) in
-    let out = refused-outside _ _ _ (k .given .accepted) (sym (on-points k (λ ps. read-answer ps (s .args .shape) (s .args .plan))) ∙ e) in
+    let read = on-points k (λ ps. read-answer ps (s .args .shape) (s .args .plan)) in
+    let out = refused-outside _ _ _ (k .given .accepted) (sym read ∙ e) in
     rw (
       on-points k (λ ps. pair-answer ps (s .args .shape) (s .args .form) (s .args .plan)),
       k .given .accepted .none-applies,

@@ -1,5 +1,6 @@
 -- `records::read_points` meets its contract: a fault of the curve, row 7, or the reading in the segment found.
 -- Assumes nothing.
+use Rattle.model.specs.Inner.{Accepted}
 use mathlib.Core.Path.{_≡_, sym, _∙_}
 use mathlib.Core.Bool.{false}
 use mathlib.Core.List.{List}
@@ -10,7 +11,6 @@ use mir.Val.{SFits}
 use mir.Facts.{toZ-ofZ}
 use Rattle.model.specs.Answer.{row, _then_}
 use Rattle.model.specs.Points.{Point}
-use Rattle.model.specs.Check.{Accepted}
 use Rattle.model.specs.Read.{outside, read-answer}
 use Rattle.rows.proofs.Faults.{a-fault, no-fault}
 use Rattle.curve.specs.Calls.{reading-answer}

@@ -71,7 +71,8 @@ module _ (c : tie.Else3) where
       let n = count-of-row-1 _ (rw (size first) at (count-passed (c .before .before))) in
       record { alike = alike first; least = n .0; most = n .1 }
 
-  after-code : all-rows first ≡ (point-rows 0 none (ps first) then segment-rows 0 (shape-of (start first .args .shape)) (segments (ps first)))
+  after-code : all-rows first
+      ≡ (point-rows 0 none (ps first) then segment-rows 0 (shape-of (start first .args .shape)) (segments (ps first)))
   unfolding curve-rows row _then_
   after-code =
       rw (after-lengths first, count-passed (c .before .before), sym (c .before .bad-code .ensures) ∙ c .if3 .left)

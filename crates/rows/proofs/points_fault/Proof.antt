@@ -14,7 +14,8 @@ use Rattle.model.specs.Points.{area-most, Point, points}
 use Rattle.model.specs.Inner.{fault-answer}
 use Rattle.model.proofs.Lists.{fields-of, fields-length}
 use Rattle.point.specs.Inner.{earlier, point-of}
-use Rattle.rows.proofs.Faults.{no-fault, passes, stops, after-first, limits-of-no-fault, points-from, point-turn, point-end}
+use Rattle.rows.proofs.Faults.{no-fault, passes, stops, limits-of-no-fault}
+use Rattle.rows.proofs.Faults.{points-from, after-first, point-turn, point-end}
 use Rattle.rows.proofs.points_fault.Statement.{statement}
 use Rattle.rows.proofs.points_fault.Tie as tie
 

@@ -1,4 +1,4 @@
--- `rows::segments_fault` meets its contract. The loop's invariant: the rows from segment `left` on decide as those from the first.
+-- `rows::segments_fault` meets its contract. The loop's invariant: the rows from segment `left` on decide as all of them.
 -- Assumes nothing.
 use mathlib.Core.Path.{_≡_, refl, sym, _∙_}
 use mathlib.Core.Bool.{not}

@@ -1,15 +1,15 @@
 -- `segment::convex_factor` meets its contract.
 -- Assumes nothing.
 use borrow.Author.Needs.{needs}
-use mathlib.Core.Path.{_≡_, sym, _∙_, ap, ap₂}
-use Prim.Native.Nat.{_*_, _/_, _^_, _<_}
+use mathlib.Core.Path.{_≡_, _∙_, ap₂}
+use Prim.Native.Nat.{ℕ, _*_, _/_, _^_, _≤_}
 use native.Mathlib.Omega.{arith}
 use lib.IntN.{pos, _+ℤ_, _-ℤ_}
-use mir.Syntax.{w32}
-use mir.Val.{SFits, toZ}
+use mir.Syntax.{w32, w64}
+use mir.Val.{SFits, toZ, ofZ}
 use mir.Facts.{toZ-ofZ, toZ-pos}
 use Rattle.exact.specs.Rounding.{round}
-use Rattle.exact.proofs.Magnitude.{sfits-of-size}
+use Rattle.exact.proofs.Magnitude.{sfits-of-size, size-difference}
 use Rattle.exact.proofs.Signed.{cast-of-natural}
 use Rattle.model.specs.Points.{slope-most, Segment, convex}
 use Rattle.model.specs.Interpolant.{interpolant}
@@ -105,26 +105,44 @@ module _ (c : tie.After-raised) where
       at (rw (a-read (n k) (slopes k), b-read (n k) (slopes k), toZ-ofZ (a-fits (n k)), toZ-ofZ (b-fits (n k)))
       at (c .raised .ensures))
 
-  small : c .raised .result / 100 < 2 ^ 31
-  small = omega (arith, raised-is, raised-size (facts start .input))
+  abbrev too-much : ℕ
+  too-much = slope-most * t (segment start) (start .args .area)
 
-  excess-small : 100 * t (segment start) (start .args .area) < 2 ^ 31
-  excess-small = omega (arith, facts start .input)
+  raised-small : c .raised .result ≤ 2 ^ 38
+  raised-small = omega (arith, raised-is, raised-size (facts start .input))
 
-  reads : toZ w32 (c .raised .result / 100) -ℤ toZ w32 (100 * t (segment start) (start .args .area))
-      ≡ round (interpolant convex (segment start) (start .args .area))
-  reads =
-      ap₂ (λ x y. x -ℤ y) (toZ-pos w32 small ∙ ap pos raised-is) (toZ-pos w32 excess-small) ∙ sym (facts start .reading)
+  too-much-small : too-much ≤ 2 ^ 38
+  too-much-small = omega (arith, facts start .input)
 
-sub-result : tie.Need-sub-result
-sub-result c = rw (reads c) (reading-fits (start c .pre))
+  n-fits : SFits w64 (pos (c .raised .result) -ℤ pos too-much)
+  n-fits = sfits-of-size w64 _ (omega (arith, size-difference raised-small too-much-small))
+
+  n-read : toZ w64 (c .raised .result) -ℤ toZ w64 too-much ≡ pos (c .raised .result) -ℤ pos too-much
+  n-read = ap₂ (λ x y. x -ℤ y) (wide raised-small) (wide too-much-small)
+    where
+      wide : {m : ℕ} → m ≤ 2 ^ 38 → toZ w64 m ≡ pos m
+      wide k = toZ-pos w64 (omega arith)
+
+sub-n : tie.Need-sub-n
+sub-n c = rw (n-read c) (n-fits c)
+
+reads : (c : tie.After-floor-div) →
+    (let s = start (c .before) in
+    toZ w64 (ofZ w64 (c .floor-div .result)) ≡ round (interpolant convex (segment s) (s .args .area)))
+reads c =
+    toZ-ofZ (record { sfits = c .floor-div .ok })
+    ∙ (rw (n-read (c .before), toZ-ofZ (n-fits (c .before))) at (c .floor-div .ensures))
+    ∙ facts (start (c .before)) .reading (c .before .raised .result) (raised-is (c .before))
+
+cast-result : tie.Need-cast-result
+cast-result c = rw (reads c) (reading-fits (start (c .before) .pre))
 
 returns : tie.Need-returns
-returns c = rw (reads c, toZ-ofZ (reading-fits (start c .pre)))
+returns c = rw (reads c, toZ-ofZ (reading-fits (start (c .before) .pre)))
 
 pub convex-factor-spec : {M : Type 1} → statement M
 convex-factor-spec =
     tie.close
     (tie.spec (λ c κs. ends c) sub-a cast-a sub-b cast-b add-d cast-d (search needs) (search needs) (search needs) (search needs)
-    (search needs) (search needs) (search needs) raised-requires (λ c. omega (arith, small c))
-    (λ c. omega (arith, excess-small c)) (λ c. omega (arith, excess-small c)) sub-result returns)
+    (search needs) (search needs) (search needs) raised-requires (λ c. omega (arith, raised-small c)) (search needs)
+    (λ c. omega (arith, too-much-small c)) (λ c. omega (arith, too-much-small c)) sub-n (search needs) cast-result returns)

@@ -7,15 +7,15 @@ use Rattle.segment.proofs.Tests.{climbing-test, level-test, falling-tes
 use Rattle.segment.proofs.rises.Statement.{statement}
 use Rattle.segment.proofs.rises.Tie as tie
 
--- the places
+-- the places: where the value rises, where it does not, and where it stays
 abbrev climbing : tie.After-struct-told → tie.Then1
 climbing c = c .before .before
 
+abbrev not-climbing : tie.After-struct-known6 → tie.Start
+not-climbing c = c .before .before .before .before .before
+
 abbrev level : tie.After-struct-told3 → tie.Else3
 level c = c .before .before
-
-abbrev entry-2 : tie.Else3 → tie.Start
-entry-2 c = c .before .before .before .before .before .before
 
 returns : tie.Need-returns
 returns c =
@@ -28,17 +28,17 @@ returns-2 c =
     sym (climbing-test (k .before .before .before .pre) (k .if1 .taken) ∙ rw (c .before .before .if2 .left))
 
 returns-3 : tie.Need-returns-3
-returns-3 c = sym (falling-test (c .before .before .before .before .before .before .pre) (omega arith))
+returns-3 c = sym (falling-test (not-climbing (c .before) .pre) (omega arith))
 
 returns-4 : tie.Need-returns-4
 returns-4 c =
     let k = level (c .before) in
-    sym (level-test (entry-2 k .pre) (k .if3 .left) ∙ rw (ne-eqb _ _ (c .if4 .taken)))
+    sym (level-test (not-climbing (k .before) .pre) (k .if3 .left) ∙ rw (ne-eqb _ _ (c .if4 .taken)))
 
 returns-5 : tie.Need-returns-5
 returns-5 c =
     let k = level (c .before .before .before) in
-    sym (level-test (entry-2 k .pre) (k .if3 .left) ∙ rw (eq-eqb _ _ (c .before .before .if4 .left)))
+    sym (level-test (not-climbing (k .before) .pre) (k .if3 .left) ∙ rw (eq-eqb _ _ (c .before .before .if4 .left)))
 
 pub rises-spec : {M : Type 1} → statement M
 rises-spec = tie.close (tie.spec returns returns-2 returns-3 returns-4 returns-5)

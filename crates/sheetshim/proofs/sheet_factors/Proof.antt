@@ -3,7 +3,7 @@
 use mathlib.Core.Path.{sym, _∙_, ap}
 use borrow.Author.Needs.{needs}
 use Rattle.curve.specs.Calls.{filled-answer}
-use Rattle.sheetshim.specs.Entries.{entries}
+use Rattle.sheetshim.specs.Inner.{entries}
 use Rattle.sheetshim.proofs.sheet_factors.Statement.{statement}
 use Rattle.sheetshim.proofs.sheet_factors.Tie as tie
 

@@ -1,4 +1,5 @@
--- The number of entries that an answer of Sheet gives; a refusal gives none.
+-- What contracts of inner functions cite. Nothing here need be believed: it serves the benchmark alone.
+--   entries    the number of entries that an answer of Sheet gives; a refusal gives none
 -- Assumes nothing.
 use Prim.Native.Nat.{ℕ}
 use Rattle.model.specs.Answer.{Answer, gives, refused}
