@@ -8,7 +8,8 @@ use lib.ListN.{length}
 use Rattle.model.specs.Answer.{gives, row}
 use Rattle.model.specs.Check.{curve-rows}
 use Rattle.model.proofs.Rows.{gives-injective, then-first, then-rest, row-passed}
-use Rattle.layout.specs.Layout.{shape-code, count, first-points, points-of}
+use Rattle.layout.specs.Layout.{shape-code, count, points-of}
+use Rattle.layout.specs.Inner.{first-points}
 use Rattle.layout.specs.Head.{head-rows}
 use Rattle.layout.proofs.Heads.{size-of-passed}
 use Rattle.records.specs.Inner.{Room}

@@ -9,8 +9,7 @@ ghost use Rattle.model.specs.Read.{outside as lies-outside, reading, read-answe
 ghost use Rattle.model.specs.Inner.{Accepted, fault-answer, areas-of, Limits, Taken, Readable};
 ghost use Rattle.point.specs.Inner.{point-of};
 ghost use Rattle.curve.specs.Calls.{reading-answer};
-ghost use Rattle.layout.specs.Layout.{first-points};
-ghost use Rattle.layout.specs.Inner.{Holds};
+ghost use Rattle.layout.specs.Inner.{first-points, Holds};
 ghost use Rattle.records.specs.Inner.{Follows, CurvePoints, Room, Begins};
 use curve::Reading;
 use layout::area_of;

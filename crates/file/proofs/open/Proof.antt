@@ -12,7 +12,8 @@ use Rattle.model.specs.Answer.{Answer, gives, row, _then_}
 use Rattle.model.specs.Points.{Point}
 use Rattle.model.specs.Check.{curve-rows}
 use Rattle.rows.proofs.Faults.{a-fault, no-fault}
-use Rattle.layout.specs.Layout.{point-offset, shape-code, count, first-points, points-of}
+use Rattle.layout.specs.Layout.{point-offset, shape-code, count, points-of}
+use Rattle.layout.specs.Inner.{first-points}
 use Rattle.layout.specs.Head.{head-rows}
 use Rattle.layout.proofs.Heads.{size-of-passed}
 use Rattle.layout.proofs.Points.{size-of-field}

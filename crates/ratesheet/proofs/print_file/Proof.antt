@@ -9,7 +9,8 @@ use lib.IntN.{pos}
 use lib.ListN.{take, replicate}
 use Rattle.model.specs.Answer.{gives}
 use Rattle.model.specs.Points.{Point}
-use Rattle.layout.specs.Layout.{first-points, points-of}
+use Rattle.layout.specs.Layout.{points-of}
+use Rattle.layout.specs.Inner.{first-points}
 use Rattle.layout.proofs.Points.{first-of, as-many, on-fields}
 use Rattle.file.specs.Open.{Head, open-list}
 use Rattle.file.specs.Calls.{opened-answer}

@@ -15,7 +15,8 @@ use Rattle.model.proofs.Rows.{passed}
 use Rattle.point.specs.Inner.{earlier}
 use Rattle.rows.proofs.Faults.{no-fault, passes, limits-of-no-fault}
 use Rattle.rows.proofs.Faults.{points-from, point-turn, point-end, segments-from, segment-turn, segment-end}
-use Rattle.layout.specs.Layout.{record-at, first-points}
+use Rattle.layout.specs.Layout.{record-at}
+use Rattle.layout.specs.Inner.{first-points}
 use Rattle.layout.proofs.Points.{size-of-first, point-is}
 use Rattle.records.proofs.Placed.{accepted-of}
 use Rattle.records.proofs.all_pass.Statement.{statement}

@@ -8,7 +8,7 @@ use mir.Facts.{toZ-ofZ}
 use Rattle.model.specs.Inner.{segment-at}
 use Rattle.model.proofs.Accepted.{inside, reading-is}
 use Rattle.point.specs.Inner.{segment-of}
-use Rattle.layout.specs.Layout.{first-points}
+use Rattle.layout.specs.Inner.{first-points}
 use Rattle.records.proofs.Placed.{areas-size, segment-is}
 use Rattle.records.proofs.factor_at.Statement.{statement}
 use Rattle.records.proofs.factor_at.Tie as tie
