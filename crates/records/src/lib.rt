@@ -108,7 +108,7 @@ pub fn curve_fault(bytes: &[u8], n: usize, shape: u32) -> Fault
     listed_fault(bytes, n, shape)
 }
 
-// Row 7 of the first n points.
+// Whether an area is outside the first n points: row 7.
 fn outside(bytes: &[u8], n: usize, area: u32) -> bool
     requires { ⌜ CurvePoints n (length (now bytes)) ⌝ }
     ensures { λ r. ⌜ r ≡ lies-outside (first-points (now (bytes .entry)) n) area ⌝ }
@@ -119,7 +119,7 @@ fn outside(bytes: &[u8], n: usize, area: u32) -> bool
     area_of(bytes, n - 1) < area
 }
 
-// Every eighth point that begins a segment, to the last of them whose area is not above the area.
+// Looks at every eighth point that begins a segment, up to the last of them whose area is not above the area.
 fn skip(bytes: &[u8], n: usize, area: u32) -> usize
     requires { ⌜ CurvePoints n (length (now bytes)) × Begins (now bytes) n 0 area ⌝ }
     ensures { λ r. ⌜ Begins (now (bytes .entry)) n r area ⌝ }
