@@ -11,6 +11,7 @@ use Rattle.exact.proofs.Order as Z
 use Rattle.model.specs.Answer.{Answer, gives, refused, row}
 use Rattle.model.specs.Points.{Point}
 use Rattle.model.specs.Read.{read-answer}
+use Rattle.model.specs.Laws.{Curve}
 use Rattle.model.proofs.Rows.{then-rest}
 use Rattle.model.proofs.Answers.{given}
 use Rattle.model.proofs.Laws.{factors-are-ranged}
@@ -23,8 +24,8 @@ use Rattle.desk.proofs.Numbered.{Numbered, in-desk}
 factor-is-high : (ps : List Point) (code x : ℕ) {factor : ℤ} → read-answer ps code x ≡ gives factor → negℤ (pos 200000) ≤ℤ factor
 factor-is-high ps code x e =
     let g = given ps code x e in
-    subst (λ z. negℤ (pos 200000) ≤ℤ z) (g .factor)
-    (factors-are-ranged (record { points = ps; code = code; accepted = g .accepted .none-applies }) x (record { within = g .within }) .low)
+    let c : Curve = record { points = ps; code = code; accepted = g .accepted .none-applies } in
+    subst (λ z. negℤ (pos 200000) ≤ℤ z) (g .factor) (factors-are-ranged c x (record { within = g .within }) .low)
 
 -- what a refusal's number is below −1,000,001
 below-by : (number : ℕ) → negℤ (pos 1000001) -ℤ (negℤ (pos 1000000) -ℤ pos number) ≡ pos number -ℤ pos 1

@@ -2,7 +2,7 @@
 --   body         all that follows the head
 --   body-fits    there is room for it; body-copied, what a copy of it leaves in the scratch
 -- Assumes nothing.
-use mathlib.Core.Path.{_≡_, _∙_, ap}
+use mathlib.Core.Path.{_≡_, _∙_}
 use mathlib.Core.List.{List, _++_}
 use Prim.Native.Nat.{ℕ, _*_, _-_, _≤_}
 use native.Mathlib.Omega.{arith}

@@ -8,7 +8,7 @@ use curve::Reading;
 use layout::HEAD_SIZE;
 use layout::RECORD_SIZE;
 
-// The number of a refusal.
+// What the desk gives for a refusal's number.
 fn refusal(number: u32) -> i32
     requires { ⌜ number ≤ 11 ⌝ }
     ensures { λ r. ⌜ r ≡ negℤ (pos 1000000) -ℤ pos number ⌝ }

@@ -13,10 +13,10 @@ floorDiv (negsuc n) d = negsuc (n / d)
 unfoldable pub floor : Fraction → ℤ
 floor x = floorDiv (x .num) (natAbs (x .den))
 
--- document 01, "Rounding": the greatest whole number not above the exact value plus one half
 abbrev pub half : Fraction
 half = pos 1 over pos 2
 
+-- document 01, "Rounding": the greatest whole number not above the exact value plus one half
 unfoldable pub round : Fraction → ℤ
 round x = floor (x +ℚ half)
 

@@ -15,18 +15,18 @@ unfoldable pub short-list : ℕ → ℕ → ℕ → ℕ → Bool
 short-list count areas values slopes = ltb areas count || ltb values count || ltb slopes count
 
 -- shape and count
-pub record Head : Type 0 where
+pub record ShapeAndCount : Type 0 where
   pub shape : ℕ
   pub count : ℕ
 
 -- rows 9, 10, 11 and 1 to 6, of the bytes and the lengths of the lent lists
-unfoldable pub open-answer : List ℕ → ℕ → ℕ → ℕ → Answer Head
+unfoldable pub open-answer : List ℕ → ℕ → ℕ → ℕ → Answer ShapeAndCount
 open-answer bytes areas values slopes =
     head-rows bytes then row (short-list (count bytes) areas values slopes) 11 0
     then curve-rows (points-of bytes) (shape-code bytes)
     then gives (record { shape = shape-code bytes; count = count bytes })
 
 -- a lent list after the call, by the answer: the file's list, and the entries after it as found; or all as found
-unfoldable pub open-list : {A : Type 0} → Answer Head → List A → List A → List A
+unfoldable pub open-list : {A : Type 0} → Answer ShapeAndCount → List A → List A → List A
 open-list (gives head) list found = list ++ drop (length list) found
 open-list (refused number place) list found = found

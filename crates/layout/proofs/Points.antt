@@ -19,7 +19,8 @@ use Rattle.model.specs.Check.{lengths-differ, on-lists}
 use Rattle.model.specs.Sheet.{tabulate}
 use Rattle.model.specs.Inner.{areas-of, origin, point-at}
 use Rattle.model.proofs.Filling.{tabulate-length}
-use Rattle.layout.specs.Layout.{record-at, first-points}
+use Rattle.layout.specs.Layout.{record-at}
+use Rattle.layout.specs.Inner.{first-points}
 
 module _ {A : Type 0} (f : ℕ → A) where
   tabulate-at : (d : A) (j i n : ℕ) → i < n → getD (tabulate f j n) i d ≡ f (j + i)

@@ -51,9 +51,6 @@ module _ (bytes : List ℕ) where
         slope = twos-complement (little-endian (point-offset i + 8) 4);
       }
 
-  -- the first n points; all of them
-  abbrev pub first-points : ℕ → List Point
-  first-points n = tabulate record-at 0 n
-
+  -- all points of the file
   abbrev pub points-of : List Point
-  points-of = first-points count
+  points-of = tabulate record-at 0 count

@@ -55,7 +55,7 @@ segments [] = []
 segments (p ∷ []) = []
 segments (p ∷ q ∷ ps) = record { left = p; right = q } ∷ segments (q ∷ ps)
 
--- 1 is rising, 2 is convex
+-- 1 is rising, 2 is convex; row 2 refuses other codes
 pub data Shape : Type 0 where
   rising convex : Shape
 

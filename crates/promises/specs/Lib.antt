@@ -1,4 +1,4 @@
--- The third demand of document 01, over every way to read a factor; an example of each way.
+-- The third demand, over every way to read a factor; document 01's file as an example.
 pub mod FactorRead
 pub mod Demands
 pub mod Example

@@ -17,7 +17,7 @@ use Rattle.model.proofs.Indexed.{last-area-at, Chained, chained}
 use Rattle.model.proofs.Accepted.{chained-of, area-limit}
 use Rattle.model.proofs.Outside.{first, last, inside-of-both}
 use Rattle.rows.proofs.Faults.{no-fault}
-use Rattle.curve.proofs.Curve.{Accepts, accepts}
+use Rattle.curve.proofs.Curve.{accepts}
 
 first-to-last : {shape : Shape} {ps : List Point} → Chained (Good shape) ps → first (areas-of ps) ≤ last (areas-of ps)
 first-to-last (chained {p = p} {q = q} {ps = ps} c) =

@@ -9,12 +9,12 @@ use curve::Filled;
 use file::Opened;
 use rows::POINTS_MOST;
 
-// From one area to the next, and the most areas.
+// From one area to the next, and the most entries of a sheet with that step.
 const STEP: u32 = 25;
 
 const ENTRIES_MOST: usize = (point::AREA_MOST / STEP) as usize + 1;
 
-// The most bytes that a file has.
+// The most bytes that the file of an accepted curve has.
 const FILE_MOST: usize = layout::HEAD_SIZE + layout::RECORD_SIZE * POINTS_MOST;
 
 fn print_head(shape: u32, points: usize) {
@@ -99,7 +99,7 @@ fn print_file(bytes: &[u8]) {
     }
 }
 
-// One byte more is no whole number of points, so `open` refuses a longer file by its first bytes.
+// A file of one byte more fits no count, so `open` refuses a longer file by its first 776 bytes.
 fn main() {
     let mut bytes = [0u8; FILE_MOST + 1];
     let n = io::read_full(0, &mut bytes);

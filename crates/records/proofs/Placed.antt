@@ -24,8 +24,8 @@ use Rattle.model.specs.Read.{outside}
 use Rattle.model.specs.Inner.{Accepted, between, segment-at, areas-of, Taken}
 use Rattle.model.proofs.Accepted.{count-of}
 use Rattle.model.proofs.Outside.{outside-of, not-before}
-use Rattle.layout.specs.Layout.{record-at, first-points}
-use Rattle.layout.specs.Inner.{Holds}
+use Rattle.layout.specs.Layout.{record-at}
+use Rattle.layout.specs.Inner.{first-points, Holds}
 use Rattle.layout.proofs.Points.{size-of-first, point-is, area-is}
 use Rattle.records.specs.Inner.{CurvePoints, Begins}
 

@@ -1,45 +1,49 @@
 // Rows 1 to 7 and the reading, of the points of a curve file where they stand.
 ghost use mathlib.Core.Path.{_≡_};
-ghost use mathlib.Core.Bool.{true};
+ghost use mathlib.Core.Bool.{true, false};
 ghost use mathlib.Core.List.{map, _++_};
 ghost use lib.ListN.{length, drop};
-ghost use Rattle.model.specs.Check.{curve-rows};
+ghost use Rattle.model.specs.Points.{shape-of};
+ghost use Rattle.model.specs.Check.{bad-code, curve-rows};
 ghost use Rattle.model.specs.Read.{outside as lies-outside, reading, read-answer};
-ghost use Rattle.model.specs.Inner.{Accepted, fault-answer, areas-of, Taken, Readable};
+ghost use Rattle.model.specs.Inner.{Accepted, fault-answer, areas-of, Limits, Taken, Readable};
+ghost use Rattle.point.specs.Inner.{point-of};
 ghost use Rattle.curve.specs.Calls.{reading-answer};
-ghost use Rattle.layout.specs.Layout.{first-points};
-ghost use Rattle.layout.specs.Inner.{Holds};
-ghost use Rattle.records.specs.Inner.{CurvePoints, Room, Begins};
+ghost use Rattle.layout.specs.Inner.{first-points, Holds};
+ghost use Rattle.records.specs.Inner.{Follows, CurvePoints, Room, Begins};
 use curve::Reading;
 use layout::area_of;
 use layout::record_at;
+use point::Point;
 use rows::Fault;
 use rows::POINTS_MOST;
 
-// Rows 2 to 6 in one pass. Where it finds a fault it does not say which.
-fn all_pass(bytes: &[u8], n: usize, shape: u32) -> bool
-    requires { ⌜ CurvePoints n (length (now bytes)) ⌝ }
-    ensures { λ r. ⌜ (r ≡ true → Accepted (first-points (now (bytes .entry)) n) shape) ⌝ }
+// Rows 3 to 6 of the second of two points and of the segment between them.
+fn follows(shape: u32, p: Point, q: Point) -> bool
+    requires { ⌜ Limits (point-of p) ⌝ }
+    ensures { λ r. ⌜ (r ≡ true → Follows (shape-of shape) (point-of p) (point-of q)) ⌝ }
 {
-    if rows::bad_code(shape) {
+    if point::point_fault(false, p.area, q) != 0 {
         return false;
     }
-    let mut p = record_at(bytes, 0);
-    if point::point_fault(true, 0, p) != 0 {
+    segment::has_shape(shape, p, q)
+}
+
+// Rows 3 to 6 in one pass. Where it finds a fault it does not say which.
+fn all_pass(bytes: &[u8], n: usize, shape: u32) -> bool
+    requires { ⌜ CurvePoints n (length (now bytes)) × (bad-code shape ≡ false) ⌝ }
+    ensures { λ r. ⌜ (r ≡ true → Accepted (first-points (now (bytes .entry)) n) shape) ⌝ }
+{
+    if point::point_fault(true, 0, record_at(bytes, 0)) != 0 {
         return false;
     }
     let last = n - 1;
     let mut left: usize = 0;
     while left < last {
         let right = left + 1;
-        let q = record_at(bytes, right);
-        if point::point_fault(false, p.area, q) != 0 {
+        if !follows(shape, record_at(bytes, left), record_at(bytes, right)) {
             return false;
         }
-        if !segment::has_shape(shape, p, q) {
-            return false;
-        }
-        p = q;
         left = right;
     }
     true
@@ -89,6 +93,12 @@ pub fn curve_fault(bytes: &[u8], n: usize, shape: u32) -> Fault
             place: 0,
         };
     }
+    if rows::bad_code(shape) {
+        return Fault {
+            number: 2,
+            place: 0,
+        };
+    }
     if all_pass(bytes, n, shape) {
         return Fault {
             number: 0,
@@ -98,7 +108,7 @@ pub fn curve_fault(bytes: &[u8], n: usize, shape: u32) -> Fault
     listed_fault(bytes, n, shape)
 }
 
-// Row 7 of the first n points.
+// Whether an area is outside the first n points: row 7.
 fn outside(bytes: &[u8], n: usize, area: u32) -> bool
     requires { ⌜ CurvePoints n (length (now bytes)) ⌝ }
     ensures { λ r. ⌜ r ≡ lies-outside (first-points (now (bytes .entry)) n) area ⌝ }
@@ -109,7 +119,7 @@ fn outside(bytes: &[u8], n: usize, area: u32) -> bool
     area_of(bytes, n - 1) < area
 }
 
-// Every eighth point that begins a segment, to the last of them whose area is not above the area.
+// Looks at every eighth point that begins a segment, up to the last of them whose area is not above the area.
 fn skip(bytes: &[u8], n: usize, area: u32) -> usize
     requires { ⌜ CurvePoints n (length (now bytes)) × Begins (now bytes) n 0 area ⌝ }
     ensures { λ r. ⌜ Begins (now (bytes .entry)) n r area ⌝ }

@@ -1,2 +1,2 @@
--- What contracts cite.
+-- What contracts of inner functions cite.
 pub mod Inner

@@ -33,8 +33,8 @@ fn rising(t: u64, u: u64, left: u64, rise: u64, d0: u64, d1: u64) -> u64
 }
 
 // 100 times the value of a convex curve, with 50 for the rounding and 10000 t, so that nothing is negative: d is the left slope
-// plus 10000. The last two digits need not be right. a and b are the end slopes' distances from the chord: with w = b t and
-// W = a u + w the curve is w w / (W h) hundredths above its left tangent.
+// plus 10000. The last two digits need not be right. a and b are the end slopes' distances from the chord, over 100 h: with
+// w = b t and W = a u + w the curve is w w / (W h) hundredths above its left tangent.
 fn raised(t: u64, u: u64, h: u64, left: u64, d: u64, a: u64, b: u64) -> u64
     requires { ⌜ ConvexInput t u h left d a b ⌝ }
     ensures { λ r. ⌜ r / 100 ≡ inner.raised t u h left d a b / 100 ⌝ }
@@ -81,7 +81,7 @@ fn slopes_of(p: Point, q: Point) -> Slopes
     }
 }
 
-// The factor at an area of a rising segment. u is h - t, so that t + u is the same for every area.
+// The factor at an area of a rising segment. u is taken as h - t, so that the compiler sees that t + u is h for every area.
 fn rising_factor(p: Point, q: Point, area: u32) -> i32
     requires { ⌜ Inside (Good Shape.rising) (segment-of p q) area ⌝ }
     ensures { λ r. ⌜ r ≡ round (interpolant Shape.rising (segment-of p q) area) ⌝ }

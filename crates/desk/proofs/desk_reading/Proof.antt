@@ -1,5 +1,5 @@
--- `desk::desk_reading` meets its contract: rows 9 and 10, row 11, rows 1 to 7 of the points, or the factor and the records copied.
--- A refusal leaves the scratch as it was.
+-- `desk::desk_reading` meets its contract: rows 9 and 10, row 11, rows 1 to 7 of the points, or the factor and the records
+-- copied. A refusal leaves the scratch as it was.
 -- Assumes nothing.
 use mathlib.Core.Path.{_≡_, refl, sym, _∙_, ap, subst}
 use mathlib.Core.List.{List}

@@ -3,15 +3,17 @@
 -- Assumes nothing.
 use mathlib.Core.Path.{_≡_, refl, sym, _∙_}
 use mathlib.Core.Bool.{false}
-use mathlib.Core.List.{List}
+use mathlib.Core.List.{List, map, _++_}
 use Prim.Native.Nat.{ℕ}
 use native.Mathlib.Omega.{arith}
 use borrow.Author.Needs.{needs}
-use lib.ListN.{length}
+use lib.ListN.{length, drop}
 use Rattle.model.specs.Answer.{Answer, gives, row, _then_}
+use Rattle.model.specs.Points.{Point}
 use Rattle.model.specs.Check.{curve-rows}
 use Rattle.rows.proofs.Faults.{a-fault, no-fault}
 use Rattle.layout.specs.Layout.{point-offset, shape-code, count, points-of}
+use Rattle.layout.specs.Inner.{first-points}
 use Rattle.layout.specs.Head.{head-rows}
 use Rattle.layout.proofs.Heads.{size-of-passed}
 use Rattle.layout.proofs.Points.{size-of-field}
@@ -90,18 +92,24 @@ decode-requires c κs =
     let r = roomy (c .before .before .before) in
     room-of-row-11 (record { file = omega (arith, size (headed r)) }) (long r)
 
+-- the entries after a file's list, by its length
+after-list : {A : Type 0} (bytes : List ℕ) (n : ℕ) (field : Point → A) (found : List A) →
+    map field (first-points bytes n) ++ drop n found
+    ≡ map field (first-points bytes n) ++ drop (length (map field (first-points bytes n))) found
+after-list bytes n field found = rw (size-of-field bytes n field)
+
 returns-4 : tie.Need-returns-4
 unfolding open-list opened-answer _then_
 returns-4 c =
+    let e = written c .decode .ensures in
     let a = accepted (written c) in
     let r = roomy a in
     let n = count (input r) in (
       sym (tried r (sym (a .before .before .curve-fault .ensures) ∙ no-fault _ (a .if3 .left))),
-      rw (
-        size-of-field (input r) n (λ p. p .area),
-        size-of-field (input r) n (λ p. p .value),
-        size-of-field (input r) n (λ p. p .slope),
-      ) (written c .decode .ensures),
+      (
+        e .0 ∙ after-list (input r) n (λ p. p .area) _,
+        (e .1 .0 ∙ after-list (input r) n (λ p. p .value) _, e .1 .1 ∙ after-list (input r) n (λ p. p .slope) _),
+      ),
     )
 
 pub open-spec : {M : Type 1} → statement M

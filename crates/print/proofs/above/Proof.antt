@@ -16,7 +16,8 @@ not-negative : (c : tie.Else1) → ltZ (c .before .args .n) (pos 0) ≡ false
 not-negative c = rw (toZ-ofZ (c .before .fits .n)) at (c .if1 .left)
 
 cast-result : tie.Need-cast-result
-cast-result c = rw (toZ-ofZ (c .before .fits .n)) (cast-of-natural tt (c .before .fits .n) (natural-of-not-negative _ (not-negative c)))
+cast-result c =
+    rw (toZ-ofZ (c .before .fits .n)) (cast-of-natural tt (c .before .fits .n) (natural-of-not-negative _ (not-negative c)))
 
 returns-2 : tie.Need-returns-2
 returns-2 c = rw (toZ-ofZ (c .before .fits .n), not-negative c)

@@ -41,7 +41,8 @@ sub-result c = rw (toZ-ofZ (fits c)) (mirror-fits c)
 
 cast-result : tie.Need-cast-result
 cast-result c =
-    rw (toZ-ofZ (fits c), toZ-ofZ (mirror-fits c)) (cast-of-natural tt (mirror-fits c) (mirror-natural-of-negative (n c) (negative c)))
+    rw (toZ-ofZ (fits c), toZ-ofZ (mirror-fits c))
+    (cast-of-natural tt (mirror-fits c) (mirror-natural-of-negative (n c) (negative c)))
 
 add-result : tie.Need-add-result
 add-result c = rw (toZ-ofZ (fits c), toZ-ofZ (mirror-fits c), size c) (fits-natAbs tt (fits c))

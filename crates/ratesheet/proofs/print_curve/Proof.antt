@@ -21,7 +21,7 @@ few c = omega (arith, c .entries .ensures, facts (c .before .before .before .bef
 pub print-curve-spec : {M : Type 1} → statement M
 print-curve-spec =
     tie.close
-    (tie.spec (λ c. omega (arith, facts (c .before .before .before) .some)) (λ c. omega (arith, facts (c .before .before .before) .some))
-    (search needs) (λ c. omega (arith, facts (c .before .before .before .before) .some)) entries-requires few
+    (tie.spec (λ c. omega (arith, facts (c .before .before .before))) (λ c. omega (arith, facts (c .before .before .before)))
+    (search needs) (λ c. omega (arith, facts (c .before .before .before .before))) entries-requires few
     (λ c. sym (length-take-le _ _ (few (c .before)))) (λ c κs. rw (length-take-le _ _ (few (c .before))) (few (c .before)))
     (search needs))

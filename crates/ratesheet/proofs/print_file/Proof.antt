@@ -9,11 +9,12 @@ use lib.IntN.{pos}
 use lib.ListN.{take, replicate}
 use Rattle.model.specs.Answer.{gives}
 use Rattle.model.specs.Points.{Point}
-use Rattle.layout.specs.Layout.{first-points, points-of}
+use Rattle.layout.specs.Layout.{points-of}
+use Rattle.layout.specs.Inner.{first-points}
 use Rattle.layout.proofs.Points.{first-of, as-many, on-fields}
-use Rattle.file.specs.Open.{Head, open-list}
+use Rattle.file.specs.Open.{ShapeAndCount, open-list}
 use Rattle.file.specs.Calls.{opened-answer}
-use Rattle.ratesheet.proofs.Opened.{Given, given}
+use Rattle.ratesheet.proofs.Opened.{OpenGives, open-gives}
 use Rattle.ratesheet.proofs.print_file.Statement.{statement}
 use Rattle.ratesheet.proofs.print_file.Tie as tie
 
@@ -24,14 +25,14 @@ module _ (c : tie.After-known-told2) where
   abbrev bytes : List ℕ
   bytes = opened .before .before .before .before .before .args .bytes .now
 
-  abbrev head : Head
+  abbrev head : ShapeAndCount
   head = record { shape = c .before .shape .given .0 .0; count = c .before .shape .given .0 .1 .0 }
 
   answer : opened-answer (opened .«open» .result) ≡ gives head
   unfolding opened-answer
   answer = ap opened-answer (c .before .shape .given .1)
 
-  facts : Given bytes 64 64 64 head
+  facts : OpenGives bytes 64 64 64 head
   facts = given bytes 64 64 64 head (sym (opened .«open» .ensures .0) ∙ answer)
 
   abbrev n : ℕ

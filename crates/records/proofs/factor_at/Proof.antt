@@ -1,16 +1,14 @@
 -- `records::factor_at` meets its contract.
 -- Assumes nothing.
-use mathlib.Core.Path.{_≡_, sym, _∙_}
-use Prim.Native.Nat.{suc, _+_, _<_}
+use mathlib.Core.Path.{_≡_, sym}
+use Prim.Native.Nat.{suc, _<_}
 use native.Mathlib.Numerals.{add-one}
 use native.Mathlib.Omega.{arith}
 use mir.Facts.{toZ-ofZ}
-use lib.ListN.{length-map}
 use Rattle.model.specs.Inner.{segment-at}
 use Rattle.model.proofs.Accepted.{inside, reading-is}
 use Rattle.point.specs.Inner.{segment-of}
-use Rattle.layout.specs.Layout.{first-points}
-use Rattle.layout.proofs.Points.{size-of-first}
+use Rattle.layout.specs.Inner.{first-points}
 use Rattle.records.proofs.Placed.{areas-size, segment-is}
 use Rattle.records.proofs.factor_at.Statement.{statement}
 use Rattle.records.proofs.factor_at.Tie as tie

@@ -5,7 +5,7 @@ use mathlib.Core.List.{List, map}
 use borrow.Author.Needs.{needs}
 use lib.ListN.{take}
 use Rattle.model.specs.Points.{Point}
-use Rattle.layout.specs.Layout.{first-points}
+use Rattle.layout.specs.Inner.{first-points}
 use Rattle.layout.proofs.Points.{first-of, as-many, on-fields}
 use Rattle.records.proofs.listed_fault.Statement.{statement}
 use Rattle.records.proofs.listed_fault.Tie as tie

@@ -14,7 +14,7 @@ use Rattle.model.specs.Points.{Point}
 use Rattle.model.specs.Read.{outside, read-answer}
 use Rattle.rows.proofs.Faults.{a-fault, no-fault}
 use Rattle.curve.specs.Calls.{reading-answer}
-use Rattle.layout.specs.Layout.{first-points}
+use Rattle.layout.specs.Inner.{first-points}
 use Rattle.records.specs.Inner.{CurvePoints}
 use Rattle.records.proofs.Placed.{curve-points, begins-first}
 use Rattle.records.proofs.read_points.Statement.{statement}
