@@ -13,17 +13,11 @@ use Rattle.model.specs.Inner.{Reached, Taken}
 
 pub reached-later : {areas : List ℕ} {k index i : ℕ} (start step : ℕ) → index ≤ i →
     Reached areas k (entry-area start step index) → Reached areas k (entry-area start step i)
-reached-later start step h r =
-    let low = r .low in
-    let more = mul-le-mul-right step h in
-    record { inner = r .inner; low = omega arith }
+reached-later start step h r = record { inner = r .inner; low = omega (arith, r .low, mul-le-mul-right step h) }
 
 -- an area that takes a segment does not reach the next
 not-reached : {areas : List ℕ} {k x : ℕ} → Taken areas k x → Reached areas (suc k) x → ⊥
-not-reached t r =
-    let low = r .low in
-    let inner = r .inner in
-    elim (t .high) [ inl h ↦ omega arith | inr e ↦ omega arith ]
+not-reached t r = elim (t .high) [ inl h ↦ omega (arith, r .low) | inr e ↦ omega (arith, r .inner) ]
 
 pub <-of-reached : {areas : List ℕ} {k index i : ℕ} (start step : ℕ) → index ≤ i →
     Taken areas k (entry-area start step index) → Reached areas (suc k) (entry-area start step i) → index < i

@@ -76,10 +76,7 @@ module _ (G : Segment → Type 0) (ordered : (s : Segment) → G s → s .left .
   chain-least : {p : Point} {ps : List Point} → Chain G p ps → (i : ℕ) → i ≤ length ps → p .area ≤ getD (areas-of (p ∷ ps)) i 0
   chain-least c zero h = le-refl _
   chain-least end (suc i) h = absurd (omega arith)
-  chain-least (link g c) (suc i) h =
-      let k = ordered _ g in
-      let m = chain-least c i (omega arith) in
-      omega arith
+  chain-least (link g c) (suc i) h = omega (arith, ordered _ g, chain-least c i (omega arith))
 
   stop-in-chain : {p q : Point} {ps : List Point} → Chain G p (q ∷ ps) → (k x : ℕ) → Taken (areas-of (p ∷ q ∷ ps)) k x →
       stop p q ps x ≡ segment-at (p ∷ q ∷ ps) k

@@ -124,17 +124,13 @@ module _ {G : Segment → Type 0} {s : Segment} {x : ℕ} (i : Inside G s x) whe
       ends-difference = ring (pos (s .right .area) ∷ pos (s .left .area) ∷ pos x ∷ []) (search terms depth 20 fits 9999) tt
 
   pub h-is : h s ≡ t s x + u s x
-  h-is = let l = i .low in let r = i .high in omega arith
+  h-is = omega (arith, i .low, i .high)
 
   pub u-read : h s - t s x ≡ u s x
-  u-read = let l = i .low in let r = i .high in omega arith
+  u-read = omega (arith, i .low, i .high)
 
   pub distances : Neighbours s → Distances (t s x) (u s x)
-  distances n =
-      let k = n .near in
-      let l = n .ordered in
-      let e = h-is in
-      record { most = omega arith; least = omega arith }
+  distances n = record { most = omega (arith, n .near, h-is); least = omega (arith, n .ordered, h-is) }
 
 -- the reading fits 32 bits
 pub reading-fits : {shape : Shape} {s : Segment} {x : ℕ} → Inside (Good shape) s x → SFits w32 (round (interpolant shape s x))

@@ -34,19 +34,14 @@ module _ {t u left F D₀ D₁ : ℕ} (k : RisingInput t u left F D₀ D₁) whe
   right-size = mul-le-mul (k .distances .most) (k .right-slope)
 
   pub left-weights : Weights t u (100 * F) ((t + u) * D₀)
-  left-weights =
-      let r = k .rise in
-      record { near = k .distances .most; first = omega arith; second = left-size }
+  left-weights = record { near = k .distances .most; first = omega (arith, k .rise); second = left-size }
 
   pub right-weights : Weights u t (100 * F) ((t + u) * D₁)
   right-weights =
-      let r = k .rise in
-      record { near = (let m = k .distances .most in omega arith); first = omega arith; second = right-size }
+      record { near = omega (arith, k .distances .most); first = omega (arith, k .rise); second = right-size }
 
   pub whole-size : whole-part t u F D₀ D₁ ≤ gap-most * (gap-most * over-most)
-  whole-size =
-      let n = k .distances .most in
-      omega (arith, part-size left-weights, part-size right-weights)
+  whole-size = omega (arith, k .distances .most, part-size left-weights, part-size right-weights)
 
   pub share-size : part t u (100 * F) ((t + u) * D₀) * F + whole-part t u F D₀ D₁ / 2 ≤ 2 ^ 64 - 1 - value-most
   share-size =
@@ -56,9 +51,8 @@ module _ {t u left F D₀ D₁ : ℕ} (k : RisingInput t u left F D₀ D₁) whe
 
   pub rising-size : rising-reading t u left F D₀ D₁ ≤ 2 ^ 64 - 1
   rising-size =
-      let n = share-size in
-      let m = k .value in
-      omega (arith, div-le-self (part t u (100 * F) ((t + u) * D₀) * F + whole-part t u F D₀ D₁ / 2) (whole-part t u F D₀ D₁))
+      let B : ℕ = whole-part t u F D₀ D₁ in
+      omega (arith, share-size, k .value, div-le-self (part t u (100 * F) ((t + u) * D₀) * F + B / 2) B)
 
 -- ---- w w / z by leading bits
 
@@ -103,27 +97,24 @@ module _ {t u h left d a b : ℕ} (k : ConvexInput t u h left d a b) where
   divisor = a * u + b * t
 
   h-size : h ≤ gap-most
-  h-size = let m = k .distances .most in let e = k .sum in omega arith
+  h-size = omega (arith, k .distances .most, k .sum)
 
   pub h-positive : 0 < h
-  h-positive = let l = k .distances .least in let e = k .sum in omega arith
+  h-positive = omega (arith, k .distances .least, k .sum)
 
   pub tangent-size : 50 * (2 * left + 1) + d * t ≤ 100 * value-most + 50 + 2 * over-most
   tangent-size =
-      let n = k .value in
       let m = k .distances .most in
-      omega (arith, mul-le-mul {m₁ = t} {m₂ = gap-most} (k .slope) (omega arith))
+      omega (arith, k .value, mul-le-mul {m₁ = t} {m₂ = gap-most} (k .slope) (omega arith))
 
   pub divisor-size : divisor ≤ gap-most * (2 * over-most)
-  divisor-size = blend-size u t (let m = k .distances .most in omega arith) (k .above) (k .below)
+  divisor-size = blend-size u t (omega (arith, k .distances .most)) (k .above) (k .below)
 
   pub denominator-size : divisor * h ≤ gap-most * (2 * over-most) * gap-most
   denominator-size = mul-le-mul divisor-size h-size
 
   pub excess-size : w * w / (divisor * h) ≤ w
-  excess-size =
-      let n = le-mul-of-pos-right divisor h-positive in
-      scaled-size {x = w} {c = divisor * h} w (omega arith)
+  excess-size = scaled-size {x = w} {c = divisor * h} w (omega (arith, le-mul-of-pos-right divisor h-positive))
 
   pub least-near : 2 ^ 32 ≤ w → OneLow (w * w / (divisor * h)) (w / 32 * (w / 32) / (divisor * h / 1024 + 1))
   least-near n =

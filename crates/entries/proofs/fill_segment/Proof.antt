@@ -75,7 +75,8 @@ module _ (c : tie.In-loop Inv-loop μ-loop) where
   i-below : c .before .loop .i < length (start at-points .args .out .now)
   i-below = omega (arith, c .before .loop .inv .size, c .loop-test .taken)
 
-  within : outside (ps at-points) (entry-area (start at-points .args .start) (start at-points .args .step) (c .before .loop .i)) ≡ false
+  within :
+      (let k = start at-points .args in outside (ps at-points) (entry-area (k .start) (k .step) (c .before .loop .i)) ≡ false)
   within = start at-points .pre .entries .inside (c .before .loop .i) i-below
 
 area-of-requires : tie.Need-area-of-requires Inv-loop μ-loop
@@ -140,7 +141,7 @@ loop-again c =
     let h = i-below (at-turn c) in
     let f : ℕ → ℤ = λ j. reading (ps b) (s .args .shape) (entry-area (s .args .start) (s .args .step) j) in
     record {
-      least = (let l = k .least in omega arith);
+      least = omega (arith, k .least);
       most = omega arith;
       size = simp length-set (k .size);
       filled = λ found g. filling-goes-on f (pos 0) _ (k .filled found g) (let e = g .size in omega arith) (written-is c);
@@ -149,10 +150,8 @@ loop-again c =
 returns-2 : tie.Need-returns-2 Inv-loop μ-loop
 returns-2 c =
     let k = c .before .loop .inv in
-    let e = k .size in
-    let n = c .loop-test .left in
     let l = start (c .before .before) .pre .left in
-    record { more = omega arith; most = k .most; filled = k .filled }
+    record { more = omega (arith, k .size, c .loop-test .left); most = k .most; filled = k .filled }
 
 pub fill-segment-spec : {M : Type 1} → statement M
 fill-segment-spec =

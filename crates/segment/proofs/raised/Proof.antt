@@ -24,14 +24,10 @@ mul-least c =
     record { fits = product-size 32 32 (omega arith) (omega arith) }
 
 add-least-2 : tie.Need-add-least-2
-add-least-2 c =
-    let n = least-near (c .before .before .pre) (omega arith) in
-    omega (arith, raised-size (c .before .before .pre))
+add-least-2 c = omega (arith, least-near (c .before .before .pre) (omega arith), raised-size (c .before .before .pre))
 
 returns-3 : tie.Need-returns-3
-returns-3 c =
-    let n = least-near (c .before .before .before .pre) (omega arith) in
-    omega arith
+returns-3 c = omega (arith, least-near (c .before .before .before .pre) (omega arith))
 
 -- in full
 mul-div-requires : tie.Need-mul-div-requires
