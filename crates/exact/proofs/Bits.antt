@@ -25,8 +25,8 @@ eqZ-of-≡ {a} {b} e = rw e (yes-and (leZ b b) (leZ b b) (≤ℤ-refl b .le) (�
 
 ≡-of-eqZ : {a b : ℤ} → T (eqZ a b) → a ≡ b
 ≡-of-eqZ {a} {b} t =
-    let both = and-yes (leZ a b) (leZ b a) t in
-    Z.≤-antisym (leZ-yes (both .0)) (leZ-yes (both .1))
+    let (h, k) = and-yes (leZ a b) (leZ b a) t in
+    Z.≤-antisym (leZ-yes h) (leZ-yes k)
 
 module _ {w : Width} {a b : ℤ} (fa : SFits w a) (fb : SFits w b) where
   pub lt-bits : ltZ (toZ w (ofZ w a)) (toZ w (ofZ w b)) ≡ ltZ a b

@@ -13,9 +13,10 @@ use mathlib.Core.Logic.{_⊎_, inl, inr}
 use lib.Dec.{T}
 use lib.IntN.{ℤ, pos, _-ℤ_, _*ℤ_, zero-*ℤ}
 use lib.Signed.{_≤ℤ_, _<ℤ_, clashℤ}
+use mir.Facts.{and-yes}
 use Rattle.exact.specs.Fraction.{Fraction, Proper, _over_, whole, _+ℚ_, _-ℚ_, _*ℚ_, _/ℚ_, _≈ℚ_, _≤ℚ_, _<ℚ_}
 use Rattle.exact.specs.Fraction.{leℚ, ltℚ, eqℚ}
-use Rattle.exact.proofs.Tests.{true-or-false, T-true, and-left, and-right}
+use Rattle.exact.proofs.Tests.{true-or-false, T-true}
 use Rattle.exact.proofs.Integer.{*-one}
 use Rattle.exact.proofs.Ring.{ring, terms, ≡-of-combination}
 use Rattle.exact.proofs.Order as Z
@@ -252,4 +253,4 @@ module _ {x y : Fraction} where
 
 pub ≈-of-eqℚ : {x y : Fraction} → T (eqℚ x y) → x ≈ℚ y
 unfolding eqℚ
-≈-of-eqℚ {x} {y} t = ≤-antisym (≤-of-leℚ (and-left (leℚ x y) (leℚ y x) t)) (≤-of-leℚ (and-right (leℚ x y) (leℚ y x) t))
+≈-of-eqℚ {x} {y} t = let (h, k) = and-yes (leℚ x y) (leℚ y x) t in ≤-antisym (≤-of-leℚ h) (≤-of-leℚ k)

@@ -2,23 +2,19 @@
 --   true-or-false         a test, by its two results
 --   T-true                a test that holds is true
 --   same-test             tests that follow from each other are equal
---   and-left, and-right   the parts of an `&&` that holds
---   or-cases              an `||` that holds, by its parts
 --   or-left, or-right     the parts of an `||` that is false
 --   compare               a ≤ x or x < a, with the test's result
 --   leZ-not-ltZ           a ≤ b is b < a, negated
 --   ≤-of-ltZ-false        a < b is false → b ≤ a
 -- Assumes nothing.
 use mathlib.Core.Path.{_≡_, refl}
-use mathlib.Core.Bool.{Bool, true, false, not, _&&_, _||_, true≢false}
+use mathlib.Core.Bool.{Bool, true, false, not, _||_, true≢false}
 use mathlib.Core.Logic.{_⊎_, inl, inr}
 use Prim.Native.Nat.{ℕ, _≤_, _<_}
 use borrow.Author.Tests.{leb-true, leb-false, lt-ltb, le-ltb}
 use lib.Dec.{T, leb, ltb}
 use lib.IntN.{ℤ, pos, negsuc}
 use lib.Signed.{_≤ℤ_, leZ, ltZ, ltZ-no}
-use mir.Facts.{and-yes}
-pub use mir.Facts.{or-yes as or-cases}
 
 pub true-or-false : (b : Bool) → (b ≡ true) ⊎ (b ≡ false)
 true-or-false true = inl refl
@@ -33,12 +29,6 @@ same-test true true f g = refl
 same-test true false f g = absurd (f tt)
 same-test false true f g = absurd (g tt)
 same-test false false f g = refl
-
-pub and-left : (a b : Bool) → T (a && b) → T a
-and-left a b t = and-yes a b t .0
-
-pub and-right : (a b : Bool) → T (a && b) → T b
-and-right a b t = and-yes a b t .1
 
 pub or-left : (a b : Bool) → (a || b) ≡ false → a ≡ false
 or-left true b e = e

@@ -2,7 +2,7 @@
 --   Chained G ps    the points ps, at least two, are a chain of segments with G
 --   stop-in ps x    where a walk from the left stops at x
 --   chained-at      each segment of the chain has G; stop-at, the segment that an area takes, by its index
---   first-≤-of-row-7, ≤-last-of-row-7      an area that is not outside is from the first area to the last
+--   across-chained  what spreads over a chain (`Spreads`) holds between any two areas that are not outside
 --   point-at-append, segment-at-append     what follows some points, by their number; last-area-at, the last area
 -- Assumes nothing.
 use mathlib.Core.Path.{_≡_, refl, _∙_, ap}
@@ -19,7 +19,7 @@ use Rattle.model.specs.Points.{Point, Segment, segments}
 use Rattle.model.specs.Read.{last-area, outside}
 use Rattle.model.specs.Inner.{between, origin, point-at, segment-at, areas-of, Inside, Taken}
 use Rattle.exact.proofs.Tests.{or-left, or-right}
-use Rattle.model.proofs.Walk.{Chain, end, link, stop, stop-inside}
+use Rattle.model.proofs.Walk.{Chain, end, link, stop, stop-inside, Spreads, across}
 
 abbrev pub stop-in : List Point → ℕ → Segment
 stop-in [] x = between origin origin
@@ -49,11 +49,11 @@ segment-at-append [] after p q = refl
 segment-at-append (b ∷ before) after p q = segment-at-append before after p q
 
 -- row 7 passed
-pub first-≤-of-row-7 : (p : Point) (ps : List Point) (x : ℕ) → outside (p ∷ ps) x ≡ false → p .area ≤ x
+first-≤-of-row-7 : (p : Point) (ps : List Point) (x : ℕ) → outside (p ∷ ps) x ≡ false → p .area ≤ x
 unfolding outside
 first-≤-of-row-7 p ps x e = ltb-false x (p .area) (or-left _ (ltb (last-area p ps) x) e)
 
-pub ≤-last-of-row-7 : (p : Point) (ps : List Point) (x : ℕ) → outside (p ∷ ps) x ≡ false → x ≤ last-area p ps
+≤-last-of-row-7 : (p : Point) (ps : List Point) (x : ℕ) → outside (p ∷ ps) x ≡ false → x ≤ last-area p ps
 unfolding outside
 ≤-last-of-row-7 p ps x e = ltb-false (last-area p ps) x (or-right (ltb x (p .area)) _ e)
 
@@ -98,3 +98,8 @@ module _ (G : Segment → Type 0) (ordered : (s : Segment) → G s → s .left .
   pub stop-in-inside : {ps : List Point} → Chained G ps → (x : ℕ) → outside ps x ≡ false → Inside G (stop-in ps x) x
   stop-in-inside (chained {p = p} {q = q} {ps = ps} c) x e =
       stop-inside G ordered x c (first-≤-of-row-7 p (q ∷ ps) x e) (≤-last-of-row-7 p (q ∷ ps) x e)
+
+  pub across-chained : {R : Segment → ℕ → Segment → ℕ → Type 0} → Spreads G R → {ps : List Point} → Chained G ps → (x y : ℕ) →
+      outside ps x ≡ false → outside ps y ≡ false → x ≤ y → R (stop-in ps x) x (stop-in ps y) y
+  across-chained k (chained {p = p} {q = q} {ps = ps} c) x y kx ky h =
+      across G ordered k x y c (first-≤-of-row-7 p (q ∷ ps) x kx) h (≤-last-of-row-7 p (q ∷ ps) y ky)

@@ -7,7 +7,6 @@
 --   convex-steps          of three areas equally far apart, the second step is at most one unit smaller, on a convex curve
 -- Assumes nothing.
 use mathlib.Core.Path.{_≡_, sym, _∙_, ap, subst, subst₂}
-use mathlib.Core.Bool.{false}
 use mathlib.Core.List.{List, [], _∷_, _++_}
 use mathlib.Core.Logic.{inl, inr}
 use Prim.Native.Nat.{ℕ, zero, suc, _+_, _*_, _≤_, _<_}
@@ -26,7 +25,7 @@ use Rattle.exact.proofs.Fractions.{propers, positivity, <-of-whole-<}
 use Rattle.exact.proofs.Rounding.{round-rounding, round-is-half-up, rounding-at-whole}
 use Rattle.model.specs.Points.{Point, Segment, Shape, rising, convex, shape-of}
 use Rattle.model.specs.Interpolant.{interpolant}
-use Rattle.model.specs.Read.{outside, reading}
+use Rattle.model.specs.Read.{reading}
 use Rattle.model.specs.Laws.{Curve, Area, exact, SegmentsMeet, ConvexChords}
 use Rattle.model.specs.Inner.{Accepted, origin, point-at, segment-at, areas-of, Good, Inside, Taken}
 use Rattle.model.proofs.ClosedForm.{Closed}
@@ -35,10 +34,9 @@ use Rattle.exact.proofs.Tests.{compare}
 use Rattle.model.proofs.Walk.{good-ordered}
 use Rattle.model.proofs.Segments.{interpolant-proper, interpolant-left, interpolant-right}
 use Rattle.model.proofs.Range.{Ranged, value-range, ReadingRange, reading-range}
-use Rattle.model.proofs.Relations.{values-rise, curve-slope, curve-slope-proper, Supports, tangents-support}
+use Rattle.model.proofs.Relations.{rising-spreads, curve-slope, curve-slope-proper, Supports, convex-spreads}
 use Rattle.model.proofs.Relations.{Line, _under_, chord-proper, chord-≤-slope, slope-≤-chord}
-use Rattle.model.proofs.Indexed.{Chained, chained, chained-at, stop-in, first-≤-of-row-7, ≤-last-of-row-7}
-use Rattle.model.proofs.Indexed.{point-at-append, segment-at-append}
+use Rattle.model.proofs.Indexed.{Chained, chained-at, stop-in, across-chained, point-at-append, segment-at-append}
 use Rattle.model.proofs.Accepted.{count-of, chained-of, stops-inside, value-is, value-at-index}
 
 module _ (c : Curve) where
@@ -150,15 +148,10 @@ value-as c e x = value-is (curve-accepted c) x ∙ ap (λ (sh : Shape). interpol
 chained-as : (c : Curve) {shape : Shape} → shape-of (c .code) ≡ shape → Chained (Good shape) (c .points)
 chained-as c e = subst (λ (sh : Shape). Chained (Good sh) (c .points)) e (chained-of (curve-accepted c))
 
-rises-across : {ps : List Point} → Chained (Good rising) ps → (x y : ℕ) → outside ps x ≡ false → outside ps y ≡ false → x ≤ y →
-    interpolant rising (stop-in ps x) x ≤ℚ interpolant rising (stop-in ps y) y
-rises-across (chained {p = p} {q = q} {ps = ps} c) x y kx ky h =
-    values-rise c x y (first-≤-of-row-7 p (q ∷ ps) x kx) h (≤-last-of-row-7 p (q ∷ ps) y ky)
-
 rising-values : (c : Curve) → c .code ≡ 1 → (x y : ℕ) → Area c x → Area c y → x ≤ y → exact c x ≤ℚ exact c y
 rising-values c e x y kx ky h =
     subst₂ (λ (v w : Fraction). v ≤ℚ w) (sym (value-as c (rising-of-1 e) x)) (sym (value-as c (rising-of-1 e) y))
-    (rises-across (chained-as c (rising-of-1 e)) x y (kx .within) (ky .within) h)
+    (across-chained (Good rising) good-ordered rising-spreads (chained-as c (rising-of-1 e)) x y (kx .within) (ky .within) h)
 
 pub rising-factors : (c : Curve) → c .code ≡ 1 → (x y : ℕ) → Area c x → Area c y → x ≤ y → factor c x ≤ℤ factor c y
 unfolding reading
@@ -168,18 +161,14 @@ rising-factors c e x y kx ky h =
 
 -- ---- convex
 
-bends-across : {ps : List Point} → Chained (Good convex) ps → (x y : ℕ) → outside ps x ≡ false → outside ps y ≡ false → x ≤ y →
-    Supports (stop-in ps x) x (stop-in ps y) y
-bends-across (chained {p = p} {q = q} {ps = ps} c) x y kx ky h =
-    tangents-support c x y (first-≤-of-row-7 p (q ∷ ps) x kx) h (≤-last-of-row-7 p (q ∷ ps) y ky)
-
 module _ (c : Curve) (e : c .code ≡ 2) where
   -- the slope at x, and the relation between two areas
   abbrev σ : ℕ → Fraction
   σ x = curve-slope (segment-taken c x) x
 
   supports-across : (x y : ℕ) → Area c x → Area c y → x ≤ y → Supports (segment-taken c x) x (segment-taken c y) y
-  supports-across x y kx ky h = bends-across (chained-as c (convex-of-2 e)) x y (kx .within) (ky .within) h
+  supports-across x y kx ky h =
+      across-chained (Good convex) good-ordered convex-spreads (chained-as c (convex-of-2 e)) x y (kx .within) (ky .within) h
 
   σ-proper : (x : ℕ) → Area c x → Proper (σ x)
   σ-proper x k =

@@ -1,10 +1,10 @@
 -- The two relations between areas that hold inside each segment and join at the points: the values rise; the tangents lie below.
---   values-rise          on a rising curve a later area has no smaller value
+--   rising-spreads       on a rising curve a later area has no smaller value
 --   Line, l under m      a line through a value at an area; the line l is not above the value of m
 --   chord-of l m         the slope of their chord, between theirs (slope-≤-chord, chord-≤-slope)
 --   curve-slope s x      the slope of a convex segment's curve at an area; line, its tangent there
 --   Supports s x s' y    x is not after y, the tangent at each is not above the curve at the other, and the slopes do not fall
---   tangents-support     on a convex curve all areas are so
+--   convex-spreads       on a convex curve all areas are so
 -- Assumes nothing.
 use mathlib.Core.Path.{_≡_}
 use mathlib.Core.List.{List, [], _∷_}
@@ -22,11 +22,10 @@ use Rattle.exact.proofs.Fractions as Q
 use Rattle.exact.proofs.Fractions.{NonNeg, propers, positivity}
 use Rattle.model.specs.Points.{Point, Segment, Shape, rising, convex}
 use Rattle.model.specs.Interpolant.{interpolant}
-use Rattle.model.specs.Read.{last-area}
 use Rattle.model.specs.Inner.{between, Good, Inside}
 use Rattle.model.proofs.Segments.{distance, slope-at, segment-rises, segment-bends, distance-in, proper-gradient}
 use Rattle.model.proofs.Segments.{interpolant-proper, interpolant-left, interpolant-right}
-use Rattle.model.proofs.Walk.{Chain, stop, Spreads, across, good-ordered}
+use Rattle.model.proofs.Walk.{Spreads}
 
 distance-between : (s : Segment) (x y : ℕ) → distance s y -ℤ distance s x ≡ pos y -ℤ pos x
 distance-between s x y = ring (pos (s .left .area) ∷ pos x ∷ pos y ∷ []) (search terms depth 20 fits 9999) tt
@@ -38,7 +37,7 @@ values-meet k k' = Q.≈-trans (search propers) (interpolant-right k .same) (Q.�
 
 -- ---- rising
 
-rising-spreads : Spreads (Good rising) (λ s x s' y. interpolant rising s x ≤ℚ interpolant rising s' y)
+pub rising-spreads : Spreads (Good rising) (λ s x s' y. interpolant rising s x ≤ℚ interpolant rising s' y)
 unfolding interpolant
 rising-spreads =
     record {
@@ -48,11 +47,6 @@ rising-spreads =
       join = λ r r'. Q.≤-of-≈ (values-meet (r .good) (r' .good));
       trans = λ r r' r''. Q.≤-trans (interpolant-proper r) (interpolant-proper r') (interpolant-proper r'');
     }
-
-pub values-rise : {p q : Point} {ps : List Point} → Chain (Good rising) p (q ∷ ps) →
-    (x y : ℕ) → p .area ≤ x → x ≤ y → y ≤ last-area q ps →
-    interpolant rising (stop p q ps x) x ≤ℚ interpolant rising (stop p q ps y) y
-values-rise c x y = across (Good rising) good-ordered rising-spreads x y c
 
 -- ---- lines: a value v at x, and a slope σ
 
@@ -149,7 +143,7 @@ slopes-meet {p} {q} {r} k k' =
     Q.≈-trans (proper-gradient q) (segment-bends (between p q) k .at-right)
     (Q.≈-sym (rw +ℤ-invr (segment-bends (between q r) k' .at-left)))
 
-convex-spreads : Spreads (Good convex) Supports
+pub convex-spreads : Spreads (Good convex) Supports
 convex-spreads =
     record {
       inside = λ {s} {x} {y} r r' h.
@@ -183,8 +177,3 @@ convex-spreads =
             slopes = Q.≤-trans (l .σ-proper) (m .σ-proper) (n .σ-proper) (h .slopes) (k .slopes);
           };
     }
-
-pub tangents-support : {p q : Point} {ps : List Point} → Chain (Good convex) p (q ∷ ps) →
-    (x y : ℕ) → p .area ≤ x → x ≤ y → y ≤ last-area q ps →
-    Supports (stop p q ps x) x (stop p q ps y) y
-tangents-support c x y = across (Good convex) good-ordered convex-spreads x y c
