@@ -42,11 +42,11 @@ times-one = *ℤ-one
 
 module _ {s : Segment} (n : Neighbours s) where
   pub climbing-test : s .left .value < s .right .value →
-      has-shape rising s ≡ (not (ltZ (read (s .left .slope)) (pos 0)) && leZ (pos 0) (read (s .right .slope)))
+      has-shape rising s ≡ (leZ (pos 0) (read (s .left .slope)) && leZ (pos 0) (read (s .right .slope)))
   unfolding has-shape fits rises gradient leℚ ltℚ eqℚ whole _over_
   climbing-test h =
       let up : ltZ (pos 0) (rise s) ≡ true = T-true _ (Z.positive-difference (Z.pos-<-of-< h) .lt) in
-      rw (slope-read (n .left), slope-read (n .right), sym (leZ-not-ltZ (pos 0) (s .left .slope)))
+      rw (slope-read (n .left), slope-read (n .right))
       (rw (times-one (rise s), times-one (s .left .slope), times-one (s .right .slope), leZ-not-ltZ (rise s) (pos 0), up)
       (or-false _))
 
