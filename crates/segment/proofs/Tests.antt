@@ -4,8 +4,8 @@
 --   falling-test    where it falls: no
 --   convex-test     shape 2: left slope below chord and chord below right slope, or all three equal
 -- Assumes nothing.
-use mathlib.Core.Path.{_≡_, refl, sym}
-use mathlib.Core.Bool.{Bool, true, false, cond, not, _&&_, _||_, or-false, and-false}
+use mathlib.Core.Path.{_≡_, refl}
+use mathlib.Core.Bool.{Bool, true, false, cond, _&&_, _||_, or-false, and-false}
 use Prim.Native.Nat.{ℕ, _<_}
 use native.Mathlib.Omega.{arith}
 use lib.Dec.{T, eqb}
@@ -39,11 +39,11 @@ or-as-cond false x y h = refl
 
 module _ {s : Segment} (n : Neighbours s) where
   pub climbing-test : s .left .value < s .right .value →
-      has-shape rising s ≡ (not (ltZ (read-back (s .left .slope)) (pos 0)) && leZ (pos 0) (read-back (s .right .slope)))
+      has-shape rising s ≡ (leZ (pos 0) (read-back (s .left .slope)) && leZ (pos 0) (read-back (s .right .slope)))
   unfolding has-shape fits rises gradient leℚ ltℚ eqℚ whole _over_
   climbing-test h =
       let up : ltZ (pos 0) (rise s) ≡ true = T-true _ (Z.positive-difference (Z.pos-<-of-< h) .lt) in
-      rw (slope-read (n .left), slope-read (n .right), sym (leZ-not-ltZ (pos 0) (s .left .slope)))
+      rw (slope-read (n .left), slope-read (n .right))
       (rw (*-one (rise s), *-one (s .left .slope), *-one (s .right .slope), leZ-not-ltZ (rise s) (pos 0), up)
       (or-false _))
 

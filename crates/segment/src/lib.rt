@@ -1,6 +1,9 @@
 // One segment: its reading, by one division other than by constants, and its shape.
 ghost use mathlib.Core.Path.{_≡_};
+ghost use mathlib.Core.Bool.{_&&_};
 ghost use Prim.Native.Nat.{_/_};
+ghost use lib.IntN.{pos};
+ghost use lib.Signed.{leZ};
 ghost use Rattle.segment.specs.Inner as inner;
 ghost use Rattle.segment.specs.Inner.{SlopesOver, Weights, RisingInput, rising-reading, ConvexInput};
 ghost use Rattle.exact.specs.Rounding.{round};
@@ -125,16 +128,23 @@ pub fn factor(shape: u32, p: Point, q: Point, area: u32) -> i32
     convex_factor(p, q, area)
 }
 
+// Neither slope is below 0. As numbers of their own the two are tested by one branch.
+fn not_below_0(d0: i32, d1: i32) -> bool
+    ensures { λ r. ⌜ r ≡ (leZ (pos 0) d0 && leZ (pos 0) d1) ⌝ }
+{
+    if d0 < 0 {
+        return false;
+    }
+    d1 >= 0
+}
+
 // Shape 1.
 fn rises(p: Point, q: Point) -> bool
     requires { ⌜ Neighbours (segment-of p q) ⌝ }
     ensures { λ r. ⌜ r ≡ has-shape Shape.rising (segment-of p q) ⌝ }
 {
     if p.value < q.value {
-        if p.slope < 0 {
-            return false;
-        }
-        return q.slope >= 0;
+        return not_below_0(p.slope, q.slope);
     }
     if p.value != q.value {
         return false;
