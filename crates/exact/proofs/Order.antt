@@ -2,7 +2,7 @@
 --   natural-of-nonneg         what is not negative is natural; difference-of-≤, so is m − n where n ≤ m
 --   ≤-by c e h, <-by c e h    the certificate: b − a is c, which is not negative (above 0)
 --   nonneg-.., positive-..    what is not negative, above 0; `search signs` goes by these
---   next                      a + 1: a < b is a + 1 ≤ b
+--   next-of-<, <-of-next      a < b is a + 1 ≤ b
 --   ≤-+, ≤-*, ..-cancel       sums, products, and a factor taken away
 -- Assumes nothing.
 use mathlib.Core.Path.{_≡_, sym, ap, subst}
