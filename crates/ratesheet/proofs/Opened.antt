@@ -21,10 +21,11 @@ pub record OpenGives (bytes : List ℕ) (areas values slopes : ℕ) (head : Shap
   pub fits : Room (head .count) (length bytes) areas values slopes
   pub accepted : curve-rows (first-points bytes (head .count)) (head .shape) ≡ gives tt
 
-pub open-gives : (bytes : List ℕ) (areas values slopes : ℕ) (head : ShapeAndCount) → open-answer bytes areas values slopes ≡ gives head →
+pub open-gives : (bytes : List ℕ) (areas values slopes : ℕ) (head : ShapeAndCount) →
+    open-answer bytes areas values slopes ≡ gives head →
     OpenGives bytes areas values slopes head
 unfolding open-answer
-given bytes areas values slopes head e =
+open-gives bytes areas values slopes head e =
     let short = short-list (count bytes) areas values slopes in
     let after-10 = then-rest (head-rows bytes) _ e in
     let after-11 = then-rest (row short 11 0) _ after-10 in

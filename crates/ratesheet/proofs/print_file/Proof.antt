@@ -33,7 +33,7 @@ module _ (c : tie.After-known-told2) where
   answer = ap opened-answer (c .before .shape .given .1)
 
   facts : OpenGives bytes 64 64 64 head
-  facts = given bytes 64 64 64 head (sym (opened .«open» .ensures .0) ∙ answer)
+  facts = open-gives bytes 64 64 64 head (sym (opened .«open» .ensures .0) ∙ answer)
 
   abbrev n : ℕ
   n = head .count
