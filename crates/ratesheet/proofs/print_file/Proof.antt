@@ -11,7 +11,8 @@ use Rattle.model.specs.Answer.{gives}
 use Rattle.model.specs.Points.{Point}
 use Rattle.layout.specs.Layout.{points-of}
 use Rattle.layout.specs.Inner.{first-points}
-use Rattle.layout.proofs.Points.{first-of, as-many, on-fields}
+use Rattle.model.proofs.Answers.{on-lists-of-is}
+use Rattle.layout.proofs.Points.{first-of, as-many}
 use Rattle.file.specs.Open.{ShapeAndCount, open-list}
 use Rattle.file.specs.Calls.{opened-answer}
 use Rattle.ratesheet.proofs.Opened.{OpenGives, open-gives}
@@ -70,7 +71,7 @@ array-share-prefix-slopes c =
 print-curve-requires : tie.Need-print-curve-requires
 print-curve-requires c κs =
     let d = c .before .before .before in
-    rw (areas-are d, values-are d, slopes-are d, on-fields (ps d)) (facts d .accepted)
+    rw (areas-are d, values-are d, slopes-are d, on-lists-of-is (ps d)) (facts d .accepted)
 
 pub print-file-spec : {M : Type 1} → statement M
 print-file-spec =

@@ -9,9 +9,8 @@ use lib.IntN.{ℤ, pos}
 use mir.Syntax.{w32}
 use mir.Facts.{toZ-ofZ}
 use Rattle.model.specs.Points.{Point}
-use Rattle.model.proofs.Filling.{Filling, filling-starts, filling-goes-on, filled-up}
+use Rattle.model.proofs.Filling.{Filling, filling-starts, filling-goes-on, filled-up, map-tabulate}
 use Rattle.layout.specs.Layout.{record-at}
-use Rattle.layout.proofs.Points.{map-tabulate}
 use Rattle.records.proofs.decode.Statement.{statement}
 use Rattle.records.proofs.decode.Tie as tie
 

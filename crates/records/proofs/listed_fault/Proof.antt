@@ -6,7 +6,8 @@ use borrow.Author.Needs.{needs}
 use lib.ListN.{take}
 use Rattle.model.specs.Points.{Point}
 use Rattle.layout.specs.Inner.{first-points}
-use Rattle.layout.proofs.Points.{first-of, as-many, on-fields}
+use Rattle.model.proofs.Answers.{on-lists-of-is}
+use Rattle.layout.proofs.Points.{first-of, as-many}
 use Rattle.records.proofs.listed_fault.Statement.{statement}
 use Rattle.records.proofs.listed_fault.Tie as tie
 
@@ -32,7 +33,7 @@ module _ (c : tie.After-decode) where
 returns : tie.Need-returns
 returns c =
     let d = decoded (c .before .before .before) in
-    rw (areas-are d, values-are d, slopes-are d, on-fields (ps d)) at (c .curve-fault .ensures)
+    rw (areas-are d, values-are d, slopes-are d, on-lists-of-is (ps d)) at (c .curve-fault .ensures)
 
 pub listed-fault-spec : {M : Type 1} → statement M
 listed-fault-spec =
