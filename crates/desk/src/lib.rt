@@ -4,7 +4,6 @@ ghost use Prim.Native.Nat.{_≤_};
 ghost use lib.IntN.{pos, negℤ, _-ℤ_};
 ghost use lib.ListN.{length};
 ghost use Rattle.desk.specs.Desk.{desk-answer, desk-number, desk-scratch};
-use curve::Reading;
 use layout::HEAD_SIZE;
 use layout::RECORD_SIZE;
 
@@ -31,11 +30,12 @@ pub extern "C" fn desk_reading(bytes: &[u8], area: u32, scratch: &mut [u8]) -> i
     if scratch.len() < RECORD_SIZE * n {
         return refusal(11);
     }
-    match records::read_points(bytes, n, bytes[5] as u32, area) {
-        Reading::Refused(number, _) => refusal(number),
-        Reading::Factor(factor) => {
-            bytes::copy(&bytes[HEAD_SIZE..], scratch);
-            factor
-        }
+    let shape = bytes[5] as u32;
+    let found = records::read_fault(bytes, n, shape, area);
+    if found.number != 0 {
+        return refusal(found.number);
     }
+    let factor = records::factor(bytes, n, shape, area);
+    bytes::copy(&bytes[HEAD_SIZE..], scratch);
+    factor
 }

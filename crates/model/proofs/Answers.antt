@@ -4,10 +4,11 @@
 --   on-lists-gives     where one gives a result the lists are equally long
 --   on-lists-refused   calls that refuse alike on points do so on lists
 --   Given              what a factor that Read gives says; reading-given
+--   given-of-rows      rows 1 to 7 decide: they pass, and Read gives the reading; read-refused, they refuse, and Read does
 --   refused-outside    on an accepted curve Read refuses by row 7 only
 --   then-refused       rows that refuse, before whatever follows; refused-before, from before a result
 -- Assumes nothing.
-use mathlib.Core.Path.{_≡_, sym, _∙_, ap}
+use mathlib.Core.Path.{_≡_, refl, sym, _∙_, ap}
 use mathlib.Core.Bool.{Bool, true, false}
 use mathlib.Core.List.{List, map}
 use mathlib.Core.Logic.{inl, inr}
@@ -19,7 +20,7 @@ use Rattle.model.specs.Answer.{Answer, gives, refused, row, _then_}
 use Rattle.model.specs.Points.{Point, points}
 use Rattle.model.specs.Check.{lengths-differ, curve-rows, on-lists, on-lists-of}
 use Rattle.model.specs.Read.{outside, reading, read-answer}
-use Rattle.model.specs.Inner.{Accepted, Alike}
+use Rattle.model.specs.Inner.{read-rows, Accepted, Alike}
 use Rattle.model.proofs.Lists.{points-of-fields, same-lengths-of}
 use Rattle.model.proofs.Rows.{gives-injective, refused≢gives, then-first, then-rest, row-passed, row-refused}
 use Rattle.model.proofs.Rows.{alike-of-row-1}
@@ -68,6 +69,11 @@ pub then-refused : {A : Type 0} {n i : ℕ} (rows : Answer (Unit {0})) (rest : A
 unfolding _then_
 then-refused rows rest e = rw e
 
+then-assoc : {A : Type 0} (x y : Answer (Unit {0})) (z : Answer A) → ((x then y) then z) ≡ (x then y then z)
+unfolding _then_
+then-assoc (gives u) y z = refl
+then-assoc (refused n i) y z = refl
+
 -- ---- Read
 
 pub record Given (ps : List Point) (code x : ℕ) (f : ℤ) : Type 0 where
@@ -89,6 +95,17 @@ module _ (ps : List Point) (code x : ℕ) where
   pub reading-given : Accepted ps code → outside ps x ≡ false → read-answer ps code x ≡ gives (reading ps code x)
   unfolding read-answer row _then_
   reading-given k e = rw (k .none-applies, e)
+
+  by-rows : (read-rows ps code x then gives (reading ps code x)) ≡ read-answer ps code x
+  unfolding read-answer
+  by-rows = then-assoc (curve-rows ps code) (row (outside ps x) 7 0) _
+
+  pub given-of-rows : read-rows ps code x ≡ gives tt → Given ps code x (reading ps code x)
+  unfolding _then_
+  given-of-rows e = given (sym by-rows ∙ rw e)
+
+  pub read-refused : {n i : ℕ} → read-rows ps code x ≡ refused n i → read-answer ps code x ≡ refused n i
+  read-refused e = sym by-rows ∙ then-refused _ _ e
 
   pub refused-outside : {n i : ℕ} → Accepted ps code → read-answer ps code x ≡ refused n i → (n ≡ 7) × (outside ps x ≡ true)
   unfolding read-answer _then_

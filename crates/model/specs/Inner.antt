@@ -1,6 +1,6 @@
 -- What contracts of inner functions cite. Nothing here need be believed: the calls' contracts cite document 01's definitions.
 --   fault-answer       a fault's number and place, as an answer
---   Accepted           rows 1 to 6 refuse nothing
+--   read-rows          rows 1 to 7; Accepted, rows 1 to 6 refuse nothing
 --   Alike              three lists are equally long
 --   point-at           the point at an index; segment-at, the segment that begins there
 --   Limits             what rows 3 to 5 leave of a point; Neighbours, of two; Good, and row 6 too
@@ -17,7 +17,7 @@ use lib.Dec.{T, eqb, ltb}
 use lib.IntN.{pos, negℤ}
 use lib.ListN.{length, getD, drop}
 use lib.Signed.{_≤ℤ_}
-use Rattle.model.specs.Answer.{Answer, gives, row}
+use Rattle.model.specs.Answer.{Answer, gives, row, _then_}
 use Rattle.model.specs.Points.{area-most, gap-most, value-most, slope-most, Point, Segment, Shape}
 use Rattle.model.specs.Shape.{has-shape}
 use Rattle.model.specs.Check.{curve-rows}
@@ -31,6 +31,10 @@ fault-answer number place = row (not (eqb number 0)) number place
 -- row 7 of n entries, by the first entry outside
 abbrev pub first-answer : ℕ → ℕ → Answer (Unit {0})
 first-answer index n = row (ltb index n) 7 index
+
+-- rows 1 to 7 of one area
+abbrev pub read-rows : List Point → ℕ → ℕ → Answer (Unit {0})
+read-rows ps code x = curve-rows ps code then row (outside ps x) 7 0
 
 pub record Accepted (ps : List Point) (code : ℕ) : Type 0 where
   pub none-applies : curve-rows ps code ≡ gives tt

@@ -3,15 +3,14 @@ ghost use mathlib.Core.Path.{_≡_};
 ghost use mathlib.Core.Bool.{true, false};
 ghost use mathlib.Core.List.{map, _++_};
 ghost use lib.ListN.{length, drop};
+ghost use Rattle.model.specs.Answer.{gives};
 ghost use Rattle.model.specs.Points.{shape-of};
 ghost use Rattle.model.specs.Check.{bad-code, curve-rows};
-ghost use Rattle.model.specs.Read.{outside as lies-outside, reading, read-answer};
-ghost use Rattle.model.specs.Inner.{Accepted, fault-answer, areas-of, Limits, Taken, Readable};
+ghost use Rattle.model.specs.Read.{outside as lies-outside, reading};
+ghost use Rattle.model.specs.Inner.{Accepted, fault-answer, read-rows, areas-of, Limits, Taken, Readable};
 ghost use Rattle.point.specs.Inner.{point-of};
-ghost use Rattle.curve.specs.Calls.{reading-answer};
 ghost use Rattle.layout.specs.Inner.{first-points, Holds};
 ghost use Rattle.records.specs.Inner.{Follows, CurvePoints, Room, Begins};
-use curve::Reading;
 use layout::area_of;
 use layout::record_at;
 use point::Point;
@@ -26,7 +25,7 @@ fn follows(shape: u32, p: Point, q: Point) -> bool
     if point::point_fault(false, p.area, q) != 0 {
         return false;
     }
-    segment::has_shape(shape, p, q)
+    shape::has_shape(shape, p, q)
 }
 
 // Rows 3 to 6 in one pass. Where it finds a fault it does not say which.
@@ -157,18 +156,29 @@ fn factor_at(bytes: &[u8], n: usize, shape: u32, i: usize, area: u32) -> i32
     segment::factor(shape, record_at(bytes, i), record_at(bytes, i + 1), area)
 }
 
-// Rows 1 to 7 of the file's first n points, and the factor.
-pub fn read_points(bytes: &[u8], n: usize, shape: u32, area: u32) -> Reading
+// Rows 1 to 7 of the file's first n points and an area.
+pub fn read_fault(bytes: &[u8], n: usize, shape: u32, area: u32) -> Fault
     requires { ⌜ Holds n (length (now bytes)) ⌝ }
-    ensures { λ r. ⌜ reading-answer r ≡ read-answer (first-points (now (bytes .entry)) n) shape area ⌝ }
+    ensures { λ r. ⌜ fault-answer (r .number) (r .place) ≡ read-rows (first-points (now (bytes .entry)) n) shape area ⌝ }
 {
     let fault = curve_fault(bytes, n, shape);
     if fault.number != 0 {
-        return Reading::Refused(fault.number, fault.place);
+        return fault;
     }
     if outside(bytes, n, area) {
-        return Reading::Refused(7, 0);
+        return Fault {
+            number: 7,
+            place: 0,
+        };
     }
+    fault
+}
+
+// The factor at an area that these rows do not refuse.
+pub fn factor(bytes: &[u8], n: usize, shape: u32, area: u32) -> i32
+    requires { ⌜ Holds n (length (now bytes)) × (read-rows (first-points (now bytes) n) shape area ≡ gives tt) ⌝ }
+    ensures { λ r. ⌜ r ≡ reading (first-points (now (bytes .entry)) n) shape area ⌝ }
+{
     let i = find(bytes, n, area);
-    Reading::Factor(factor_at(bytes, n, shape, i, area))
+    factor_at(bytes, n, shape, i, area)
 }

@@ -84,7 +84,7 @@ fn segments_fault(areas: &[u32], values: &[u32], slopes: &[i32], shape: u32) -> 
         let right = left + 1;
         let p = point::point_at(areas, values, slopes, left);
         let q = point::point_at(areas, values, slopes, right);
-        if !segment::has_shape(shape, p, q) {
+        if !shape::has_shape(shape, p, q) {
             return Fault {
                 number: 6,
                 place: left as u32,

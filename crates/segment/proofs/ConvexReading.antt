@@ -31,8 +31,8 @@ use Rattle.model.proofs.Curves.{bent, straight, bend-kind}
 use Rattle.model.proofs.Segments.{gap, rise, distance, v₀, v₁, d₀, d₁, S, g, e₀, e₁, a, b}
 use Rattle.model.proofs.Segments.{segment-normal, gap-positive, distance-in}
 use Rattle.segment.specs.Inner.{raised, ConvexInput}
-use Rattle.segment.proofs.Figures.{slope-size, gap-is, a-size, b-size}
-use Rattle.segment.proofs.Figures.{t, u, h, from-left, from-right, h-is, distances}
+use Rattle.shape.proofs.Figures.{slope-size, h, gap-is, a-size, b-size}
+use Rattle.segment.proofs.Distances.{t, u, from-left, from-right, h-is, distances}
 use Rattle.segment.proofs.Rounded.{round-lowered, same-hundreds}
 
 module _ (s : Segment) where

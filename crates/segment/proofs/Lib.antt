@@ -1,6 +1,5 @@
--- Laws of one segment's reading and shape in machine numbers.
-pub mod Tests
-pub mod Figures
+-- Laws of one segment's reading in machine numbers.
+pub mod Distances
 pub mod Rounded
 pub mod RisingReading
 pub mod ConvexReading

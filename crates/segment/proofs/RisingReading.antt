@@ -27,7 +27,8 @@ use Rattle.model.proofs.ClosedForm.{Closed, Climbing, A, B, B-positive, rising-
 use Rattle.model.proofs.Curves.{climbs, flat, rise-kind}
 use Rattle.model.proofs.Segments.{gap, rise, distance, v₀, v₁, d₀, d₁, S, e₀, e₁, g, segment-normal, distance-in}
 use Rattle.segment.specs.Inner.{part, whole-part, RisingInput, rising-reading}
-use Rattle.segment.proofs.Figures.{slope-size, gap-is, t, u, h-is, from-left, from-right, distances}
+use Rattle.shape.proofs.Figures.{slope-size, gap-is}
+use Rattle.segment.proofs.Distances.{t, u, h-is, from-left, from-right, distances}
 use Rattle.segment.proofs.Rounded.{round-twice}
 
 module _ (s : Segment) where

@@ -11,7 +11,8 @@ use native.Mathlib.Omega.{arith}
 use lib.Ieee.Nearest.{div-mono}
 use Rattle.exact.proofs.Magnitude.{scaled-size}
 use Rattle.model.specs.Points.{gap-most, value-most}
-use Rattle.segment.specs.Inner.{over-most, part, Weights, whole-part, rising-reading, RisingInput, raised, ConvexInput}
+use Rattle.shape.specs.Inner.{over-most}
+use Rattle.segment.specs.Inner.{part, Weights, whole-part, rising-reading, RisingInput, raised, ConvexInput}
 
 blend-size : (t u : ℕ) {g e m : ℕ} → t + u ≤ gap-most → g ≤ m → e ≤ m → g * t + e * u ≤ gap-most * m
 blend-size t u {m = m} near k l =

@@ -3,24 +3,12 @@
 --   Distances        t and u, of an area from the two ends of a segment
 --   part             A of the rising curve, from one end; whole-part is B; rising-reading, the rounded value
 --   raised           the convex curve in hundredths, raised so that nothing is negative
---   SlopesOver       the three slopes of a segment over one denominator; over-most, their largest size
 --   Weights, RisingInput, ConvexInput   how large are the arguments of `part`, `rising` and `raised`
 -- Assumes nothing.
 use mathlib.Core.Path.{_≡_}
 use Prim.Native.Nat.{ℕ, _+_, _*_, _/_, _≤_, _<_}
-use lib.IntN.{pos, _*ℤ_, _-ℤ_}
-use Rattle.model.specs.Points.{gap-most, value-most, slope-most, Segment}
-use Rattle.segment.specs.declared.Slopes.{Slopes}
-
--- the slopes of a segment over the denominator 100 h
-pub record SlopesOver (s : Segment) (e : Slopes) : Type 0 where
-  pub left : e .left ≡ (pos (s .right .area) -ℤ pos (s .left .area)) *ℤ s .left .slope
-  pub chord : e .chord ≡ pos 100 *ℤ (pos (s .right .value) -ℤ pos (s .left .value))
-  pub right : e .right ≡ (pos (s .right .area) -ℤ pos (s .left .area)) *ℤ s .right .slope
-
--- h times a slope; of the chord 100 times a value, which is as much
-abbrev pub over-most : ℕ
-over-most = gap-most * slope-most
+use Rattle.model.specs.Points.{gap-most, value-most, slope-most}
+use Rattle.shape.specs.Inner.{over-most}
 
 pub record Distances (t u : ℕ) : Type 0 where
   pub most : t + u ≤ gap-most

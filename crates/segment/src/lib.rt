@@ -1,16 +1,12 @@
-// One segment: its reading, by one division other than by constants, and its shape.
+// The factor at an area of one segment, by one division other than by constants.
 ghost use mathlib.Core.Path.{_≡_};
-ghost use mathlib.Core.Bool.{_&&_};
 ghost use Prim.Native.Nat.{_/_};
-ghost use lib.IntN.{pos};
-ghost use lib.Signed.{leZ};
 ghost use Rattle.segment.specs.Inner as inner;
-ghost use Rattle.segment.specs.Inner.{SlopesOver, Weights, RisingInput, rising-reading, ConvexInput};
+ghost use Rattle.segment.specs.Inner.{Weights, RisingInput, rising-reading, ConvexInput};
 ghost use Rattle.exact.specs.Rounding.{round};
 ghost use Rattle.model.specs.Points.{Shape, shape-of};
 ghost use Rattle.model.specs.Interpolant.{interpolant};
-ghost use Rattle.model.specs.Shape.{has-shape};
-ghost use Rattle.model.specs.Inner.{Neighbours, Good, Inside};
+ghost use Rattle.model.specs.Inner.{Good, Inside};
 ghost use Rattle.point.specs.Inner.{segment-of};
 use point::Point;
 use point::SLOPE_MOST;
@@ -61,29 +57,6 @@ fn raised(t: u64, u: u64, h: u64, left: u64, d: u64, a: u64, b: u64) -> u64
     tangent + exact::mul_div(w, w, divisor) / h
 }
 
-// The slopes of a segment over the denominator 100 h: left end, chord, right end.
-struct Slopes {
-    left: i32,
-    chord: i32,
-    right: i32,
-}
-
-fn slopes_of(p: Point, q: Point) -> Slopes
-    requires { ⌜ Neighbours (segment-of p q) ⌝ }
-    ensures { λ r. ⌜ SlopesOver (segment-of p q) r ⌝ }
-{
-    let h = (q.area - p.area) as i32;
-    let rise = (q.value as i32) - (p.value as i32);
-    let left = h * p.slope;
-    let chord = 100 * rise;
-    let right = h * q.slope;
-    Slopes {
-        left: left,
-        chord: chord,
-        right: right,
-    }
-}
-
 // The factor at an area of a rising segment. u is taken as h - t, so that the compiler sees that t + u is h for every area.
 fn rising_factor(p: Point, q: Point, area: u32) -> i32
     requires { ⌜ Inside (Good Shape.rising) (segment-of p q) area ⌝ }
@@ -105,7 +78,7 @@ fn convex_factor(p: Point, q: Point, area: u32) -> i32
     requires { ⌜ Inside (Good Shape.convex) (segment-of p q) area ⌝ }
     ensures { λ r. ⌜ r ≡ round (interpolant Shape.convex (segment-of p q) area) ⌝ }
 {
-    let e = slopes_of(p, q);
+    let e = shape::slopes_of(p, q);
     let a = (e.right - e.chord) as u64;
     let b = (e.chord - e.left) as u64;
     let d = (p.slope + SLOPE_MOST) as u64;
@@ -126,57 +99,4 @@ pub fn factor(shape: u32, p: Point, q: Point, area: u32) -> i32
         return rising_factor(p, q, area);
     }
     convex_factor(p, q, area)
-}
-
-// Neither slope is below 0. As numbers of their own the two are tested by one branch.
-fn not_below_0(d0: i32, d1: i32) -> bool
-    ensures { λ r. ⌜ r ≡ (leZ (pos 0) d0 && leZ (pos 0) d1) ⌝ }
-{
-    if d0 < 0 {
-        return false;
-    }
-    d1 >= 0
-}
-
-// Shape 1.
-fn rises(p: Point, q: Point) -> bool
-    requires { ⌜ Neighbours (segment-of p q) ⌝ }
-    ensures { λ r. ⌜ r ≡ has-shape Shape.rising (segment-of p q) ⌝ }
-{
-    if p.value < q.value {
-        return not_below_0(p.slope, q.slope);
-    }
-    if p.value != q.value {
-        return false;
-    }
-    if p.slope != 0 {
-        return false;
-    }
-    q.slope == 0
-}
-
-// Shape 2.
-fn bends(p: Point, q: Point) -> bool
-    requires { ⌜ Neighbours (segment-of p q) ⌝ }
-    ensures { λ r. ⌜ r ≡ has-shape Shape.convex (segment-of p q) ⌝ }
-{
-    let e = slopes_of(p, q);
-    if e.left < e.chord {
-        return e.chord < e.right;
-    }
-    if e.left != e.chord {
-        return false;
-    }
-    e.chord == e.right
-}
-
-// Row 6 is passed: the segment between two points has its shape.
-pub fn has_shape(shape: u32, p: Point, q: Point) -> bool
-    requires { ⌜ Neighbours (segment-of p q) ⌝ }
-    ensures { λ r. ⌜ r ≡ has-shape (shape-of shape) (segment-of p q) ⌝ }
-{
-    if shape == 1 {
-        return rises(p, q);
-    }
-    bends(p, q)
 }

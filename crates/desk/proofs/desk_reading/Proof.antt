@@ -13,8 +13,9 @@ use mir.Syntax.{w32}
 use mir.Facts.{toZ-ofZ}
 use Rattle.model.specs.Answer.{Answer, gives, refused, row, _then_}
 use Rattle.model.specs.Read.{read-answer}
+use Rattle.model.specs.Inner.{read-rows}
+use Rattle.model.proofs.Answers.{reading-given, given-of-rows, read-refused}
 use Rattle.rows.proofs.Faults.{a-fault, no-fault}
-use Rattle.curve.specs.Calls.{reading-answer}
 use Rattle.layout.specs.Layout.{record-size, point-offset, shape-code, count, points-of}
 use Rattle.layout.specs.Head.{head-rows}
 use Rattle.layout.proofs.Heads.{size-of-passed}
@@ -24,14 +25,14 @@ use Rattle.desk.proofs.Records.{body-fits, body-copied}
 use Rattle.desk.proofs.desk_reading.Statement.{statement}
 use Rattle.desk.proofs.desk_reading.Tie as tie
 
--- the places after rows 9 and 10, after row 11, and after the points were read
+-- the places after rows 9 and 10, after row 11, and after rows 1 to 7
 abbrev headed : tie.Else2 → tie.Else1
 headed c = c .before .before
 
-abbrev roomy : tie.After-read-points → tie.Else2
-roomy c = c .before .before
+abbrev tried : tie.After-struct-known → tie.Else2
+tried c = c .before .before .before
 
-abbrev read : tie.After-copy-arg2 → tie.After-factor
+abbrev read : tie.After-copy-arg2 → tie.Else3
 read c = c .before .before .before
 
 head-refused : (c : tie.Then1) →
@@ -65,53 +66,59 @@ returns-2 c =
     let short = lt-ltb _ (record-size * _) (c .before .if2 .taken) in
     (rw (toZ-ofZ (record { sfits = c .refusal2 .ok }), c .refusal2 .ensures, e, short) refl, rw (e, short) refl)
 
-module _ (c : tie.After-read-points) where
-  abbrev input : List ℕ
-  input = bytes (headed (roomy c))
-
+module _ (c : tie.After-struct-known) where
   abbrev begin : tie.Start
-  begin = start (headed (roomy c))
+  begin = start (headed (tried c))
+
+  abbrev input : List ℕ
+  input = begin .args .bytes .now
 
   whole : length input ≡ point-offset (count input)
-  whole = size (headed (roomy c))
+  whole = size (headed (tried c))
 
   abbrev answer : Answer ℤ
   answer = read-answer (points-of input) (shape-code input) (begin .args .area)
 
   -- the points decide
-  tried : desk-answer input (begin .args .area) (length (begin .args .scratch .now)) ≡ answer
+  points-decide : desk-answer input (begin .args .area) (length (begin .args .scratch .now)) ≡ answer
   unfolding desk-answer row _then_
-  tried = rw (head-passed (headed (roomy c)), le-ltb _ _ (roomy c .if2 .left))
+  points-decide = rw (head-passed (headed (tried c)), le-ltb _ _ (tried c .if2 .left))
 
-points-refused : (c : tie.After-number) →
-    answer (c .before .before) ≡ refused (c .number .given .0 .0) (c .number .given .0 .1 .0)
-unfolding reading-answer
-points-refused c = sym (c .before .before .read-points .ensures) ∙ ap reading-answer (c .number .given .1)
+points-refused : (c : tie.Then3) → (let r = c .before .before .read-fault .result in
+    answer (c .before) ≡ refused (r .number) (r .place))
+points-refused c = read-refused _ _ _ (sym (c .before .before .read-fault .ensures) ∙ a-fault _ (c .if3 .taken))
 
-points-read : (c : tie.After-factor) → answer (c .before .before) ≡ gives (c .factor .given .0 .0)
-unfolding reading-answer
-points-read c = sym (c .before .before .read-points .ensures) ∙ ap reading-answer (c .factor .given .1)
-
-copy-requires : tie.Need-copy-requires
-copy-requires c κs =
-    let r = read c .before .before in
-    body-fits (input r) (whole r) (roomy r .if2 .left)
+refusal-requires-3 : tie.Need-refusal-requires-3
+refusal-requires-3 c κs = subst Numbered (points-refused c) (in-reading _ _ _) .1
 
 returns-3 : tie.Need-returns-3
 unfolding desk-number desk-scratch
 returns-3 c =
-    let n = c .before .before in
-    let e = tried (n .before .before) ∙ points-refused n in
+    let e = points-decide (c .before .before) ∙ points-refused (c .before) in
     (rw (toZ-ofZ (record { sfits = c .refusal3 .ok }), c .refusal3 .ensures, e), rw e)
+
+points-pass : (c : tie.Else3) → (let k = begin (c .before) .args in
+    read-rows (points-of (input (c .before))) (shape-code (input (c .before))) (k .area) ≡ gives tt)
+points-pass c = sym (c .before .before .read-fault .ensures) ∙ no-fault _ (c .if3 .left)
+
+factor-requires : tie.Need-factor-requires
+factor-requires c κs = (record { file = omega (arith, whole (c .before)) }, points-pass c)
+
+copy-requires : tie.Need-copy-requires
+copy-requires c κs =
+    let r = read c .before in
+    body-fits (input r) (whole r) (tried r .if2 .left)
 
 returns-4 : tie.Need-returns-4
 unfolding desk-number desk-scratch
 returns-4 c =
-    let f = read (c .before .before .before) in
-    let r = f .before .before in
-    let e = tried r ∙ points-read f in (
-      rw (toZ-ofZ {w = w32} {z = f .factor .given .0 .0} (search needs), e),
-      rw e (c .before .before .copy .ensures .1 ∙ body-copied (input r) (whole r) _),
+    let copied = c .before .before in
+    let passed = read (copied .before) in
+    let f = copied .before .before .before .factor in
+    let g = given-of-rows _ _ _ (points-pass passed) in
+    let e = points-decide (passed .before) ∙ reading-given _ _ _ (g .accepted) (g .within) in (
+      rw (toZ-ofZ (record { sfits = f .ok }), f .ensures, e),
+      rw e (copied .copy .ensures .1 ∙ body-copied (input (passed .before)) (whole (passed .before)) _),
     )
 
 pub desk-reading-spec : {M : Type 1} → statement M
@@ -121,7 +128,6 @@ desk-reading-spec =
     (λ c. omega (arith, size (c .before))) (λ c. omega (arith, c .shared-slice-known2 .given 6))
     (λ c. omega (arith, c .shared-slice-known2 .given 6)) (search needs) returns-2
     (λ c. omega (arith, size (headed (c .before)))) (λ c. omega (arith, c .shared-slice-known3 .given 5))
-    (λ c κs. record { file = omega (arith, size (headed (c .before))) }) (search needs)
-    (λ c κs. subst Numbered (points-refused (c .before)) (in-reading _ _ _) .1) (search needs)
-    (λ c. omega (arith, whole (c .before .before .before))) (λ c. omega (arith, whole (c .before .before .before)))
-    (search needs) copy-requires returns-3 (search needs) returns-4)
+    (λ c κs. record { file = omega (arith, size (headed (c .before))) }) refusal-requires-3 returns-3 factor-requires
+    (λ c. omega (arith, whole (c .before .before))) (λ c. omega (arith, whole (c .before .before))) (search needs)
+    copy-requires (search needs) returns-4)

@@ -15,8 +15,9 @@ use Rattle.model.specs.Points.{slope-most, Segment, convex}
 use Rattle.model.specs.Interpolant.{interpolant}
 use Rattle.model.specs.Inner.{Neighbours}
 use Rattle.point.specs.Inner.{segment-of}
-use Rattle.segment.specs.Inner.{SlopesOver}
-use Rattle.segment.proofs.Figures.{slope-read, a-fits, a-read, b-fits, b-read, t, reading-fits}
+use Rattle.shape.specs.Inner.{SlopesOver}
+use Rattle.shape.proofs.Figures.{slope-read, a-fits, a-read, b-fits, b-read}
+use Rattle.segment.proofs.Distances.{t, reading-fits}
 use Rattle.segment.proofs.ConvexReading.{Convex, convex-inside, raised-at}
 use Rattle.segment.proofs.Sizes.{raised-size}
 use Rattle.segment.proofs.convex_factor.Statement.{statement}

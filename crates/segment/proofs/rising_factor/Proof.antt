@@ -11,7 +11,8 @@ use Rattle.exact.proofs.Signed.{cast-of-natural}
 use Rattle.model.specs.Points.{Segment, rising}
 use Rattle.model.specs.Interpolant.{interpolant}
 use Rattle.point.specs.Inner.{segment-of}
-use Rattle.segment.proofs.Figures.{slope-fits, slope-read, value-read, u-read, reading-fits}
+use Rattle.shape.proofs.Figures.{slope-fits, slope-read, value-read}
+use Rattle.segment.proofs.Distances.{u-read, reading-fits}
 use Rattle.segment.proofs.RisingReading.{Rising, rising-inside, flat-inside}
 use Rattle.segment.proofs.rising_factor.Statement.{statement}
 use Rattle.segment.proofs.rising_factor.Tie as tie

@@ -1,4 +1,4 @@
--- `segment::not_below_0` meets its contract.
+-- `shape::not_below_0` meets its contract.
 -- Assumes nothing.
 use mathlib.Core.Path.{_≡_}
 use mathlib.Core.Bool.{true}
@@ -8,8 +8,8 @@ use mir.Syntax.{w32}
 use mir.Val.{toZ, ofZ}
 use mir.Facts.{toZ-ofZ}
 use Rattle.exact.proofs.Tests.{leZ-not-ltZ}
-use Rattle.segment.proofs.not_below_0.Statement.{statement}
-use Rattle.segment.proofs.not_below_0.Tie as tie
+use Rattle.shape.proofs.not_below_0.Statement.{statement}
+use Rattle.shape.proofs.not_below_0.Tie as tie
 
 returns : tie.Need-returns
 returns c =

@@ -1,31 +1,23 @@
 -- The figures of a segment within its limits, in machine numbers.
 --   slope-fits, slope-read, value-read   a point's figures in 32 bits
---   gap-read, rise-read, u-read          differences, as the code computes them
+--   h, gap-read, rise-read               differences, as the code computes them
 --   e₀-fits, g-fits, e₁-fits             the slopes over 100 h; a-fits, b-fits, a-read, b-read, their distances from the chord
---   t, u, h                              the distances of an area from the two ends, and their sum
---   reading-fits                         the reading in 32 bits
 -- Assumes nothing.
 use mathlib.Core.Path.{_≡_, sym, _∙_, ap, ap₂}
-use mathlib.Core.List.{[], _∷_}
-use Prim.Native.Nat.{ℕ, _+_, _-_, _*_, _≤_}
+use Prim.Native.Nat.{ℕ, _-_, _*_, _≤_}
 use native.Mathlib.Nat.{mul-le-mul}
 use native.Mathlib.Omega.{arith}
 use lib.IntN.{ℤ, pos, natAbs, _-ℤ_, _*ℤ_}
 use mir.Syntax.{w32}
 use mir.Val.{SFits, toZ, ofZ}
 use mir.Facts.{toZ-ofZ, toZ-pos}
-use Rattle.exact.specs.Rounding.{round}
-use Rattle.exact.proofs.Ring.{ring, terms}
 use Rattle.exact.proofs.Order as Z
 use Rattle.exact.proofs.Magnitude.{size-between, size--, size-*, size-difference, sfits-of-size}
-use Rattle.model.specs.Points.{gap-most, value-most, slope-most, Point, Segment, Shape}
-use Rattle.model.specs.Inner.{Limits, Neighbours, Good, Inside}
-use Rattle.model.specs.Interpolant.{interpolant}
-use Rattle.model.proofs.Segments.{gap, rise, distance, e₀, e₁, g, a, b, interpolant-proper}
-use Rattle.exact.proofs.Rounding.{round-rounding}
-use Rattle.model.proofs.Range.{value-range, reading-range}
-use Rattle.segment.specs.Inner.{Distances, over-most, SlopesOver}
-use Rattle.segment.specs.declared.Slopes.{Slopes}
+use Rattle.model.specs.Points.{gap-most, value-most, slope-most, Point, Segment}
+use Rattle.model.specs.Inner.{Limits, Neighbours}
+use Rattle.model.proofs.Segments.{gap, rise, e₀, e₁, g, a, b}
+use Rattle.shape.specs.Inner.{over-most, SlopesOver}
+use Rattle.shape.specs.declared.Slopes.{Slopes}
 
 -- ---- a point
 
@@ -104,36 +96,3 @@ module _ {s : Segment} (n : Neighbours s) where
 
     pub b-read : toZ w32 (ofZ w32 (e .chord)) -ℤ toZ w32 (ofZ w32 (e .left)) ≡ b s
     b-read = rw (k .chord, k .left, toZ-ofZ g-fits, toZ-ofZ e₀-fits)
-
--- ---- an area inside
-
-abbrev pub t : Segment → ℕ → ℕ
-t s x = x - s .left .area
-
-abbrev pub u : Segment → ℕ → ℕ
-u s x = s .right .area - x
-
-module _ {G : Segment → Type 0} {s : Segment} {x : ℕ} (i : Inside G s x) where
-  pub from-left : distance s x ≡ pos (t s x)
-  from-left = Z.difference-of-≤ (i .low)
-
-  pub from-right : gap s -ℤ distance s x ≡ pos (u s x)
-  from-right = ends-difference ∙ Z.difference-of-≤ (i .high)
-    where
-      ends-difference : gap s -ℤ distance s x ≡ pos (s .right .area) -ℤ pos x
-      ends-difference = ring (pos (s .right .area) ∷ pos (s .left .area) ∷ pos x ∷ []) (search terms depth 20 fits 9999) tt
-
-  pub h-is : h s ≡ t s x + u s x
-  h-is = omega (arith, i .low, i .high)
-
-  pub u-read : h s - t s x ≡ u s x
-  u-read = omega (arith, i .low, i .high)
-
-  pub distances : Neighbours s → Distances (t s x) (u s x)
-  distances n = record { most = omega (arith, n .near, h-is); least = omega (arith, n .ordered, h-is) }
-
--- the reading fits 32 bits
-pub reading-fits : {shape : Shape} {s : Segment} {x : ℕ} → Inside (Good shape) s x → SFits w32 (round (interpolant shape s x))
-reading-fits {shape} {s} {x} i =
-    let r = reading-range round-rounding (interpolant shape s x) (interpolant-proper i) (value-range i) in
-    sfits-of-size w32 (round (interpolant shape s x)) (omega (arith, size-between {n = value-most} _ (r .low) (r .high)))

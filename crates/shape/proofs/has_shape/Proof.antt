@@ -1,8 +1,8 @@
--- `segment::has_shape` meets its contract.
+-- `shape::has_shape` meets its contract.
 -- Assumes nothing.
 use Rattle.model.proofs.Codes.{rising-of-1, convex-of-not-1}
-use Rattle.segment.proofs.has_shape.Statement.{statement}
-use Rattle.segment.proofs.has_shape.Tie as tie
+use Rattle.shape.proofs.has_shape.Statement.{statement}
+use Rattle.shape.proofs.has_shape.Tie as tie
 
 returns : tie.Need-returns
 returns c = rw (rising-of-1 (c .before .if1 .taken)) (c .rises .ensures)

@@ -1,12 +1,12 @@
--- `segment::rises` meets its contract.
+-- `shape::rises` meets its contract.
 -- Assumes nothing.
 use mathlib.Core.Path.{sym, _∙_}
 use native.Mathlib.Omega.{arith}
 use borrow.Author.Needs.{needs}
 use borrow.Author.Tests.{eq-eqb, ne-eqb}
-use Rattle.segment.proofs.Tests.{climbing-test, level-test, falling-test}
-use Rattle.segment.proofs.rises.Statement.{statement}
-use Rattle.segment.proofs.rises.Tie as tie
+use Rattle.shape.proofs.Tests.{climbing-test, level-test, falling-test}
+use Rattle.shape.proofs.rises.Statement.{statement}
+use Rattle.shape.proofs.rises.Tie as tie
 
 -- the places: where the value rises, where it does not, and where it stays
 abbrev at-climb : tie.After-struct-told2 → tie.Then1

@@ -1,10 +1,10 @@
--- `segment::bends` meets its contract.
+-- `shape::bends` meets its contract.
 -- Assumes nothing.
 use mathlib.Core.Path.{sym, _∙_}
 use borrow.Author.Tests.{eq-eqb, ne-eqb}
-use Rattle.segment.proofs.Tests.{convex-test}
-use Rattle.segment.proofs.bends.Statement.{statement}
-use Rattle.segment.proofs.bends.Tie as tie
+use Rattle.shape.proofs.Tests.{convex-test}
+use Rattle.shape.proofs.bends.Statement.{statement}
+use Rattle.shape.proofs.bends.Tie as tie
 
 -- the places: after the slopes, where the left slope is below the chord and where it is not
 abbrev at-slopes-below : tie.Then1 → tie.After-slopes-of

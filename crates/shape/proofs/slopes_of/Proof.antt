@@ -1,10 +1,10 @@
--- `segment::slopes_of` meets its contract.
+-- `shape::slopes_of` meets its contract.
 -- Assumes nothing.
 use borrow.Author.Needs.{needs}
 use mir.Facts.{toZ-ofZ}
-use Rattle.segment.proofs.Figures.{slope-read, gap-read, rise-read, rise-fits, e₀-fits, g-fits, e₁-fits}
-use Rattle.segment.proofs.slopes_of.Statement.{statement}
-use Rattle.segment.proofs.slopes_of.Tie as tie
+use Rattle.shape.proofs.Figures.{slope-read, gap-read, rise-read, rise-fits, e₀-fits, g-fits, e₁-fits}
+use Rattle.shape.proofs.slopes_of.Statement.{statement}
+use Rattle.shape.proofs.slopes_of.Tie as tie
 
 -- the places
 abbrev at-rise : tie.After-struct-known4 → tie.Start

@@ -1,0 +1,40 @@
+-- `records::factor` meets its contract: rows 1 to 7 are passed, and the reading is that in the segment found.
+-- Assumes nothing.
+use mathlib.Core.Path.{_∙_}
+use mathlib.Core.List.{List}
+use lib.ListN.{length}
+use mir.Facts.{toZ-ofZ}
+use Rattle.model.specs.Points.{Point}
+use Rattle.model.specs.Read.{reading}
+use Rattle.model.proofs.Answers.{Given, given-of-rows}
+use Rattle.layout.specs.Inner.{first-points}
+use Rattle.records.specs.Inner.{CurvePoints}
+use Rattle.records.proofs.Placed.{curve-points, begins-first}
+use Rattle.records.proofs.factor.Statement.{statement}
+use Rattle.records.proofs.factor.Tie as tie
+
+module _ (c : tie.Start) where
+  abbrev ps : List Point
+  ps = first-points (c .args .bytes .now) (c .args .n)
+
+  given : Given ps (c .args .shape) (c .args .area) (reading ps (c .args .shape) (c .args .area))
+  given = given-of-rows _ _ _ (c .pre .1)
+
+  counted : CurvePoints (c .args .n) (length (c .args .bytes .now))
+  counted = curve-points _ _ (given .accepted) (c .pre .0)
+
+find-requires : tie.Need-find-requires
+find-requires c κs =
+    let k = counted (c .before) in
+    (k, begins-first _ _ _ (k .least) (given (c .before) .within))
+
+factor-at-requires : tie.Need-factor-at-requires
+factor-at-requires c κs =
+    let g = given (c .before .before) in
+    (counted (c .before .before), record { accepted = g .accepted; within = g .within; taken = c .find .ensures })
+
+returns : tie.Need-returns
+returns c = toZ-ofZ (record { sfits = c .factor-at .ok }) ∙ c .factor-at .ensures
+
+pub factor-spec : {M : Type 1} → statement M
+factor-spec = tie.close (tie.spec find-requires factor-at-requires returns)

@@ -1,0 +1,3 @@
+-- The shape of a segment in machine numbers.
+pub mod Figures
+pub mod Tests

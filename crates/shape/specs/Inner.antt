@@ -1,0 +1,18 @@
+-- What contracts of inner functions cite. Nothing here need be believed: the calls' contracts cite document 01's definitions.
+--   SlopesOver    the three slopes of a segment over one denominator; over-most, their largest size
+-- Assumes nothing.
+use mathlib.Core.Path.{_≡_}
+use Prim.Native.Nat.{ℕ, _*_}
+use lib.IntN.{pos, _*ℤ_, _-ℤ_}
+use Rattle.model.specs.Points.{gap-most, slope-most, Segment}
+use Rattle.shape.specs.declared.Slopes.{Slopes}
+
+-- the slopes of a segment over the denominator 100 h
+pub record SlopesOver (s : Segment) (e : Slopes) : Type 0 where
+  pub left : e .left ≡ (pos (s .right .area) -ℤ pos (s .left .area)) *ℤ s .left .slope
+  pub chord : e .chord ≡ pos 100 *ℤ (pos (s .right .value) -ℤ pos (s .left .value))
+  pub right : e .right ≡ (pos (s .right .area) -ℤ pos (s .left .area)) *ℤ s .right .slope
+
+-- h times a slope; of the chord 100 times a value, which is as much
+abbrev pub over-most : ℕ
+over-most = gap-most * slope-most

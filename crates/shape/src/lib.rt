@@ -1,0 +1,87 @@
+// The shape of one segment: row 6.
+ghost use mathlib.Core.Path.{_≡_};
+ghost use mathlib.Core.Bool.{_&&_};
+ghost use lib.IntN.{pos};
+ghost use lib.Signed.{leZ};
+ghost use Rattle.model.specs.Points.{Shape, shape-of};
+ghost use Rattle.model.specs.Shape.{has-shape};
+ghost use Rattle.model.specs.Inner.{Neighbours};
+ghost use Rattle.point.specs.Inner.{segment-of};
+ghost use Rattle.shape.specs.Inner.{SlopesOver};
+use point::Point;
+
+// The slopes of a segment over the denominator 100 h: left end, chord, right end.
+pub struct Slopes {
+    pub left: i32,
+    pub chord: i32,
+    pub right: i32,
+}
+
+pub fn slopes_of(p: Point, q: Point) -> Slopes
+    requires { ⌜ Neighbours (segment-of p q) ⌝ }
+    ensures { λ r. ⌜ SlopesOver (segment-of p q) r ⌝ }
+{
+    let h = (q.area - p.area) as i32;
+    let rise = (q.value as i32) - (p.value as i32);
+    let left = h * p.slope;
+    let chord = 100 * rise;
+    let right = h * q.slope;
+    Slopes {
+        left: left,
+        chord: chord,
+        right: right,
+    }
+}
+
+// Neither slope is below 0. As numbers of their own the two are tested by one branch.
+fn not_below_0(d0: i32, d1: i32) -> bool
+    ensures { λ r. ⌜ r ≡ (leZ (pos 0) d0 && leZ (pos 0) d1) ⌝ }
+{
+    if d0 < 0 {
+        return false;
+    }
+    d1 >= 0
+}
+
+// Shape 1.
+fn rises(p: Point, q: Point) -> bool
+    requires { ⌜ Neighbours (segment-of p q) ⌝ }
+    ensures { λ r. ⌜ r ≡ has-shape Shape.rising (segment-of p q) ⌝ }
+{
+    if p.value < q.value {
+        return not_below_0(p.slope, q.slope);
+    }
+    if p.value != q.value {
+        return false;
+    }
+    if p.slope != 0 {
+        return false;
+    }
+    q.slope == 0
+}
+
+// Shape 2.
+fn bends(p: Point, q: Point) -> bool
+    requires { ⌜ Neighbours (segment-of p q) ⌝ }
+    ensures { λ r. ⌜ r ≡ has-shape Shape.convex (segment-of p q) ⌝ }
+{
+    let e = slopes_of(p, q);
+    if e.left < e.chord {
+        return e.chord < e.right;
+    }
+    if e.left != e.chord {
+        return false;
+    }
+    e.chord == e.right
+}
+
+// Row 6 is passed: the segment between two points has its shape.
+pub fn has_shape(shape: u32, p: Point, q: Point) -> bool
+    requires { ⌜ Neighbours (segment-of p q) ⌝ }
+    ensures { λ r. ⌜ r ≡ has-shape (shape-of shape) (segment-of p q) ⌝ }
+{
+    if shape == 1 {
+        return rises(p, q);
+    }
+    bends(p, q)
+}
