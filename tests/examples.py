@@ -11,11 +11,11 @@ A line is `CURVE CALL ARGUMENTS: ANSWER`:
     CURVE check: SEGMENTS
     CURVE read AREA: FACTOR
     CURVE pair FORM PLAN: FORM-FACTOR PLAN-FACTOR DIFFERENCE
-    CURVE sheet START STEP over N: N, first F last L sum S
+    CURVE sheet START STEP over N: N, first F last L
 
 and every answer may be `refused NUMBER at PLACE`. A sheet's list has N
-entries, each 7 before the call; first, last and sum are of the entries after
-it, also after a refusal. Without entries all three are 0.
+entries, each 7 before the call; first and last are of the entries after it,
+also after a refusal. Without entries they are left out.
 
 The cases are numbers of 4 bytes, the lowest first, a slope in two's
 complement: how many cases there are, then each case. The program takes at
@@ -171,8 +171,7 @@ def answer_text(answer):
 def list_text(answer, count):
     """A sheet's list after the call."""
     after = answer[2] if answer[0] == 'ok' else [FILL] * count
-    first, last = (after[0], after[-1]) if after else (0, 0)
-    return 'first %d last %d sum %d' % (first, last, sum(after))
+    return ', first %d last %d' % (after[0], after[-1]) if after else ''
 
 
 def label(name, call, *words):
@@ -188,7 +187,7 @@ def line(name, call, *words):
     answer = FUNCTIONS[call](*CURVES[name], *words)
     text = answer_text(answer)
     if call == 'sheet':
-        text += ', ' + list_text(answer, words[2])
+        text += list_text(answer, words[2])
     return label(name, call, *words) + text
 
 

@@ -5,7 +5,6 @@ use curve::Checked;
 use curve::Filled;
 use curve::Reading;
 use pair::Pair;
-use std::num::wrapping_add_u64;
 
 fn print_checked(answer: Checked) {
     match answer {
@@ -37,28 +36,15 @@ fn print_pair(answer: Pair) {
     }
 }
 
-// The first entry, the last and the sum, 0 without entries.
-fn print_list(list: &[i32]) {
-    let mut first: i32 = 0;
-    let mut last: i32 = 0;
-    let mut above: u64 = 0;
-    let mut below: u64 = 0;
-    let mut i: usize = 0;
-    while i < list.len() {
-        last = list[i];
-        if i == 0 {
-            first = last;
-        }
-        above = wrapping_add_u64(above, print::above(last) as u64);
-        below = wrapping_add_u64(below, print::below(last) as u64);
-        i += 1;
+// The first entry and the last, if there are any.
+fn print_ends(list: &[i32]) {
+    if list.len() == 0 {
+        return;
     }
     print::text(b", first ");
-    print::signed(first);
+    print::signed(list[0]);
     print::text(b" last ");
-    print::signed(last);
-    print::text(b" sum ");
-    print::difference(above, below);
+    print::signed(list[list.len() - 1]);
 }
 
 fn print_sheet(
@@ -74,7 +60,7 @@ fn print_sheet(
         Filled::Refused(number, place) => print::refused(number, place),
         Filled::Entries(n) => print::unsigned(n as u64),
     }
-    print_list(list);
+    print_ends(list);
 }
 
 // A sheet's list has 7 in each entry before the call.
