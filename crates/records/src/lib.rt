@@ -1,4 +1,4 @@
-// Rows 1 to 7 and the reading, of the points of a curve file where they stand.
+// Rows 1 to 7 and the factor, of the points of a curve file where they stand.
 ghost use mathlib.Core.Path.{_≡_};
 ghost use mathlib.Core.Bool.{true, false};
 ghost use mathlib.Core.List.{map, _++_};
