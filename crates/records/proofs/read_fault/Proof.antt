@@ -1,6 +1,6 @@
 -- `records::read_fault` meets its contract: a fault of the curve, then row 7.
 -- Assumes nothing.
-use mathlib.Core.Path.{_≡_, sym, _∙_}
+use mathlib.Core.Path.{_≡_, refl, sym, _∙_}
 use borrow.Author.Needs.{needs}
 use Rattle.model.specs.Answer.{row, _then_}
 use Rattle.model.specs.Inner.{fault-answer, Accepted}
@@ -23,7 +23,7 @@ accepted c = record { none-applies = sym (c .before .before .curve-fault .ensure
 
 returns-2 : tie.Need-returns-2
 unfolding fault-answer row _then_
-returns-2 c = rw (accepted (c .before .before) .none-applies, sym (c .before .outside .ensures) ∙ c .if2 .taken)
+returns-2 c = rw (accepted (c .before .before) .none-applies, sym (c .before .outside .ensures) ∙ c .if2 .taken) refl
 
 returns-3 : tie.Need-returns-3
 unfolding row _then_
