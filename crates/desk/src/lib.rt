@@ -31,11 +31,11 @@ pub extern "C" fn desk_reading(bytes: &[u8], area: u32, scratch: &mut [u8]) -> i
         return refusal(11);
     }
     let shape = bytes[5] as u32;
-    let found = records::read_fault(bytes, n, shape, area);
+    let found = file_lookup::read_fault(bytes, n, shape, area);
     if found.number != 0 {
         return refusal(found.number);
     }
-    let factor = records::factor(bytes, n, shape, area);
+    let factor = file_lookup::factor(bytes, n, shape, area);
     bytes::copy(&bytes[HEAD_SIZE..], scratch);
     factor
 }

@@ -2,19 +2,17 @@
 --   Follows       no row refuses the second of two points or the segment between them
 --   CurvePoints   as many points as a curve has are in a file of so many bytes
 --   Room          n points are in a file, and there is room for them in three lists; the other numbers are lengths
---   Begins        the point at i of n begins a segment, and its area is not above the area read
 -- Assumes nothing.
 use mathlib.Core.Path.{_≡_}
 use mathlib.Core.Bool.{true}
-use mathlib.Core.List.{List, [], _∷_}
+use mathlib.Core.List.{[], _∷_}
 use mathlib.Core.Option.{some}
-use Prim.Native.Nat.{ℕ, suc, _≤_, _<_}
+use Prim.Native.Nat.{ℕ, _≤_}
 use Rattle.model.specs.Answer.{gives}
 use Rattle.model.specs.Points.{points-least, points-most, Point, Shape}
 use Rattle.model.specs.Shape.{has-shape}
 use Rattle.model.specs.Check.{point-rows}
 use Rattle.model.specs.Inner.{between}
-use Rattle.layout.specs.Layout.{record-at}
 use Rattle.layout.specs.Inner.{Holds}
 
 pub record Follows (shape : Shape) (p q : Point) : Type 0 where
@@ -31,7 +29,3 @@ pub record Room (n bytes areas values slopes : ℕ) : Type 0 where
   pub in-areas : n ≤ areas
   pub in-values : n ≤ values
   pub in-slopes : n ≤ slopes
-
-pub record Begins (bytes : List ℕ) (n i area : ℕ) : Type 0 where
-  pub inner : suc i < n
-  pub low : record-at bytes i .area ≤ area

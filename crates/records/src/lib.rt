@@ -1,17 +1,14 @@
-// Rows 1 to 7 and the factor, of the points of a curve file where they stand.
+// Rows 1 to 6, of the points of a curve file where they stand.
 ghost use mathlib.Core.Path.{_≡_};
 ghost use mathlib.Core.Bool.{true, false};
 ghost use mathlib.Core.List.{map, _++_};
 ghost use lib.ListN.{length, drop};
-ghost use Rattle.model.specs.Answer.{gives};
 ghost use Rattle.model.specs.Points.{shape-of};
 ghost use Rattle.model.specs.Check.{bad-code, curve-rows};
-ghost use Rattle.model.specs.Read.{outside as lies-outside, reading};
-ghost use Rattle.model.specs.Inner.{Accepted, fault-answer, read-rows, areas-of, Limits, Taken, Readable};
+ghost use Rattle.model.specs.Inner.{Accepted, fault-answer, Limits};
 ghost use Rattle.point.specs.Inner.{point-of};
 ghost use Rattle.layout.specs.Inner.{first-points, Holds};
-ghost use Rattle.records.specs.Inner.{Follows, CurvePoints, Room, Begins};
-use layout::area_of;
+ghost use Rattle.records.specs.Inner.{Follows, CurvePoints, Room};
 use layout::record_at;
 use point::Point;
 use rows::Fault;
@@ -105,80 +102,4 @@ pub fn curve_fault(bytes: &[u8], n: usize, shape: u32) -> Fault
         };
     }
     listed_fault(bytes, n, shape)
-}
-
-// Whether an area is outside the first n points: row 7.
-fn outside(bytes: &[u8], n: usize, area: u32) -> bool
-    requires { ⌜ CurvePoints n (length (now bytes)) ⌝ }
-    ensures { λ r. ⌜ r ≡ lies-outside (first-points (now (bytes .entry)) n) area ⌝ }
-{
-    if area < area_of(bytes, 0) {
-        return true;
-    }
-    area_of(bytes, n - 1) < area
-}
-
-// Looks at every eighth point that begins a segment, up to the last of them whose area is not above the area.
-fn skip(bytes: &[u8], n: usize, area: u32) -> usize
-    requires { ⌜ CurvePoints n (length (now bytes)) × Begins (now bytes) n 0 area ⌝ }
-    ensures { λ r. ⌜ Begins (now (bytes .entry)) n r area ⌝ }
-{
-    let mut i: usize = 0;
-    while i + 9 < n {
-        if area < area_of(bytes, i + 8) {
-            return i;
-        }
-        i += 8;
-    }
-    i
-}
-
-// The index of the left point of the segment that the area takes.
-fn find(bytes: &[u8], n: usize, area: u32) -> usize
-    requires { ⌜ CurvePoints n (length (now bytes)) × Begins (now bytes) n 0 area ⌝ }
-    ensures { λ r. ⌜ Taken (areas-of (first-points (now (bytes .entry)) n)) r area ⌝ }
-{
-    let mut i = skip(bytes, n, area);
-    while i + 2 < n {
-        if area < area_of(bytes, i + 1) {
-            return i;
-        }
-        i += 1;
-    }
-    i
-}
-
-// The factor at an area that takes the segment at i.
-fn factor_at(bytes: &[u8], n: usize, shape: u32, i: usize, area: u32) -> i32
-    requires { ⌜ CurvePoints n (length (now bytes)) × Readable (first-points (now bytes) n) shape i area ⌝ }
-    ensures { λ r. ⌜ r ≡ reading (first-points (now (bytes .entry)) n) shape area ⌝ }
-{
-    segment::factor(shape, record_at(bytes, i), record_at(bytes, i + 1), area)
-}
-
-// Rows 1 to 7 of the file's first n points and an area.
-pub fn read_fault(bytes: &[u8], n: usize, shape: u32, area: u32) -> Fault
-    requires { ⌜ Holds n (length (now bytes)) ⌝ }
-    ensures { λ r. ⌜ fault-answer (r .number) (r .place) ≡ read-rows (first-points (now (bytes .entry)) n) shape area ⌝ }
-{
-    let fault = curve_fault(bytes, n, shape);
-    if fault.number != 0 {
-        return fault;
-    }
-    if outside(bytes, n, area) {
-        return Fault {
-            number: 7,
-            place: 0,
-        };
-    }
-    fault
-}
-
-// The factor at an area that these rows do not refuse.
-pub fn factor(bytes: &[u8], n: usize, shape: u32, area: u32) -> i32
-    requires { ⌜ Holds n (length (now bytes)) × (read-rows (first-points (now bytes) n) shape area ≡ gives tt) ⌝ }
-    ensures { λ r. ⌜ r ≡ reading (first-points (now (bytes .entry)) n) shape area ⌝ }
-{
-    let i = find(bytes, n, area);
-    factor_at(bytes, n, shape, i, area)
 }

@@ -1,16 +1,17 @@
 -- `records::all_pass` meets its contract. The loop's invariant: no row refuses the points to `left` or the segments between them.
 -- Assumes nothing.
 use mathlib.Core.Path.{_≡_, refl, sym, _∙_}
-use mathlib.Core.Bool.{true≢false}
+use mathlib.Core.Bool.{false, true≢false}
 use mathlib.Core.List.{List, []}
 use mathlib.Core.Option.{none, some}
 use Prim.Native.Nat.{ℕ, _+_, _-_, _≤_, _<_}
 use native.Mathlib.Omega.{arith}
 use borrow.Author.Needs.{needs}
-use borrow.Author.Tests.{not-false}
-use Rattle.model.specs.Answer.{row, _then_}
-use Rattle.model.specs.Points.{Point, shape-of}
-use Rattle.model.specs.Inner.{Limits}
+use borrow.Author.Tests.{le-ltb, not-false}
+use Rattle.model.specs.Answer.{gives, row, _then_}
+use Rattle.model.specs.Points.{points-least, points-most, Point, segments, shape-of}
+use Rattle.model.specs.Check.{bad-count, bad-code, point-rows, segment-rows, curve-rows}
+use Rattle.model.specs.Inner.{Accepted, Limits}
 use Rattle.model.proofs.Rows.{passed}
 use Rattle.point.specs.Inner.{earlier}
 use Rattle.rows.proofs.Faults.{no-fault, passes, limits-of-no-fault}
@@ -18,7 +19,7 @@ use Rattle.rows.proofs.Faults.{points-from, point-turn, point-end, segments-fro
 use Rattle.layout.specs.Layout.{record-at}
 use Rattle.layout.specs.Inner.{first-points}
 use Rattle.layout.proofs.Points.{size-of-first, point-is}
-use Rattle.records.proofs.Placed.{accepted-of}
+use Rattle.records.specs.Inner.{CurvePoints}
 use Rattle.records.proofs.all_pass.Statement.{statement}
 use Rattle.records.proofs.all_pass.Tie as tie
 
@@ -105,6 +106,16 @@ loop-again c =
           segment-turn (ps s) (shape-of (start s .args .shape)) i _ _ (rw size inner) here next (sym (f .segment-passes))
           ∙ k .segments-pass;
     }
+
+-- rows that refuse nothing: the points are an accepted curve
+accepted-of : (bytes : List ℕ) (n : ℕ) {code m : ℕ} → CurvePoints n m → bad-code code ≡ false →
+    point-rows 0 none (first-points bytes n) ≡ gives tt →
+    segment-rows 0 (shape-of code) (segments (first-points bytes n)) ≡ gives tt →
+    Accepted (first-points bytes n) code
+unfolding curve-rows bad-count row _then_
+accepted-of bytes n k c p q =
+    let size = size-of-first bytes n in
+    record { none-applies = rw (size, le-ltb n points-least (k .least), le-ltb points-most n (k .most), c, p, q) }
 
 returns-3 : tie.Need-returns-3 Inv-loop μ-loop
 returns-3 c = λ e.

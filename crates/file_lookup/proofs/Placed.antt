@@ -1,5 +1,4 @@
 -- A curve's points in a file, where they are read.
---   accepted-of      rows that refuse nothing: the points are an accepted curve
 --   curve-points     the points of an accepted curve are as many as a curve has
 --   outside-is       row 7, by the first and the last record
 --   begins-first     an area that is not outside is not below that of the first point
@@ -10,16 +9,12 @@ use mathlib.Core.Path.{_≡_, refl, _∙_}
 use mathlib.Core.Bool.{false, _||_}
 use mathlib.Core.List.{List}
 use mathlib.Core.Logic.{_⊎_, inl, inr}
-use mathlib.Core.Option.{none}
 use Prim.Native.Nat.{ℕ, suc, _+_, _-_, _≤_, _<_}
 use native.Mathlib.Numerals.{add-one}
 use native.Mathlib.Omega.{arith}
-use borrow.Author.Tests.{le-ltb}
 use lib.Dec.{ltb}
 use lib.ListN.{length, length-map}
-use Rattle.model.specs.Answer.{gives, row, _then_}
-use Rattle.model.specs.Points.{points-least, points-most, segments, shape-of}
-use Rattle.model.specs.Check.{bad-count, bad-code, point-rows, segment-rows, curve-rows}
+use Rattle.model.specs.Points.{points-least}
 use Rattle.model.specs.Read.{outside}
 use Rattle.model.specs.Inner.{Accepted, between, segment-at, areas-of, Taken}
 use Rattle.model.proofs.Accepted.{count-of}
@@ -27,7 +22,8 @@ use Rattle.model.proofs.Outside.{outside-of, not-before}
 use Rattle.layout.specs.Layout.{record-at}
 use Rattle.layout.specs.Inner.{first-points, Holds}
 use Rattle.layout.proofs.Points.{size-of-first, point-is, area-is}
-use Rattle.records.specs.Inner.{CurvePoints, Begins}
+use Rattle.records.specs.Inner.{CurvePoints}
+use Rattle.file_lookup.specs.Inner.{Begins}
 
 module _ (bytes : List ℕ) (n : ℕ) where
   pub curve-points : {code m : ℕ} → Accepted (first-points bytes n) code → Holds n m → CurvePoints n m
@@ -35,15 +31,6 @@ module _ (bytes : List ℕ) (n : ℕ) where
       let k = count-of a in
       let s = size-of-first bytes n in
       record { file = h; least = omega arith; most = omega arith }
-
-  pub accepted-of : {code m : ℕ} → CurvePoints n m → bad-code code ≡ false →
-      point-rows 0 none (first-points bytes n) ≡ gives tt →
-      segment-rows 0 (shape-of code) (segments (first-points bytes n)) ≡ gives tt →
-      Accepted (first-points bytes n) code
-  unfolding curve-rows bad-count row _then_
-  accepted-of k c p q =
-      let size = size-of-first bytes n in
-      record { none-applies = rw (size, le-ltb n points-least (k .least), le-ltb points-most n (k .most), c, p, q) }
 
   pub areas-size : length (areas-of (first-points bytes n)) ≡ n
   areas-size = length-map (first-points bytes n) (λ p. p .area) ∙ size-of-first bytes n

@@ -1,10 +1,10 @@
--- `records::skip` meets its contract. The loop's invariant: the point at i begins a segment, and is not beyond the area read.
+-- `file_lookup::skip` meets its contract. The loop's invariant: the point at i begins a segment, and is not beyond the area read.
 -- Assumes nothing.
 use Prim.Native.Nat.{_-_}
 use native.Mathlib.Omega.{arith}
-use Rattle.records.specs.Inner.{Begins}
-use Rattle.records.proofs.skip.Statement.{statement}
-use Rattle.records.proofs.skip.Tie as tie
+use Rattle.file_lookup.specs.Inner.{Begins}
+use Rattle.file_lookup.proofs.skip.Statement.{statement}
+use Rattle.file_lookup.proofs.skip.Tie as tie
 
 abbrev Inv-loop : tie.InvT-loop
 Inv-loop bytes n area i₀ i = Begins bytes n i area

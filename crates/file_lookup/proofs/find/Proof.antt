@@ -1,12 +1,12 @@
--- `records::find` meets its contract. The loop's invariant: the point at i begins a segment, and is not beyond the area read.
+-- `file_lookup::find` meets its contract. The loop's invariant: the point at i begins a segment, and is not beyond the area read.
 -- Assumes nothing.
 use mathlib.Core.Logic.{inl, inr}
 use Prim.Native.Nat.{_-_}
 use native.Mathlib.Omega.{arith}
-use Rattle.records.specs.Inner.{Begins}
-use Rattle.records.proofs.Placed.{taken-of}
-use Rattle.records.proofs.find.Statement.{statement}
-use Rattle.records.proofs.find.Tie as tie
+use Rattle.file_lookup.specs.Inner.{Begins}
+use Rattle.file_lookup.proofs.Placed.{taken-of}
+use Rattle.file_lookup.proofs.find.Statement.{statement}
+use Rattle.file_lookup.proofs.find.Tie as tie
 
 abbrev Inv-loop : tie.InvT-loop
 Inv-loop bytes n area i₀ i = Begins bytes n i area

@@ -1,4 +1,4 @@
--- `records::factor_at` meets its contract.
+-- `file_lookup::factor_at` meets its contract.
 -- Assumes nothing.
 use mathlib.Core.Path.{_≡_, sym}
 use Prim.Native.Nat.{suc, _<_}
@@ -9,9 +9,9 @@ use Rattle.model.specs.Inner.{segment-at}
 use Rattle.model.proofs.Accepted.{inside, reading-is}
 use Rattle.point.specs.Inner.{segment-of}
 use Rattle.layout.specs.Inner.{first-points}
-use Rattle.records.proofs.Placed.{areas-size, segment-is}
-use Rattle.records.proofs.factor_at.Statement.{statement}
-use Rattle.records.proofs.factor_at.Tie as tie
+use Rattle.file_lookup.proofs.Placed.{areas-size, segment-is}
+use Rattle.file_lookup.proofs.factor_at.Statement.{statement}
+use Rattle.file_lookup.proofs.factor_at.Tie as tie
 
 inner : (c : tie.Start) → suc (c .args .i) < c .args .n
 inner c = rw (areas-size (c .args .bytes .now) (c .args .n)) at (c .pre .1 .taken .reached .inner)

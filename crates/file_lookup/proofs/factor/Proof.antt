@@ -1,4 +1,4 @@
--- `records::factor` meets its contract: rows 1 to 7 are passed, and the reading is that in the segment found.
+-- `file_lookup::factor` meets its contract: rows 1 to 7 are passed, and the reading is that in the segment found.
 -- Assumes nothing.
 use mathlib.Core.Path.{_∙_}
 use mathlib.Core.List.{List}
@@ -8,10 +8,10 @@ use Rattle.model.specs.Points.{Point}
 use Rattle.model.specs.Read.{reading}
 use Rattle.model.proofs.Answers.{Given, given-of-rows}
 use Rattle.layout.specs.Inner.{first-points}
 use Rattle.records.specs.Inner.{CurvePoints}
-use Rattle.records.proofs.Placed.{curve-points, begins-first}
-use Rattle.records.proofs.factor.Statement.{statement}
-use Rattle.records.proofs.factor.Tie as tie
+use Rattle.file_lookup.proofs.Placed.{curve-points, begins-first}
+use Rattle.file_lookup.proofs.factor.Statement.{statement}
+use Rattle.file_lookup.proofs.factor.Tie as tie
 
 module _ (c : tie.Start) where
   abbrev ps : List Point

@@ -1,12 +1,12 @@
--- `records::outside` meets its contract.
+-- `file_lookup::outside` meets its contract.
 -- Assumes nothing.
 use native.Mathlib.Omega.{arith}
 use borrow.Author.Needs.{needs}
 use borrow.Author.Tests.{lt-ltb, le-ltb}
 use Rattle.layout.specs.Layout.{record-at}
-use Rattle.records.proofs.Placed.{outside-is}
-use Rattle.records.proofs.outside.Statement.{statement}
-use Rattle.records.proofs.outside.Tie as tie
+use Rattle.file_lookup.proofs.Placed.{outside-is}
+use Rattle.file_lookup.proofs.outside.Statement.{statement}
+use Rattle.file_lookup.proofs.outside.Tie as tie
 
 returns : tie.Need-returns
 returns c =

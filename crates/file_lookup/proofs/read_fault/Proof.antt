@@ -1,4 +1,4 @@
--- `records::read_fault` meets its contract: a fault of the curve, then row 7.
+-- `file_lookup::read_fault` meets its contract: a fault of the curve, then row 7.
 -- Assumes nothing.
 use mathlib.Core.Path.{_≡_, refl, sym, _∙_}
 use borrow.Author.Needs.{needs}
@@ -7,9 +7,9 @@ use Rattle.model.specs.Inner.{fault-answer, Accepted}
 use Rattle.model.proofs.Answers.{then-refused}
 use Rattle.rows.proofs.Faults.{a-fault, no-fault}
 use Rattle.layout.specs.Inner.{first-points}
-use Rattle.records.proofs.Placed.{curve-points}
-use Rattle.records.proofs.read_fault.Statement.{statement}
-use Rattle.records.proofs.read_fault.Tie as tie
+use Rattle.file_lookup.proofs.Placed.{curve-points}
+use Rattle.file_lookup.proofs.read_fault.Statement.{statement}
+use Rattle.file_lookup.proofs.read_fault.Tie as tie
 
 returns : tie.Need-returns
 returns c =

@@ -1,0 +1,2 @@
+-- Laws of a file's points.
+pub mod Placed

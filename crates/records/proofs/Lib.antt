@@ -1,2 +1,0 @@
--- Laws of a file's points that other crates cite.
-pub mod Placed
