@@ -1,12 +1,13 @@
 /*
  * Times the archive against plain.c on the same inputs in one run.
  *
- * For each row: a set of curves and areas, the answers and buffers compared,
- * then batches of both versions in turn. The ratio is the median over the
- * repetitions of (archive time / plain time).
+ *     bench FOLDER
  *
- * With -DHAVE_SHEET also sheet_factors, which takes the same arguments as
- * plain_sheet_factors; its 0 for a refusal does not occur here.
+ * FOLDER has the files that curves.py wrote. plain.c is here twice: compiled
+ * for any x86-64 (plain_...) and for this machine (native_...). For each row:
+ * 64 curves, the answers and buffers of the three compared, then batches of
+ * them in turn. A ratio is the median over the repetitions of (archive time /
+ * other time). Sheets are timed against GSL too, if steffen.c is linked.
  */
 #define _POSIX_C_SOURCE 199309L
 #include <stdio.h>
@@ -15,186 +16,182 @@
 #include <time.h>
 
 #include "desk.h"
-#include "plain.h"
+#include "factor_curves.h"
+#include "steffen.h"
 
-enum { CURVES = 64, CALLS = 4096, POINTS_MAX = 64, ENTRIES = 1024 };
-enum { REPETITIONS = 41, DESK_LOOPS = 8, SHEET_LOOPS = 2 };
-enum { TYPICAL, EXTREME };
+enum { CURVES = 64, CALLS = 4096, ENTRIES = CURVE_ENTRIES_MAX };
+enum { REPETITIONS = 101 };
+enum { ARCHIVE, PLAIN, NATIVE, VERSIONS, STEFFEN = VERSIONS, SIDES };
 
-typedef int32_t desk_fn(const uint8_t *, size_t, uint32_t, uint8_t *, size_t);
-typedef int32_t sheet_fn(const uint32_t *, size_t, const uint32_t *, size_t,
-                         const int32_t *, size_t, uint32_t, uint32_t, uint32_t,
-                         int32_t *, size_t);
-#ifdef HAVE_SHEET
-sheet_fn sheet_factors;
-#endif
+/* ---- the versions ---- */
 
 typedef struct {
-    uint32_t shape, count;
-    uint32_t areas[POINTS_MAX], values[POINTS_MAX];
-    int32_t slopes[POINTS_MAX];
-    uint8_t file[DESK_FILE_MAX];
-    size_t file_len;
-} curve;
+    __typeof__(desk_reading) *desk;
+    __typeof__(curve_read) *read;
+    __typeof__(curve_pair) *pair;
+    __typeof__(curve_check) *check;
+    __typeof__(curve_open) *open;
+    __typeof__(curve_sheet) *sheet;
+} version;
 
-typedef struct {
-    double ratio, archive_ns, plain_ns;
-} timing;
+/* What is not linked has the address 0 and is not timed. */
+#define WEAK __attribute__((weak))
+#define DECLARE(name)                                                          \
+    __typeof__(name) plain_##name WEAK, native_##name WEAK;
+DECLARE(desk_reading)
+DECLARE(curve_read)
+DECLARE(curve_pair)
+DECLARE(curve_check)
+DECLARE(curve_open)
+DECLARE(curve_sheet)
+__typeof__(steffen_sheet) steffen_sheet WEAK;
 
-static curve curves[CURVES];
-static uint32_t call_areas[CALLS];
-static uint8_t scratch[2][DESK_SCRATCH_MAX];
-static int32_t sheet[2][ENTRIES];
-static volatile int32_t sink;
-
-static void die(const char *why)
-{
-    fprintf(stderr, "bench: %s\n", why);
-    exit(1);
-}
+#define ALL(prefix)                                                            \
+    {prefix##desk_reading, prefix##curve_read, prefix##curve_pair,             \
+     prefix##curve_check,  prefix##curve_open, prefix##curve_sheet}
+static const version versions[VERSIONS] = {ALL(), ALL(plain_), ALL(native_)};
 
 /* ---- inputs ---- */
 
-static uint64_t state;
+typedef struct {
+    uint32_t shape;
+    size_t count, file_len;
+    uint32_t areas[CURVE_POINTS_MAX], values[CURVE_POINTS_MAX];
+    int32_t slopes[CURVE_POINTS_MAX];
+    double x[CURVE_POINTS_MAX], y[CURVE_POINTS_MAX];
+    uint8_t file[CURVE_FILE_MAX];
+} curve;
 
-/* A number from low to high, from a fixed seed. */
-static int64_t any(int64_t low, int64_t high)
+static curve curves[CURVES];
+static uint32_t call_areas[CALLS], more_areas[CALLS];
+
+static void die(const char *why, const char *what)
 {
+    fprintf(stderr, "bench: %s%s\n", why, what);
+    exit(1);
+}
+
+static void load(curve *c, const char *name)
+{
+    FILE *file = fopen(name, "rb");
+    if (file == NULL)
+        die("cannot read ", name);
+    c->file_len = fread(c->file, 1, sizeof c->file, file);
+    fclose(file);
+    int64_t opened = curve_open(c->file, c->file_len, c->areas, CURVE_POINTS_MAX,
+                                c->values, CURVE_POINTS_MAX, c->slopes,
+                                CURVE_POINTS_MAX);
+    if (CURVE_IS_REFUSED(opened))
+        die("refused: ", name);
+    c->shape = CURVE_SHAPE(opened);
+    c->count = CURVE_COUNT(opened);
+    for (size_t i = 0; i < c->count; i++) {
+        c->x[i] = c->areas[i];
+        c->y[i] = c->values[i];
+    }
+}
+
+/* An area of the curve, from a fixed seed. */
+static uint32_t some_area(const curve *c)
+{
+    static uint64_t state = 20000;
+    uint32_t first = c->areas[0], last = c->areas[c->count - 1];
     state = state * 6364136223846793005u + 1442695040888963407u;
-    return low + (int64_t)((state >> 33) % (uint64_t)(high - low + 1));
+    return first + (uint32_t)((state >> 33) % (last - first + 1));
 }
 
-static int64_t some_gap(uint32_t count, int tariff, uint32_t shape)
+static void load_all(const char *folder, const char *shape, int count,
+                     const char *tariff)
 {
-    if (tariff == TYPICAL)
-        return count == 2 ? any(1200, 2000) : count == 8 ? any(200, 600)
-                                                         : any(60, 300);
-    if (shape == 2)
-        return count == 2 ? 2000 : count == 8 ? any(900, 1100) : any(90, 120);
-    return count == 64 ? any(250, 317) : any(1900, 2000);
-}
-
-static void make_rising(curve *c, int tariff)
-{
-    int64_t share = 200000 / (c->count - 1);
-    int64_t area = any(0, 500), value = tariff == TYPICAL ? any(3000, 9000) : 0;
-    for (uint32_t i = 0; i < c->count; i++) {
-        c->areas[i] = (uint32_t)area;
-        c->values[i] = (uint32_t)value;
-        c->slopes[i] = (int32_t)(tariff == TYPICAL ? any(50, 300)
-                                                   : any(5000, 10000));
-        area += some_gap(c->count, tariff, 1);
-        value += tariff == TYPICAL ? any(50, 500) : any(share - 9, share);
-    }
-}
-
-/* Slopes that grow evenly; each chord about half way between its slopes. */
-static void make_convex(curve *c, int tariff)
-{
-    int64_t first = tariff == TYPICAL ? -300 : -10000;
-    int64_t rises[POINTS_MAX], height = 0, low = 0;
-    int64_t area = any(0, 500), n = c->count - 1;
-    int64_t gap = some_gap(c->count, tariff, 2);
-    for (int64_t i = 0; i <= n; i++) {
-        c->slopes[i] = (int32_t)(first - 2 * first * i / n);
-        c->areas[i] = (uint32_t)(area + gap * i);
-    }
-    for (int64_t i = 0; i < n; i++) {
-        int64_t wide = gap * (c->slopes[i + 1] - c->slopes[i]) / 500;
-        rises[i] = gap * (c->slopes[i] + c->slopes[i + 1]) / 200 +
-                   any(-wide, wide);
-        height += rises[i];
-        low = height < low ? height : low;
-    }
-    height = -low;
-    for (int64_t i = 0; i <= n; i++) {
-        c->values[i] = (uint32_t)height;
-        height += i < n ? rises[i] : 0;
-    }
-}
-
-static void store32(uint8_t *to, uint32_t x)
-{
-    for (int i = 0; i < 4; i++)
-        to[i] = (uint8_t)(x >> 8 * i);
-}
-
-static void make_file(curve *c)
-{
-    memcpy(c->file, "TRF\1\0", 5);
-    c->file[5] = (uint8_t)c->shape;
-    c->file[6] = (uint8_t)c->count;
-    for (uint32_t i = 0; i < c->count; i++) {
-        uint8_t *record = c->file + 7 + 12 * i;
-        store32(record, c->areas[i]);
-        store32(record + 4, c->values[i]);
-        store32(record + 8, (uint32_t)c->slopes[i]);
-    }
-    c->file_len = 7 + 12 * (size_t)c->count;
-}
-
-static void make_inputs(uint32_t count, uint32_t shape, int tariff)
-{
-    state = 20000 + 10 * count + 2 * shape + (uint32_t)tariff;
+    char name[4096];
     for (int i = 0; i < CURVES; i++) {
-        curves[i].shape = shape;
-        curves[i].count = count;
-        if (shape == 1)
-            make_rising(&curves[i], tariff);
-        else
-            make_convex(&curves[i], tariff);
-        make_file(&curves[i]);
+        snprintf(name, sizeof name, "%s/%s-%d-%s-%02d.trf", folder, shape,
+                 count, tariff, i);
+        load(&curves[i], name);
     }
     for (int i = 0; i < CALLS; i++) {
-        const curve *c = &curves[i % CURVES];
-        call_areas[i] = (uint32_t)any(c->areas[0], c->areas[count - 1]);
+        call_areas[i] = some_area(&curves[i % CURVES]);
+        more_areas[i] = some_area(&curves[i % CURVES]);
     }
 }
 
-/* ---- the two calls ---- */
+/* ---- one call; i says which curve and area ---- */
 
-static int32_t one_reading(desk_fn *f, int i, uint8_t *to)
+typedef struct {
+    uint8_t scratch[DESK_SCRATCH_MAX];
+    uint32_t areas[CURVE_POINTS_MAX], values[CURVE_POINTS_MAX];
+    int32_t slopes[CURVE_POINTS_MAX];
+    int32_t sheet[ENTRIES];
+} output;
+
+typedef int64_t one_fn(const version *v, int i, output *to);
+
+#define LISTS(c)                                                               \
+    (c)->areas, (c)->count, (c)->values, (c)->count, (c)->slopes, (c)->count,  \
+        (c)->shape
+
+static inline int64_t one_desk(const version *v, int i, output *to)
 {
     const curve *c = &curves[i % CURVES];
-    return f(c->file, c->file_len, call_areas[i], to, DESK_SCRATCH_MAX);
+    return v->desk(c->file, c->file_len, call_areas[i], to->scratch,
+                   DESK_SCRATCH_MAX);
 }
 
-static int32_t one_sheet(sheet_fn *f, int i, int32_t *to)
+static inline int64_t one_read(const version *v, int i, output *to)
 {
-    const curve *c = &curves[i];
-    uint32_t first = c->areas[0], last = c->areas[c->count - 1];
-    return f(c->areas, c->count, c->values, c->count, c->slopes, c->count,
-             c->shape, first, (last - first) / (ENTRIES - 1), to, ENTRIES);
+    (void)to;
+    return v->read(LISTS(&curves[i % CURVES]), call_areas[i]);
 }
 
-/* Both versions agree on every input, and none is refused. */
-static void check_desk(void)
+static inline int64_t one_pair(const version *v, int i, output *to)
 {
-    for (int i = 0; i < CALLS; i++) {
-        memset(scratch, 0x5A, sizeof scratch);
-        int32_t a = one_reading(desk_reading, i, scratch[0]);
-        int32_t p = one_reading(plain_desk_reading, i, scratch[1]);
-        if (a != p || DESK_IS_REFUSED(a))
-            die("the readings differ, or one is refused");
-        if (memcmp(scratch[0], scratch[1], DESK_SCRATCH_MAX) != 0)
-            die("the scratches differ");
-    }
+    return v->pair(LISTS(&curves[i % CURVES]), call_areas[i], more_areas[i],
+                   to->sheet, 3);
 }
 
-static void check_sheet(sheet_fn *f)
+static inline int64_t one_check(const version *v, int i, output *to)
 {
-    for (int i = 0; i < CURVES; i++) {
-        memset(sheet, 0x5A, sizeof sheet);
-        int32_t a = one_sheet(f, i, sheet[0]);
-        int32_t p = one_sheet(plain_sheet_factors, i, sheet[1]);
-        if (a != p || p != ENTRIES)
-            die("the sheets' answers differ, or one is refused");
-        if (memcmp(sheet[0], sheet[1], sizeof sheet[0]) != 0)
-            die("the sheets differ");
-    }
+    (void)to;
+    return v->check(LISTS(&curves[i % CURVES]));
 }
 
-/* ---- timing ---- */
+static inline int64_t one_open(const version *v, int i, output *to)
+{
+    const curve *c = &curves[i % CURVES];
+    return v->open(c->file, c->file_len, to->areas, CURVE_POINTS_MAX,
+                   to->values, CURVE_POINTS_MAX, to->slopes, CURVE_POINTS_MAX);
+}
+
+/* From the first area on, as far as whole steps go. */
+static uint32_t step_of(const curve *c)
+{
+    return (c->areas[c->count - 1] - c->areas[0]) / (ENTRIES - 1);
+}
+
+static inline int64_t one_sheet(const version *v, int i, output *to)
+{
+    const curve *c = &curves[i % CURVES];
+    return v->sheet(LISTS(c), c->areas[0], step_of(c), to->sheet, ENTRIES);
+}
+
+static double steffen_out[ENTRIES];
+
+static inline int64_t one_steffen(const version *v, int i, output *to)
+{
+    const curve *c = &curves[i % CURVES];
+    (void)v;
+    (void)to;
+    if (!steffen_sheet(c->x, c->y, c->count, c->x[0], step_of(c), steffen_out,
+                       ENTRIES) ||
+        steffen_out[0] != c->y[0])
+        die("GSL refuses a curve", "");
+    return (int64_t)steffen_out[ENTRIES - 1];
+}
+
+/* ---- batches ---- */
+
+static output written[2];
+static volatile int64_t sink;
 
 static double now(void)
 {
@@ -203,29 +200,77 @@ static double now(void)
     return (double)t.tv_sec * 1e9 + (double)t.tv_nsec;
 }
 
-/* Nanoseconds for one reading. */
-static double desk_batch(desk_fn *f)
+/* Nanoseconds for one call. */
+static inline double timed(one_fn *one, const version *v, int calls, int loops)
 {
-    int32_t sum = 0;
+    int64_t sum = 0;
     double start = now();
-    for (int loop = 0; loop < DESK_LOOPS; loop++)
-        for (int i = 0; i < CALLS; i++)
-            sum ^= one_reading(f, i, scratch[0]);
+    for (int loop = 0; loop < loops; loop++)
+        for (int i = 0; i < calls; i++)
+            sum ^= one(v, i, &written[0]);
     sink = sum;
-    return (now() - start) / DESK_LOOPS / CALLS;
+    return (now() - start) / loops / calls;
 }
 
-/* Nanoseconds for one entry of a sheet. */
-static double sheet_batch(sheet_fn *f)
+typedef double batch_fn(const version *v, int loops);
+
+#define BATCH(name)                                                            \
+    static double name##_batch(const version *v, int loops)                    \
+    {                                                                          \
+        return timed(one_##name, v, CALLS, loops);                             \
+    }
+BATCH(desk)
+BATCH(read)
+BATCH(pair)
+BATCH(check)
+BATCH(open)
+
+/* Nanoseconds for one entry, which do not depend much on the points. */
+static double sheet_batch(const version *v, int loops)
 {
-    int32_t sum = 0;
-    double start = now();
-    for (int loop = 0; loop < SHEET_LOOPS; loop++)
-        for (int i = 0; i < CURVES; i++)
-            sum ^= one_sheet(f, i, sheet[0]);
-    sink = sum;
-    return (now() - start) / SHEET_LOOPS / CURVES / ENTRIES;
+    (void)loops;
+    return timed(one_sheet, v, CURVES, 2) / ENTRIES;
 }
+
+static double steffen_batch(void)
+{
+    return timed(one_steffen, NULL, CURVES, 2) / ENTRIES;
+}
+
+/* ---- the calls ---- */
+
+typedef struct {
+    const char *name;
+    int present, calls, tariffs;
+    one_fn *one;
+    batch_fn *batch;
+    double least[SIDES], most[SIDES]; /* ratios */
+} call;
+
+/* The three agree on every input, and refuse none. */
+static void compare(const call *c)
+{
+    for (int i = 0; i < c->calls; i++) {
+        memset(&written[0], 0x5A, sizeof written[0]);
+        int64_t wanted = c->one(&versions[ARCHIVE], i, &written[0]);
+        if (wanted < -200000)
+            die("refused: ", c->name);
+        for (int k = PLAIN; k < VERSIONS; k++) {
+            memset(&written[1], 0x5A, sizeof written[1]);
+            if (c->one(&versions[k], i, &written[1]) != wanted)
+                die("the answers differ: ", c->name);
+            if (memcmp(&written[0], &written[1], sizeof written[0]) != 0)
+                die("the buffers differ: ", c->name);
+        }
+    }
+}
+
+/* ---- measuring ---- */
+
+typedef struct {
+    int sides;
+    double ns[SIDES], ratio[SIDES];
+} timing;
 
 static int by_size(const void *a, const void *b)
 {
@@ -240,63 +285,115 @@ static double median(double *x)
 }
 
 /* Which goes first changes with each repetition. */
-static timing measure(sheet_fn *f)
+static timing measure(const call *c, int sides, int loops)
 {
-    double ratio[REPETITIONS], archive[REPETITIONS], plain[REPETITIONS];
-    for (int k = 0; k < REPETITIONS; k++)
-        for (int turn = 0; turn < 2; turn++) {
-            if ((k + turn) % 2 == 0)
-                archive[k] = f ? sheet_batch(f) : desk_batch(desk_reading);
-            else
-                plain[k] = f ? sheet_batch(plain_sheet_factors)
-                             : desk_batch(plain_desk_reading);
+    static double ns[SIDES][REPETITIONS], ratio[SIDES][REPETITIONS];
+    timing t = {sides, {0}, {0}};
+    for (int r = 0; r < REPETITIONS; r++) {
+        for (int turn = 0; turn < sides; turn++) {
+            int k = (r + turn) % sides;
+            ns[k][r] = k == STEFFEN ? steffen_batch()
+                                    : c->batch(&versions[k], loops);
         }
-    for (int k = 0; k < REPETITIONS; k++)
-        ratio[k] = archive[k] / plain[k];
-    timing t = {median(ratio), median(archive), median(plain)};
+        for (int k = 0; k < sides; k++)
+            ratio[k][r] = ns[ARCHIVE][r] / ns[k][r];
+    }
+    for (int k = 0; k < sides; k++) {
+        t.ns[k] = median(ns[k]);
+        t.ratio[k] = median(ratio[k]);
+    }
     return t;
 }
 
-static void print_row(const char *call, uint32_t count, uint32_t shape,
-                      int tariff, timing t)
+static void widen(call *c, const timing *t)
 {
-    printf("| %-11s | %6u | %-6s | %-7s | %7.2f | %7.2f | %5.2f |\n", call,
-           (unsigned)count, shape == 1 ? "rising" : "convex",
-           tariff == TYPICAL ? "typical" : "extreme", t.archive_ns, t.plain_ns,
-           t.ratio);
+    for (int k = PLAIN; k < t->sides; k++) {
+        if (c->most[k] == 0 || t->ratio[k] < c->least[k])
+            c->least[k] = t->ratio[k];
+        if (t->ratio[k] > c->most[k])
+            c->most[k] = t->ratio[k];
+    }
+}
+
+/* ---- the table ---- */
+
+static void print_head(void)
+{
+    printf("| %-12s | points | shape  | tariff  | archive |   plain | ratio "
+           "|  native | ratio |     GSL | ratio |\n"
+           "|--------------|--------|--------|---------|---------|---------|"
+           "-------|---------|-------|---------|-------|\n",
+           "call");
+}
+
+static void print_row(const char *name, const char *shape, int count,
+                      const char *tariff, const timing *t)
+{
+    printf("| %-12s | %6d | %-6s | %-7s | %7.2f |", name, count, shape, tariff,
+           t->ns[ARCHIVE]);
+    for (int k = PLAIN; k < SIDES; k++)
+        if (k < t->sides)
+            printf(" %7.2f | %5.2f |", t->ns[k], t->ratio[k]);
+        else
+            printf(" %7s | %5s |", "", "");
+    putchar('\n');
     fflush(stdout);
 }
 
-static void row(uint32_t count, uint32_t shape, int tariff, sheet_fn *f)
+static void print_range(const call *c)
 {
-    make_inputs(count, shape, tariff);
-    if (f)
-        check_sheet(f);
-    else
-        check_desk();
-    print_row(f ? "sheet entry" : "reading", count, shape, tariff, measure(f));
+    static const char *const others[] = {"archive", "plain", "native", "GSL"};
+    printf("%s:", c->name);
+    if (!c->present)
+        printf(" SKIPPED, not in plain.c");
+    for (int k = PLAIN; k < SIDES; k++)
+        if (c->most[k] > 0)
+            printf("%s %.2f to %.2f of %s", k > PLAIN ? "," : "", c->least[k],
+                   c->most[k], others[k]);
+    putchar('\n');
 }
 
-static void rows(sheet_fn *f)
+static void rows(call *c, const char *folder)
 {
-    static const uint32_t counts[] = {2, 8, 64};
-    for (int k = 0; k < 3; k++)
-        for (uint32_t shape = 1; shape <= 2; shape++)
-            for (int tariff = TYPICAL; tariff <= EXTREME; tariff++)
-                row(counts[k], shape, tariff, f);
+    static const char *const shapes[] = {"rising", "convex"};
+    static const char *const tariffs[] = {"typical", "extreme"};
+    static const int counts[] = {2, 8, 64}, loops[] = {6, 3, 1};
+    for (int n = 0; n < 3; n++)
+        for (int s = 0; s < 2; s++)
+            for (int k = 0; k < c->tariffs; k++) {
+                load_all(folder, shapes[s], counts[n], tariffs[k]);
+                compare(c);
+                int gsl = c->one == one_sheet && steffen_sheet != NULL &&
+                          counts[n] >= STEFFEN_POINTS_MIN;
+                timing t = measure(c, VERSIONS + gsl, loops[n]);
+                print_row(c->name, shapes[s], counts[n], tariffs[k], &t);
+                widen(c, &t);
+            }
 }
 
-int main(void)
+#define CALL(title, function, name, calls, tariffs)                             \
+    {title, plain_##function && native_##function, calls, tariffs, one_##name,  \
+     name##_batch, {0}, {0}}
+
+int main(int argc, char **argv)
 {
-    printf("| call        | points | shape  | tariff  | archive |   plain "
-           "| ratio |\n"
-           "|-------------|--------|--------|---------|---------|---------"
-           "|-------|\n");
-    rows(NULL);
-#ifdef HAVE_SHEET
-    rows(sheet_factors);
-#endif
-    printf("archive, plain: nanoseconds; ratio: archive / plain, median of %d\n",
-           REPETITIONS);
+    call calls[] = {
+        CALL("desk reading", desk_reading, desk, CALLS, 2),
+        CALL("sheet entry", curve_sheet, sheet, CURVES, 2),
+        CALL("read", curve_read, read, CALLS, 2),
+        CALL("pair", curve_pair, pair, CALLS, 1),
+        CALL("check", curve_check, check, CALLS, 1),
+        CALL("open", curve_open, open, CALLS, 1),
+    };
+    size_t count = sizeof calls / sizeof *calls;
+    if (argc != 2)
+        die("usage: bench FOLDER", "");
+    print_head();
+    for (size_t k = 0; k < count; k++)
+        if (calls[k].present)
+            rows(&calls[k], argv[1]);
+    printf("nanoseconds; ratio: archive / other, median of %d\n", REPETITIONS);
+    for (size_t k = 0; k < count; k++)
+        print_range(&calls[k]);
     return 0;
 }
