@@ -6,7 +6,7 @@ ghost use Rattle.model.specs.Read.{outside as lies-outside, reading};
 ghost use Rattle.model.specs.Inner.{fault-answer, read-rows, areas-of, Taken, Readable};
 ghost use Rattle.layout.specs.Inner.{first-points, Holds};
 ghost use Rattle.records.specs.Inner.{CurvePoints};
-ghost use Rattle.file_lookup.specs.Inner.{Begins};
+ghost use Rattle.file_lookup.specs.Inner.{Begins, Strides, LastOf};
 use layout::area_of;
 use layout::record_at;
 use rows::Fault;
@@ -22,34 +22,34 @@ fn outside(bytes: &[u8], n: usize, area: u32) -> bool
     area_of(bytes, n - 1) < area
 }
 
-// Looks at every eighth point that begins a segment, up to the last of them whose area is not above the area.
-fn skip(bytes: &[u8], n: usize, area: u32) -> usize
-    requires { ⌜ CurvePoints n (length (now bytes)) × Begins (now bytes) n 0 area ⌝ }
-    ensures { λ r. ⌜ Begins (now (bytes .entry)) n r area ⌝ }
+// From a point that is not above the area, the last of every step-th point before `end` that is not. All of them are looked at, so
+// that no branch depends on the area.
+fn last_not_above(bytes: &[u8], n: usize, from: usize, step: usize, end: usize, area: u32) -> usize
+    requires { ⌜ CurvePoints n (length (now bytes)) × Strides n from step end × Begins (now bytes) n from area ⌝ }
+    ensures { λ r. ⌜ LastOf (now (bytes .entry)) n r step end area ⌝ }
 {
-    let mut i: usize = 0;
-    while i + 9 < n {
-        if area < area_of(bytes, i + 8) {
-            return i;
+    let mut last = from;
+    let mut i = from + step;
+    while i < end {
+        if area_of(bytes, i) <= area {
+            last = i;
         }
-        i += 8;
+        i += step;
     }
-    i
+    last
 }
 
-// The index of the left point of the segment that the area takes.
+// The index of the left point of the segment that the area takes: among every eighth point, then among those from there on.
 fn find(bytes: &[u8], n: usize, area: u32) -> usize
     requires { ⌜ CurvePoints n (length (now bytes)) × Begins (now bytes) n 0 area ⌝ }
     ensures { λ r. ⌜ Taken (areas-of (first-points (now (bytes .entry)) n)) r area ⌝ }
 {
-    let mut i = skip(bytes, n, area);
-    while i + 2 < n {
-        if area < area_of(bytes, i + 1) {
-            return i;
-        }
-        i += 1;
+    let from = last_not_above(bytes, n, 0, 8, n - 1, area);
+    let mut end = n - 1;
+    if from + 8 < end {
+        end = from + 8;
     }
-    i
+    last_not_above(bytes, n, from, 1, end, area)
 }
 
 // The factor at an area that takes the segment at i.
