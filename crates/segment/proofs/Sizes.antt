@@ -3,9 +3,10 @@
 --   left-weights, right-weights   what the two calls of `part` ask
 --   whole-size, share-size, rising-size   B, A F with B / 2 for the rounding, and the factor
 --   tangent-size, divisor-size, denominator-size, excess-size, raised-size   the parts of the convex curve, and their sum
+--   w-most, w-most-size   w in the whole segment
 --   OneLow, least-near   what is above the tangent, by leading bits: at most 1 too low
 -- Assumes nothing.
-use Prim.Native.Nat.{ℕ, _+_, _-_, _*_, _/_, _^_, _≤_, _<_}
+use Prim.Native.Nat.{ℕ, zero, suc, _+_, _-_, _*_, _/_, _^_, _≤_, _<_}
 use native.Mathlib.Nat.{mul-le-mul, mul-le-mul-left, mul-le-mul-right, le-mul-of-pos-right, div-le-self, add-div-right}
 use native.Mathlib.Omega.{arith}
 use lib.Ieee.Nearest.{div-mono}
@@ -90,6 +91,10 @@ module _ (w x y z : ℕ)
 
 -- ---- convex
 
+positive-right : (m n : ℕ) → 0 < m * n → 0 < n
+positive-right m zero k = omega (arith, k)
+positive-right m (suc n) k = omega arith
+
 module _ {t u h left d a b : ℕ} (k : ConvexInput t u h left d a b) where
   abbrev w : ℕ
   w = b * t
@@ -117,10 +122,18 @@ module _ {t u h left d a b : ℕ} (k : ConvexInput t u h left d a b) where
   pub excess-size : w * w / (divisor * h) ≤ w
   excess-size = scaled-size {x = w} {c = divisor * h} w (omega (arith, le-mul-of-pos-right divisor h-positive))
 
-  pub least-near : 2 ^ 32 ≤ w → OneLow (w * w / (divisor * h)) (w / 32 * (w / 32) / (divisor * h / 1024 + 1))
-  least-near n =
-      let long = mul-le-mul-right t (k .below) in
-      let m = k .sum in
+  -- w in the whole segment
+  pub w-most : w ≤ b * h
+  w-most = mul-le-mul-left b (omega (arith, k .sum))
+
+  pub w-most-size : b * h ≤ 2 * over-most * gap-most
+  w-most-size = mul-le-mul (k .below) h-size
+
+  pub least-near : 2 ^ 32 ≤ b * h → 0 < w → OneLow (w * w / (divisor * h)) (w / 32 * (w / 32) / (divisor * h / 1024 + 1))
+  least-near n some =
+      let steep = mul-le-mul-left b h-size in
+      let long = mul-le-mul-right h (k .below) in
+      let once = le-mul-of-pos-right b (positive-right b t some) in
       leading w (w / 32) (divisor * h / 1024 + 1) (divisor * h)
       (omega arith) (omega arith) (omega arith) (omega arith) (omega arith)
       (mul-le-mul {n₁ = w} {m₁ = 100} {n₂ = divisor} {m₂ = h} (omega arith) (omega arith))

@@ -5,14 +5,16 @@ use mathlib.Core.Path.{refl}
 use native.Mathlib.Nat.{mul-pos, div-div-eq-div-mul}
 use native.Mathlib.Omega.{arith}
 use Rattle.exact.proofs.Magnitude.{product-size}
-use Rattle.segment.proofs.Sizes.{h-positive, tangent-size, divisor-size, denominator-size}
+use Rattle.segment.proofs.Sizes.{h-positive, tangent-size, divisor-size, denominator-size, w-most, w-most-size}
 use Rattle.segment.proofs.Sizes.{excess-size, raised-size, least-near}
 use Rattle.segment.proofs.raised.Statement.{statement}
 use Rattle.segment.proofs.raised.Tie as tie
 
 -- w w in 64 bits
 mul-result : tie.Need-mul-result
-mul-result c = record { fits = product-size 32 32 (omega arith) (omega arith) }
+mul-result c =
+    let n = w-most (c .before .before .pre) in
+    record { fits = product-size 32 32 (omega arith) (omega arith) }
 
 div-result : tie.Need-div-result
 div-result c = mul-pos (omega arith) (h-positive (c .before .before .pre))
@@ -24,10 +26,10 @@ mul-least c =
     record { fits = product-size 32 32 (omega arith) (omega arith) }
 
 add-least-2 : tie.Need-add-least-2
-add-least-2 c = omega (arith, least-near (c .before .before .pre) (omega arith), raised-size (c .before .before .pre))
+add-least-2 c = omega (arith, least-near (c .before .before .pre) (omega arith) (omega arith), raised-size (c .before .before .pre))
 
 returns-3 : tie.Need-returns-3
-returns-3 c = omega (arith, least-near (c .before .before .before .pre) (omega arith))
+returns-3 c = omega (arith, least-near (c .before .before .before .pre) (omega arith) (omega arith))
 
 -- in full
 mul-div-requires : tie.Need-mul-div-requires
@@ -47,6 +49,6 @@ raised-spec =
     tie.close
     (tie.spec (search needs) (search needs) (search needs) (omega (arith, tangent-size)) (omega (arith, tangent-size))
     (omega (arith, divisor-size)) (omega (arith, excess-size)) (omega (arith, divisor-size)) (omega (arith, divisor-size))
-    mul-result (omega (arith, denominator-size)) div-result (λ c. omega (arith, raised-size (c .before .before .pre))) (λ c. refl)
+    (omega (arith, w-most-size)) mul-result (omega (arith, denominator-size)) div-result (λ c. omega (arith, raised-size (c .before .before .pre))) (λ c. refl)
     mul-least (omega (arith, denominator-size)) (omega (arith, denominator-size)) (search needs)
     add-least-2 returns-3 mul-div-requires (omega (arith, h-positive)) add-result-2 returns-4)
