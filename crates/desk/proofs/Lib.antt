@@ -2,3 +2,4 @@
 pub mod Numbered
 pub mod Apart
 pub mod Records
+pub mod Blocks

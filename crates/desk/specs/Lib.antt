@@ -1,3 +1,4 @@
 -- The desk reading.
 pub mod Desk
 pub mod Laws
+pub mod Inner

@@ -2,8 +2,10 @@
 ghost use mathlib.Core.Path.{_≡_};
 ghost use Prim.Native.Nat.{_≤_};
 ghost use lib.IntN.{pos, negℤ, _-ℤ_};
-ghost use lib.ListN.{length};
+ghost use mathlib.Core.List.{_++_};
+ghost use lib.ListN.{length, take, drop};
 ghost use Rattle.desk.specs.Desk.{desk-answer, desk-number, desk-scratch};
+ghost use Rattle.desk.specs.Inner.{Fits, copied};
 use layout::HEAD_SIZE;
 use layout::RECORD_SIZE;
 
@@ -13,6 +15,46 @@ fn refusal(number: u32) -> i32
     ensures { λ r. ⌜ r ≡ negℤ (pos 1000000) -ℤ pos number ⌝ }
 {
     -1000000 - (number as i32)
+}
+
+// Two functions that copy a block from `at` on. Its size is known, so the compiler moves it at once and not byte by byte.
+fn copy_48(src: &[u8], at: usize, dst: &mut [u8])
+    requires { ⌜ Fits at 48 (length (now src)) (length (now dst)) ⌝ }
+    ensures { λ _. ⌜ now (dst .exit) ≡ copied at 48 (now (src .entry)) (now (dst .entry)) ⌝ }
+{
+    let mut block = [0u8; 48];
+    let end = at + 48;
+    bytes::copy(&src[at..end], &mut block);
+    bytes::copy(&block, &mut dst[at..]);
+}
+
+fn copy_24(src: &[u8], at: usize, dst: &mut [u8])
+    requires { ⌜ Fits at 24 (length (now src)) (length (now dst)) ⌝ }
+    ensures { λ _. ⌜ now (dst .exit) ≡ copied at 24 (now (src .entry)) (now (dst .entry)) ⌝ }
+{
+    let mut block = [0u8; 24];
+    let end = at + 24;
+    bytes::copy(&src[at..end], &mut block);
+    bytes::copy(&block, &mut dst[at..]);
+}
+
+// Copies all of src to the start of dst: by blocks of four records, then of two, then the rest.
+fn copy(src: &[u8], dst: &mut [u8])
+    requires { ⌜ length (now src) ≤ length (now dst) ⌝ }
+    ensures { λ _. ⌜ now (dst .exit)
+        ≡ take (length (now (src .entry))) (now (src .entry)) ++ drop (length (now (src .entry))) (now (dst .entry)) ⌝ }
+{
+    let n = src.len();
+    let mut at: usize = 0;
+    while n - at >= 48 {
+        copy_48(src, at, dst);
+        at += 48;
+    }
+    while n - at >= 24 {
+        copy_24(src, at, dst);
+        at += 24;
+    }
+    bytes::copy(&src[at..], &mut dst[at..]);
 }
 
 #[no_mangle]
@@ -36,6 +78,6 @@ pub extern "C" fn desk_reading(bytes: &[u8], area: u32, scratch: &mut [u8]) -> i
         return refusal(found.number);
     }
     let factor = file_lookup::factor(bytes, n, shape, area);
-    bytes::copy(&bytes[HEAD_SIZE..], scratch);
+    copy(&bytes[HEAD_SIZE..], scratch);
     factor
 }

@@ -118,7 +118,7 @@ returns-4 c =
     let g = given-of-rows _ _ _ (points-pass passed) in
     let e = points-decide (passed .before) ∙ reading-given _ _ _ (g .accepted) (g .within) in (
       rw (toZ-ofZ (record { sfits = f .ok }), f .ensures, e),
-      rw e (copied .copy .ensures .1 ∙ body-copied (input (passed .before)) (whole (passed .before)) _),
+      rw e (copied .copy .ensures ∙ body-copied (input (passed .before)) (whole (passed .before)) _),
     )
 
 pub desk-reading-spec : {M : Type 1} → statement M
