@@ -36,13 +36,16 @@ def figure(named: Sequence[Named]) -> Figure:
     made = Figure(figsize=(7.5, 4.5))
     axes = made.add_subplot(1, 1, 1)
     looks = zip(itertools.cycle(STYLES), itertools.cycle(COLOURS))
-    for (path, curve, factors), (style, colour) in zip(named, looks):
+    for index, (path, curve, factors) in enumerate(named):
+        style, colour = next(looks)
         areas = range(curve.first_area, curve.last_area + 1)
         axes.plot([area / 10 for area in areas], [factor / 10000 for factor in factors],
-                  linestyle=style, color=colour, linewidth=1.6, label=label(path, curve))
+                  linestyle=style, color=colour, linewidth=1.6, label=label(path, curve),
+                  gid='curve-%d' % index)
     points = sorted({(point.area, point.value) for _, curve, _ in named for point in curve.points})
     axes.plot([area / 10 for area, _ in points], [value / 10000 for _, value in points],
-              linestyle='none', marker='o', markersize=5, color='black', label='rated points')
+              linestyle='none', marker='o', markersize=5, color='black', label='rated points',
+              gid='rated-points')
     axes.set_xlabel('floor area (m\u00b2)')
     axes.set_ylabel('factor')
     axes.grid(color='#dddddd', linewidth=0.6)
