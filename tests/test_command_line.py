@@ -11,11 +11,13 @@ import io
 import os
 import random
 import re
+import resource
 import shlex
 import signal
 import subprocess
 import sys
 import tempfile
+import time
 import unittest
 import xml.etree.ElementTree
 from fractions import Fraction
@@ -64,19 +66,27 @@ def inside(*words, data=b''):
 
 
 def environment(**changes):
-    return dict(os.environ, PYTHONDONTWRITEBYTECODE='1',
-                PYTHONPATH=os.path.join(ROOT, 'python'), **changes)
+    """The environment without what changes Python's own streams, and with these changes."""
+    kept = {name: text for name, text in os.environ.items() if not name.startswith('PYTHON')}
+    return dict(kept, PYTHONDONTWRITEBYTECODE='1', PYTHONPATH=os.path.join(ROOT, 'python'),
+                **changes)
 
 
-def run(*words, closed=(), env=None, **streams):
-    """A run in a process of its own; `closed` are the streams that it does not have."""
-    def close():
+def run(*words, closed=(), limit=None, env=None, **streams):
+    """A run in a process of its own.
+
+    closed  the streams that it does not have
+    limit   the most bytes that a file of it may have
+    """
+    def prepare():
         for number in closed:
             os.close(number)
+        if limit is not None:
+            resource.setrlimit(resource.RLIMIT_FSIZE, (limit, limit))
     streams.setdefault('stdin', subprocess.DEVNULL)
     streams.setdefault('stdout', subprocess.PIPE)
     streams.setdefault('stderr', subprocess.PIPE)
-    done = subprocess.run(COMMAND + list(words), preexec_fn=close, env=env or environment(),
+    done = subprocess.run(COMMAND + list(words), preexec_fn=prepare, env=env or environment(),
                           timeout=60, **streams)
     return Done(done.returncode, done.stdout, (done.stderr or b'').decode())
 
@@ -249,10 +259,11 @@ class Sheets(Case):
             self.assert_refused(inside('sheet', path, '--step', '1', '--count', str(number)), 7,
                                 count, ' (area 2001; the curve goes from 300 to 2000)')
 
-    def test_twenty_sheets(self):
-        done = inside('sheet', os.path.join(SAMPLES, 'whole-range.trf'), '--step', '1')
-        lines = done.out.splitlines()[1:]
-        self.assertEqual([int(line.split()[0]) for line in lines], list(range(20001)))
+    def test_longer_steps(self):
+        path = os.path.join(SAMPLES, 'whole-range.trf')
+        curve = ref.file_lists(open_bytes(path)) + (1,)
+        self.assertEqual(inside('sheet', path, '--step', '7').out, self.text(curve, 0, 7, 2858))
+        self.assertEqual(inside('sheet', path, '--step', '1').out.count('\n'), 20002)
 
     def test_refused(self):
         ends = '; the curve goes from 500 to 600)'
@@ -261,6 +272,7 @@ class Sheets(Case):
                 (['--start', '0', '--step', '0'], 8, ''),
                 (['--start', '700', '--count', '0'], 8, ''),
                 (['--start', '499'], 7, ' (area 499' + ends),
+                (['--start', '0'], 7, ' (area 0' + ends),
                 (['--start', '601'], 7, ' (area 601' + ends),
                 (['--start', '4294967295', '--step', '4294967295'], 7,
                  ' (area 4294967295' + ends)]:
@@ -324,8 +336,30 @@ class Usage(Case):
         self.assertEqual((done.status, done.err), (0, ''))
 
 
-class Endless(Case):
-    """Input without an end is not read to its end."""
+class Input(Case):
+    """Long, endless and slow input."""
+
+    def test_long_files(self):
+        path = os.path.join(self.folder(), 'long.trf')
+        flat = [(point, 5, 0) for point in range(255)]
+        for count, more in ((64, 0), (64, 1), (64, 12), (65, 0), (255, 0), (2, 751), (2, 752)):
+            data = curve_file(flat[:count], 1) + bytes(more)
+            with open(path, 'wb') as file:
+                file.write(data)
+            done, text = inside('sheet', path), ref.ratesheet(data)
+            if text.startswith('refused'):
+                self.assert_refused(done, *map(int, text.split()[1::2]))
+            else:
+                self.assertEqual(done.out, text)
+
+    def test_slow(self):
+        data = open_bytes(GOOD)
+        with subprocess.Popen(COMMAND + ['read', '-', '550'], stdin=subprocess.PIPE,
+                              stdout=subprocess.PIPE, env=environment(), bufsize=0) as process:
+            for at in range(0, len(data), 11):
+                process.stdin.write(data[at:at + 11])
+                time.sleep(0.1)
+            self.assertEqual(process.communicate(timeout=60)[0], b'550 10800\n')
 
     def test_endless(self):
         self.assert_refused(inside('check', '/dev/zero'), 9, 0)
@@ -356,6 +390,21 @@ class Output(Case):
         with open('/dev/full', 'wb') as full:
             for words in self.PRINTING:
                 self.assert_unwritten(run(*words, stdout=full), 'No space left on device')
+
+    def test_partly_written(self):
+        """Also where Python's own streams are not buffered."""
+        path = os.path.join(self.folder(), 'out')
+        for env in (environment(), environment(PYTHONUNBUFFERED='1')):
+            with open(path, 'wb') as file:
+                done = run('sheet', TWO[0], '--step', '1', stdout=file, limit=1000, env=env)
+            self.assert_unwritten(done, 'File too large')
+
+    def test_unbuffered(self):
+        env = environment(PYTHONUNBUFFERED='1')
+        done = run('sheet', TWO[0], '--step', '1', env=env)
+        self.assertEqual(done.out.decode(), inside('sheet', TWO[0], '--step', '1').out)
+        with open('/dev/full', 'wb') as full:
+            self.assert_unwritten(run('check', GOOD, stdout=full, env=env), 'No space left')
 
     def test_closed(self):
         for words in self.PRINTING:
@@ -392,14 +441,20 @@ class Output(Case):
 
 class Interrupt(Case):
 
+    def waits(self, process):
+        with open('/proc/%d/stat' % process.pid, encoding='utf-8') as file:
+            return file.read().rsplit(')', 1)[1].split()[0] == 'S'
+
     def test_interrupt(self):
         path = os.path.join(self.folder(), 'pipe')
         os.mkfifo(path)
         with subprocess.Popen(COMMAND + ['check', path], stdout=subprocess.PIPE,
                               stderr=subprocess.PIPE, env=environment()) as process:
-            with open(path, 'wb'):              # opens when the program reads
+            with open(path, 'wb'):              # opens when the program does
+                while not self.waits(process):  # until it reads
+                    time.sleep(0.01)
                 process.send_signal(signal.SIGINT)
-                out, err = process.communicate(timeout=60)
+                out, err = process.communicate(timeout=20)
         self.assertEqual((process.returncode, out, err), (130, b'', b''))
 
 
@@ -533,7 +588,11 @@ class Pictures(Case):
             self.assertEqual(list(line.get_ydata()), [
                 ref.read(curve.areas, curve.values, curve.slopes, curve.shape, area)[1] / 10000
                 for area in areas])
-        self.assertEqual(len(marks.get_xdata()), 6)
+        points = sorted({(point.area, point.value) for _, curve, _ in named
+                         for point in curve.points})
+        self.assertEqual(len(points), 6)
+        self.assertEqual(list(zip(marks.get_xdata(), marks.get_ydata())),
+                         [(area / 10, value / 10000) for area, value in points])
         self.assertEqual([text.get_text() for text in axes.get_legend().get_texts()],
                          ['convex (document-01)', 'rising (same-points-rising)',
                           'convex (same-points-convex)', 'rated points'])

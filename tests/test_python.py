@@ -29,7 +29,7 @@ import curves
 import exact_fractions as ref
 import factor_curves as fc
 from curve_file import curve_file
-from factor_curves import _library
+from factor_curves import _calls, _library
 
 LARGEST = 2**32 - 1
 STEEP = [(500, 10000, 0), (600, 14000, 10000)]
@@ -234,8 +234,10 @@ class Files(unittest.TestCase):
         overlapping = bytearray(data)           # the file itself as the scratch
         self.assertEqual(fc.desk_reading(overlapping, 550, overlapping), 10800)
         self.assertEqual(bytes(overlapping), data[7:] + data[24:])
-        for wrong in (bytes(24), memoryview(bytes(24)), memoryview(memory)[::2], 24, 'x' * 24):
+        for wrong in (b'', bytes(24), memoryview(bytes(24)), memoryview(memory)[::2], 24, 'x' * 24):
             self.assertRaises(TypeError, fc.desk_reading, data, 550, wrong)
+        lent, length = _calls._lent(bytearray())
+        self.assertEqual((len(lent), length), (1, 0))       # so that its address is not null
 
     def test_from_file(self):
         for path, data in sample_files():
@@ -531,7 +533,7 @@ sys.path.insert(0, sys.argv[1])
 if len(sys.argv) > 2:
     sys.prefix = sys.argv[2]
 import factor_curves
-from factor_curves import _library
+from factor_curves import _calls, _library
 print(list(_library._places())[:-1])
 print(factor_curves.check([500, 600], [10000, 14000], [0, 10000], 2))
 print(_library.library()._name)

@@ -61,7 +61,9 @@ def put(output: bytes) -> None:
     if sys.stdout is None:
         raise Failure(UNWRITTEN, PROGRAM + ': standard output is closed')
     try:
-        sys.stdout.buffer.write(output)
+        left = memoryview(output)
+        while left:                     # python3 -u may write a part only
+            left = left[sys.stdout.buffer.write(left):]
         sys.stdout.flush()
     except BrokenPipeError:             # the reader has seen enough
         discard(sys.stdout)

@@ -1,7 +1,7 @@
 """A curve that the library has accepted."""
 
 import os
-from typing import Any, Iterable, List, NamedTuple, Tuple, Type, TypeVar, Union
+from typing import TYPE_CHECKING, Any, Iterable, List, NamedTuple, Tuple, Type, TypeVar, Union
 
 from . import _calls
 from ._calls import BytesLike, Pair
@@ -10,6 +10,10 @@ from ._calls import BytesLike, Pair
 _FILE_ROOM = 7 + 12 * _calls.COUNT_MAX + 1
 
 _Self = TypeVar('_Self', bound='Curve')
+if TYPE_CHECKING:
+    _Path = Union[str, os.PathLike[str]]
+else:
+    _Path = Union[str, os.PathLike]             # Python 3.8 has no os.PathLike[str]
 
 
 class Point(NamedTuple):
@@ -71,7 +75,7 @@ class Curve:
         return cls.from_lists(*_calls.open_bytes(data))
 
     @classmethod
-    def from_file(cls: Type[_Self], path: Union[str, 'os.PathLike[str]']) -> _Self:
+    def from_file(cls: Type[_Self], path: _Path) -> _Self:
         """The curve of a curve file, given its path."""
         with open(path, 'rb') as file:
             return cls.from_bytes(file.read(_FILE_ROOM))
