@@ -48,6 +48,7 @@ def figure(named: Sequence[Named]) -> Figure:
               gid='rated-points')
     axes.set_xlabel('floor area (m\u00b2)')
     axes.set_ylabel('factor')
+    axes.ticklabel_format(style='plain', useOffset=False)
     axes.grid(color='#dddddd', linewidth=0.6)
     for side in ('top', 'right'):
         axes.spines[side].set_visible(False)
