@@ -605,7 +605,11 @@ class Pictures(Case):
         for name, start in [('x.png', b'\x89PNG'), ('x.PDF', b'%PDF'), ('x', b'<?xml')]:
             picture = os.path.join(folder, name)
             self.assertEqual(inside('plot', GOOD, '-o', picture).status, 0)
-            self.assertTrue(open_bytes(picture).startswith(start))
+            data = open_bytes(picture)
+            self.assertTrue(data.startswith(start))
+            self.assertNotIn(b'CreationDate', data)
+            self.assertEqual(run('plot', GOOD, '-o', picture).status, 0)
+            self.assertEqual(open_bytes(picture), data)     # the same bytes each time
         for name in ('_a', '$x_$', '\\', '<&>', '$', os.fsdecode(b'\xff'), '\u4e00'):
             path = os.path.join(folder, name + '.trf')
             with open(path, 'wb') as file:
