@@ -1,4 +1,3 @@
 -- Theorems of the desk reading, and their laws.
-pub mod Numbered
 pub mod Apart
 pub mod Records
