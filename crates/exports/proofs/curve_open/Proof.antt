@@ -34,7 +34,7 @@ returns : tie.Need-returns
 returns c =
     let e = opened (c .before .before .before .before) .«open» .ensures in (
       rw (toZ-ofZ (record { sfits = c .refusal .ok }), c .refusal .ensures)
-      (c-refused c-shape-and-count (is-refused (c .before .before))),
+          (c-refused c-shape-and-count (is-refused (c .before .before))),
       rw (← e .0) (e .1),
     )
 

@@ -75,16 +75,19 @@ returns-3 : tie.Need-returns-3
 unfolding factors-answer c-pair-list
 returns-3 c =
     let fits = c .known-told2 .given in
-    let e = pair-decides (c .before .before .before) ∙ ap factors-answer (c .before .at-form .given .1) in
-    (
+    let e = pair-decides (c .before .before .before) ∙ ap factors-answer (c .before .at-form .given .1) in (
       c-given (λ _. pos pair-entries) e,
-      rw (e, toZ-ofZ {w = w32} (record { sfits = fits .0 .1 }), toZ-ofZ {w = w32} (record { sfits = fits .1 .0 .1 }),
-      toZ-ofZ {w = w32} (record { sfits = fits .1 .1 .0 .1 }))
-      (three-written _ _ _ _ (room c)),
+      rw (
+        e,
+        toZ-ofZ {w = w32} (record { sfits = fits .0 .1 }),
+        toZ-ofZ {w = w32} (record { sfits = fits .1 .0 .1 }),
+        toZ-ofZ {w = w32} (record { sfits = fits .1 .1 .0 .1 }),
+      )
+          (three-written (out c) _ _ _ (room c)),
     )
 
 pub curve-pair-spec : {M : Type 1} → statement M
 curve-pair-spec =
     tie.close
     (tie.spec (search needs) returns (search needs) (search needs) refusal-requires-2 (search needs)
-    (search needs) (λ c. search (needs, room-for-two c)) (search needs) (search needs) returns-2 (search needs) returns-3)
+    (search needs) (λ c. search (needs, room-for-two c)) (λ c. search (needs, room c)) (search needs) returns-2 (search needs) returns-3)

@@ -31,7 +31,7 @@ returns : tie.Need-returns
 returns c =
     let e = c .before .before .before .before .before .sheet .ensures in (
       rw (toZ-ofZ (record { sfits = c .refusal .ok }), c .refusal .ensures)
-      (c-refused pos (is-refused (c .before .before))),
+          (c-refused pos (is-refused (c .before .before))),
       rw (← e .0) (e .1),
     )
 
