@@ -46,7 +46,7 @@ returns-2 : tie.Need-returns-2
 unfolding opened-answer c-shape-and-count
 returns-2 c =
     let e = opened (c .before .before .before) .«open» .ensures in (
-      rw (toZ-pos w64 (small c)) (c-given c-shape-and-count (sym (e .0) ∙ ap opened-answer (c .before .shape .given .1))),
+      toZ-pos w64 (small c) ∙ c-given c-shape-and-count (sym (e .0) ∙ ap opened-answer (c .before .shape .given .1)),
       rw (← e .0) (e .1),
     )
 

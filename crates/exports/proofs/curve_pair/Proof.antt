@@ -54,12 +54,12 @@ returns-2 c =
     let e = is-refused (c .before .before) in
     (rw (toZ-ofZ (record { sfits = c .refusal2 .ok }), c .refusal2 .ensures) (c-refused (λ _. pos pair-entries) e), rw e refl)
 
-three-written : (out : List ℤ) (a b d : ℤ) → pair-entries ≤ length out →
-    set (set (set out 0 a) 1 b) 2 d ≡ a ∷ b ∷ d ∷ drop pair-entries out
-three-written [] a b d h = absurd (omega arith)
-three-written (x ∷ []) a b d h = absurd (omega arith)
-three-written (x ∷ y ∷ []) a b d h = absurd (omega arith)
-three-written (x ∷ y ∷ z ∷ out) a b d h = refl
+three-written : (out : List ℤ) {a b d a' b' d' : ℤ} → a ≡ a' → b ≡ b' → d ≡ d' → pair-entries ≤ length out →
+    set (set (set out 0 a) 1 b) 2 d ≡ a' ∷ b' ∷ d' ∷ drop pair-entries out
+three-written [] ea eb ed h = absurd (omega arith)
+three-written (x ∷ []) ea eb ed h = absurd (omega arith)
+three-written (x ∷ y ∷ []) ea eb ed h = absurd (omega arith)
+three-written (x ∷ y ∷ z ∷ out) ea eb ed h = rw (ea, eb, ed) refl
 
 module _ (c : tie.After-known-told2) where
   abbrev out : List ℤ
@@ -77,17 +77,15 @@ returns-3 c =
     let fits = c .known-told2 .given in
     let e = pair-decides (c .before .before .before) ∙ ap factors-answer (c .before .at-form .given .1) in (
       c-given (λ _. pos pair-entries) e,
-      rw (
-        e,
-        toZ-ofZ {w = w32} (record { sfits = fits .0 .1 }),
-        toZ-ofZ {w = w32} (record { sfits = fits .1 .0 .1 }),
-        toZ-ofZ {w = w32} (record { sfits = fits .1 .1 .0 .1 }),
-      )
-          (three-written (out c) _ _ _ (room c)),
+      rw e
+          (three-written (out c) (toZ-ofZ {w = w32} (record { sfits = fits .0 .1 }))
+          (toZ-ofZ {w = w32} (record { sfits = fits .1 .0 .1 })) (toZ-ofZ {w = w32} (record { sfits = fits .1 .1 .0 .1 }))
+          (room c)),
     )
 
 pub curve-pair-spec : {M : Type 1} → statement M
 curve-pair-spec =
     tie.close
     (tie.spec (search needs) returns (search needs) (search needs) refusal-requires-2 (search needs)
-    (search needs) (λ c. search (needs, room-for-two c)) (λ c. search (needs, room c)) (search needs) returns-2 (search needs) returns-3)
+    (search needs) (λ c. search (needs, room-for-two c)) (λ c. search (needs, room c)) (search needs) returns-2 (search needs)
+    returns-3)

@@ -1,6 +1,6 @@
 -- `exports::refusal` meets its contract.
 -- Assumes nothing.
-use mathlib.Core.Path.{_≡_}
+use mathlib.Core.Path.{_≡_, sym, subst}
 use mathlib.Core.List.{[], _∷_}
 use Prim.Native.Nat.{ℕ, _+_, _*_, _^_, _<_}
 use native.Mathlib.Omega.{arith}
@@ -29,7 +29,7 @@ module _ (c : tie.Start) where
   result-fits = sfits-of-size w64 _ (omega (arith, small, size-- (pos 0) (pos size)))
 
 sub-result : tie.Need-sub-result
-sub-result c = rw (size-is c) (result-fits c)
+sub-result c = subst (λ z. SFits w64 (pos 0 -ℤ z)) (sym (size-is c)) (result-fits c)
 
 returns : tie.Need-returns
 returns c = rw (size-is c, toZ-ofZ (result-fits c)) (ring (pos (size c) ∷ []) (search terms depth 20 fits 9999) tt)
