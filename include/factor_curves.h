@@ -42,6 +42,7 @@ extern "C" {
 
 #define CURVE_POINTS_MAX 64    /* points of an accepted curve */
 #define CURVE_ENTRIES_MAX 1024 /* entries of a sheet */
+#define CURVE_FILE_MAX 775     /* bytes of an accepted curve's file */
 #define CURVE_COUNT_MAX 255    /* points that a file's head can state */
 
 /*
