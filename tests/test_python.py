@@ -492,7 +492,7 @@ class Package(unittest.TestCase):
         self.assertEqual(len(numbers), 11)
         desk = self.defines('desk.h')
         self.assertEqual(fc.SCRATCH_ENOUGH,
-                         int(desk['DESK_POINT_BYTES']) * int(desk['DESK_COUNT_MAX']))
+                         int(desk['DESK_POINT_BYTES']) * int(header['CURVE_COUNT_MAX']))
 
     def test_version(self):
         with open(os.path.join(ROOT, 'VERSION'), encoding='ascii') as file:
