@@ -1,0 +1,3 @@
+-- Text in ASCII, and text put into a buffer.
+pub mod Text
+pub mod Inner
