@@ -1,8 +1,8 @@
 -- The areas of a sheet.
---   some-points                the curve has points
+--   some-points, few-points    the curve has 2 to 64 points
 --   first-to-last              the first area is not above the last
 --   within, readable, limit    an area of a sheet is the curve's, can be read, and is at most 20,000
---   next, whole                the lines after the first; all lines of a sheet
+--   next, whole                the lines after the first; all lines of a sheet, at most 801 (few)
 -- Assumes nothing.
 use mathlib.Core.Path.{_≡_, refl}
 use mathlib.Core.Bool.{false}
@@ -13,7 +13,7 @@ use native.Mathlib.Omega.{arith}
 use borrow.Author.Tests.{le-ltb}
 use lib.ListN.{length, length-map}
 use Rattle.model.specs.Answer.{gives, row, _then_}
-use Rattle.model.specs.Points.{area-most, Point, Shape}
+use Rattle.model.specs.Points.{points-most, area-most, Point, Shape}
 use Rattle.model.specs.Read.{outside}
 use Rattle.model.specs.Inner.{read-rows, areas-of, Good}
 use Rattle.model.proofs.Walk.{chain-ordered, good-ordered}
@@ -36,6 +36,9 @@ module _ {bytes : List ℕ} {n shape : ℕ} (k : FileCurve bytes n shape) where
   pub some-points : 1 < n
   some-points = omega (arith, count-of (k .accepted) .0, size-of-first bytes n)
 
+  pub few-points : n ≤ points-most
+  few-points = omega (arith, count-of (k .accepted) .1, size-of-first bytes n)
+
   pub first-to-last : record-at bytes 0 .area ≤ record-at bytes (n - 1) .area
   first-to-last =
       let some = some-points in
@@ -51,8 +54,11 @@ module _ {bytes : List ℕ} {n shape area left : ℕ} (k : Lines bytes n shape a
       let points = some-points (k .curve) in
       let low = k .low in
       let high = k .high in
-      rw (outside-is bytes n area (omega arith), le-ltb area (record-at bytes 0 .area) (omega arith),
-      le-ltb (record-at bytes (n - 1) .area) area (omega arith))
+      rw (
+        outside-is bytes n area (omega arith),
+        le-ltb area (record-at bytes 0 .area) (omega arith),
+        le-ltb (record-at bytes (n - 1) .area) area (omega arith),
+      )
 
   pub readable : read-rows (first-points bytes n) shape area ≡ gives tt
   unfolding row _then_
@@ -66,3 +72,10 @@ module _ {bytes : List ℕ} {n shape area left : ℕ} (k : Lines bytes n shape a
       let low = k .low in
       let high = k .high in
       record { curve = k .curve; low = omega arith; high = omega arith }
+
+pub few : {bytes : List ℕ} {n shape : ℕ} → FileCurve bytes n shape →
+    (record-at bytes (n - 1) .area - record-at bytes 0 .area) / step + 1 ≤ 801
+few {bytes} {n} {shape} k =
+    let end = record-at bytes (n - 1) .area in
+    let line : Lines bytes n shape end 1 = record { curve = k; low = first-to-last k; high = le-refl _ } in
+    omega (arith, limit line (omega arith))

@@ -49,7 +49,15 @@ fn put_entry(out: &mut [u8], at: usize, area: u32, factor: i32) -> usize
 }
 
 // A line for each of so many areas, from one on.
-fn put_entries(bytes: &[u8], n: usize, shape: u32, start: u32, entries: usize, out: &mut [u8], at: usize) -> usize
+fn put_entries(
+    bytes: &[u8],
+    n: usize,
+    shape: u32,
+    start: u32,
+    entries: usize,
+    out: &mut [u8],
+    at: usize,
+) -> usize
     requires { ⌜ Lines (now bytes) n shape start entries × (at + 23 * entries ≤ length (now out)) ⌝ }
     ensures { λ r. ⌜ Put (entry-lines (first-points (now (bytes .entry)) n) shape start entries) (23 * entries)
         at (now (out .entry)) r (now (out .exit)) ⌝ }
@@ -88,7 +96,10 @@ fn file_fault(bytes: &[u8]) -> Fault
         return Fault { number, place: 0 };
     }
     if bytes.len() > FILE_MOST {
-        return Fault { number: 10, place: 0 };
+        return Fault {
+            number: 10,
+            place: 0,
+        };
     }
     records::curve_fault(bytes, bytes[6] as usize, bytes[5] as u32)
 }

@@ -15,10 +15,6 @@ use Rattle.layout.proofs.Heads.{size-of-passed}
 use Rattle.sheet_text.proofs.Rows.{head-refused, too-long, points-decide}
 use Rattle.sheet_text.proofs.file_fault.Statement.{statement}
 use Rattle.sheet_text.proofs.file_fault.Tie as tie
-use Rattle.sheet_text.proofs.file_fault.Reads as reads
-use Rattle.sheet_text.proofs.file_fault.Lts as lts
-use Rattle.layout.proofs.head_fault.Reads as head-fault-reads
-use Rattle.records.proofs.curve_fault.Reads as curve-fault-reads
 
 returns : tie.Need-returns
 unfolding _then_

@@ -15,10 +15,6 @@ use Rattle.sheet_text.proofs.Areas.{readable, limit, next}
 use Rattle.sheet_text.proofs.Texts.{lines-next}
 use Rattle.sheet_text.proofs.put_entries.Statement.{statement}
 use Rattle.sheet_text.proofs.put_entries.Tie as tie
-use Rattle.sheet_text.proofs.put_entries.Reads as reads
-use Rattle.sheet_text.proofs.put_entries.Lts as lts
-use Rattle.file_lookup.proofs.factor.Reads as factor-reads
-use Rattle.sheet_text.proofs.put_entry.Reads as put-entry-reads
 
 record Listed (bytes : List ℕ) (n shape start entries : ℕ) (before : List ℕ) (at : ℕ)
     (after : List ℕ) (end area left : ℕ) : Type 0 where

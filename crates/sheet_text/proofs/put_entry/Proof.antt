@@ -8,11 +8,6 @@ use Rattle.text.proofs.Pieces.{put-as, follows}
 use Rattle.sheet_text.specs.SheetText.{entry-line}
 use Rattle.sheet_text.proofs.put_entry.Statement.{statement}
 use Rattle.sheet_text.proofs.put_entry.Tie as tie
-use Rattle.sheet_text.proofs.put_entry.Reads as reads
-use Rattle.sheet_text.proofs.put_entry.Lts as lts
-use Rattle.text.proofs.decimal.Reads as decimal-reads
-use Rattle.text.proofs.signed.Reads as signed-reads
-use Rattle.text.proofs.words.Reads as words-reads
 
 returns : tie.Need-returns
 unfolding entry-line ascii

@@ -8,10 +8,6 @@ use Rattle.text.proofs.Pieces.{put-as, follows}
 use Rattle.sheet_text.specs.SheetText.{words-line}
 use Rattle.sheet_text.proofs.put_words.Statement.{statement}
 use Rattle.sheet_text.proofs.put_words.Tie as tie
-use Rattle.sheet_text.proofs.put_words.Reads as reads
-use Rattle.sheet_text.proofs.put_words.Lts as lts
-use Rattle.text.proofs.decimal.Reads as decimal-reads
-use Rattle.text.proofs.words.Reads as words-reads
 
 returns : tie.Need-returns
 unfolding words-line ascii
