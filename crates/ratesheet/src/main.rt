@@ -31,17 +31,29 @@ fn asked() -> Request {
     Request::Unknown
 }
 
-// Writes the text to standard output, or says why it cannot.
+// Writes the text to standard output, or says why it cannot. Some file systems report a full disk only when a file is closed.
 fn print(text: &[u8]) {
-    if !io::write_all(STDOUT_FILENO, text) {
-        os::fail(b"ratesheet: cannot write standard output");
+    if io::write_all(STDOUT_FILENO, text) {
+        if libc::close(STDOUT_FILENO) == 0 {
+            return;
+        }
     }
+    os::fail(b"ratesheet: cannot write standard output");
 }
 
 fn print_help() {
     print(
-        b"usage: ratesheet < FILE\n\
-Prints the sheet of a curve file: shape code and number of points, then areas and their factors.\n",
+        b"usage: ratesheet [--help | --version] < FILE\n\
+        \n\
+        Prints the sheet of a curve file: shape code and number of points on a first line, then area and\n\
+        factor in steps of 25 tenths of a square metre, from the first point's area up to the last point's.\n\
+        A file that is refused gives one line instead, such as: refused 6 at 0.\n\
+        \n\
+        The exit status is always 0. What cannot be read or written is said on standard error. The command\n\
+        factor-curves sheet FILE has an exit status that tells. The manual is ratesheet(1).\n\
+        \n\
+        \x20 --help     print this text\n\
+        \x20 --version  print the version\n",
     );
 }
 
@@ -101,7 +113,10 @@ fn main() {
         Request::Help => print_help(),
         Request::Version => print(b"ratesheet 0.1.0\n"),
         Request::Unknown => {
-            io::write_all(STDERR_FILENO, b"usage: ratesheet < FILE\n");
+            io::write_all(
+                STDERR_FILENO,
+                b"usage: ratesheet [--help | --version] < FILE\n",
+            );
         }
     }
 }

@@ -1,8 +1,8 @@
 -- Decimal digits.
---   decimal-is     the fewest digits that hold a number are its decimal digits; few, a number below 2³² has at most ten
+--   decimal-is     the fewest digits that hold a number, at most ten, are its decimal digits; few, a number below 2³² has no more
 --   signed-negative, signed-natural    a number with its sign, by its magnitude
 -- Assumes nothing.
-use mathlib.Core.Path.{_≡_, refl, sym, _∙_, ap}
+use mathlib.Core.Path.{_≡_, refl, ap}
 use mathlib.Core.Bool.{true, false, true≢false}
 use mathlib.Core.List.{_∷_, [], _++_}
 use mathlib.Core.Logic.{inl, inr}
@@ -19,7 +19,7 @@ use Rattle.text.specs.Text.{ascii, digits-within, decimal, signed}
 digit : (n : ℕ) → glyph (n % 10) ≡ 48 + n % 10
 digit n = rw (lt-ltb (n % 10) 10 (mod-lt n (omega arith)))
 
-digits-are : (k most n : ℕ) → n < most → n < 10 ^ suc k → (0 < k → 10 ^ k ≤ n) → digits 10 (suc k) n ≡ digits-within most n
+digits-are : (k most n : ℕ) → k < most → n < 10 ^ suc k → (0 < k → 10 ^ k ≤ n) → digits 10 (suc k) n ≡ digits-within most n
 unfolding digits-within
 digits-are k zero n h small large = absurd (omega arith)
 digits-are zero (suc most) n h small large = rw (lt-ltb n 10 (omega arith), digit n)
@@ -31,12 +31,12 @@ digits-are (suc k) (suc most) n h small large =
     rw (le-ltb n 10 (omega arith), digit n)
     (ap (_++ ((48 + n % 10) ∷ [])) (digits-are k most (n / 10) (omega arith) (omega arith) (λ h. omega arith)))
 
-pub decimal-is : (n r : ℕ) → Fewest 10 1 n r → digits 10 r n ≡ decimal n
+pub decimal-is : (n r : ℕ) → r ≤ 10 → Fewest 10 1 n r → digits 10 r n ≡ decimal n
 unfolding decimal
-decimal-is n zero k = absurd (omega arith)
-decimal-is n (suc r) k =
+decimal-is n zero h k = absurd (omega arith)
+decimal-is n (suc r) h k =
     let e : suc r - 1 ≡ r = omega arith in
-    digits-are r (suc n) n (omega arith) (k .1) (λ h. rw e at (k .2 (omega arith)))
+    digits-are r _ n (omega arith) (k .1) (λ h. rw e at (k .2 (omega arith)))
 
 pub few : (n r : ℕ) → n < 4294967296 → Fewest 10 1 n r → r ≤ 10
 few n r h k =

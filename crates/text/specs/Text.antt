@@ -13,14 +13,14 @@ unfoldable pub ascii : String → List ℕ
 ascii []ˢ = []
 ascii (c ∷ˢ rest) = code c ∷ ascii rest
 
--- the decimal digits of n, which has at most k of them, the most significant first
+-- the decimal digits of n, if it has no more than k, the most significant first
 unfoldable pub digits-within : ℕ → ℕ → List ℕ
 digits-within zero n = []
 digits-within (suc k) n = cond (ltb n 10) [] (digits-within k (n / 10)) ++ (48 + n % 10) ∷ []
 
--- a number from 0 on; n has at most n + 1 digits
+-- a number from 0 on; none of 64 bits has more than 20 digits
 unfoldable pub decimal : ℕ → List ℕ
-decimal n = digits-within (suc n) n
+decimal n = digits-within 20 n
 
 -- a number with its sign, which only numbers below 0 show
 unfoldable pub signed : ℤ → List ℕ

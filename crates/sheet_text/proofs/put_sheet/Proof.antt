@@ -1,6 +1,6 @@
 -- `sheet_text::put_sheet` meets its contract: the first line, then a line for each area from the first to the last.
 -- Assumes nothing.
-use mathlib.Core.Path.{_≡_, refl, sym, _∙_, ap}
+use mathlib.Core.Path.{refl}
 use mathlib.Core.List.{List}
 use Prim.Native.Nat.{ℕ, _<_}
 use native.Mathlib.Omega.{arith}
@@ -24,6 +24,12 @@ module _ (c : tie.After-area-of2) where
   known : FileCurve bytes (start .args .n) (start .args .shape)
   known = start .pre .0
 
+area-of-requires : tie.Need-area-of-requires
+area-of-requires c κs = (let k = c .before .before .pre .0 in record { file = omega (arith, some-points k, k .file) })
+
+area-of-requires-2 : tie.Need-area-of-requires-2
+area-of-requires-2 c κs = (let k = c .before .before .before .pre .0 in record { file = omega (arith, some-points k, k .file) })
+
 put-entries-requires : tie.Need-put-entries-requires
 put-entries-requires c κs =
     let head = c .before .before .before in
@@ -31,7 +37,8 @@ put-entries-requires c κs =
     let first = areas .before .area-of .ensures in
     let last = areas .area-of2 .ensures in
     let k = known areas in
-    rw (first, last) (whole k, omega (arith, few k, head .put-words .ensures .size, start areas .pre .1, head .put-words .kept .0))
+    let put = head .put-words in
+    rw (first, last) (whole k, omega (arith, few k, put .ensures .size, put .kept .0, start areas .pre .1))
 
 returns : tie.Need-returns
 unfolding ascii
@@ -49,9 +56,7 @@ returns c =
 pub put-sheet-spec : {M : Type 1} → statement M
 put-sheet-spec =
     tie.close
-    (tie.spec (λ c κs. record { file = omega (arith, some-points (c .before .before .pre .0), c .before .before .pre .0 .file) })
-    (λ c. omega (arith, some-points (c .before .before .before .pre .0)))
-    (λ c κs. record { file = omega (arith, some-points (c .before .before .before .pre .0), c .before .before .before .pre .0 .file) })
+    (tie.spec area-of-requires (λ c. omega (arith, some-points (c .before .before .before .pre .0))) area-of-requires-2
     (λ c. rw (c .before .area-of .ensures, c .area-of2 .ensures) (first-to-last (known c)))
-    (search needs) (search needs) (search needs)
-    (λ c. omega (arith, few-points (known (c .before .before .before)))) (λ c κs. search needs) (search needs) put-entries-requires (search needs) returns)
+    (search needs) (search needs) (search needs) (λ c. omega (arith, few-points (known (c .before .before .before))))
+    (λ c κs. search needs) (search needs) put-entries-requires (search needs) returns)

@@ -1,13 +1,13 @@
--- `sheet_text::sheet_text` meets its contract.
+-- `sheet_text::sheet_text` meets its contract: the refusal's line, or the sheet.
 -- Assumes nothing.
-use mathlib.Core.Path.{_≡_, refl, sym, _∙_, ap}
+use mathlib.Core.Path.{_≡_, sym, _∙_, ap}
 use mathlib.Core.List.{List}
 use Prim.Native.Nat.{ℕ, _≤_, _<_}
 use native.Mathlib.Omega.{arith}
 use borrow.Author.Needs.{needs}
 use lib.ListN.{length}
 use lib.Seq.{length-take-le}
-use Rattle.model.specs.Answer.{gives, refused, row, _then_}
+use Rattle.model.specs.Answer.{gives, refused, _then_}
 use Rattle.layout.specs.Layout.{shape-code, count}
 use Rattle.rows.proofs.Faults.{a-fault, no-fault}
 use Rattle.text.specs.Text.{ascii}
@@ -18,18 +18,17 @@ use Rattle.sheet_text.proofs.sheet_text.Statement.{statement}
 use Rattle.sheet_text.proofs.sheet_text.Tie as tie
 
 refusal : (c : tie.Then1) → (let r = c .before .before .file-fault .result in
-    file-answer (c .before .before .before .before .before .args .bytes .now) ≡ refused (r .number) (r .place))
+    refused (r .number) (r .place) ≡ file-answer (c .before .before .before .before .before .args .bytes .now))
 unfolding _then_
-refusal c = sym (c .before .before .file-fault .ensures) ∙ rw (a-fault _ (c .if1 .taken))
+refusal c = sym (rw (a-fault _ (c .if1 .taken))) ∙ c .before .before .file-fault .ensures
 
 returns : tie.Need-returns
 unfolding answer-text sheet-text ascii
 returns c =
     let put = c .before .before in
-    let room : put .put-words .result ≤ length (put .put-words .last .0) = search needs in (
-      (room, sym (length-take-le _ _ room)),
-      put .put-words .ensures .text ∙ sym (rw (refusal (put .before .before .before .before))),
-    )
+    let room : put .put-words .result ≤ length (put .put-words .last .0) = search needs in
+    let same = ap (answer-text _) (refusal (put .before .before .before .before)) in
+    ((room, sym (length-take-le _ _ room)), put .put-words .ensures .text ∙ same)
 
 -- the file is not refused
 module _ (c : tie.Else1) where
@@ -39,12 +38,12 @@ module _ (c : tie.Else1) where
   abbrev bytes : List ℕ
   bytes = start .args .bytes .now
 
-  answer : file-answer bytes ≡ gives (head-of bytes)
+  answer : gives (head-of bytes) ≡ file-answer bytes
   unfolding _then_
-  answer = sym (c .before .before .file-fault .ensures) ∙ rw (no-fault _ (c .if1 .left))
+  answer = sym (rw (no-fault _ (c .if1 .left))) ∙ c .before .before .file-fault .ensures
 
   curve : FileCurve bytes (count bytes) (shape-code bytes)
-  curve = file-curve bytes answer
+  curve = file-curve bytes (sym answer)
 
   long : 6 < length bytes
   long = omega (arith, curve .file .file)
@@ -53,10 +52,9 @@ returns-2 : tie.Need-returns-2
 unfolding answer-text sheet-text head-of
 returns-2 c =
     let put = c .before .before in
-    let told = put .before .before .before .before in
-    let k = put .put-sheet .ensures in
     let room : put .put-sheet .result ≤ length (put .put-sheet .last .1 .1 .1 .0) = search needs in
-    ((room, sym (length-take-le _ _ room)), k .text ∙ sym (rw (answer told)))
+    let same = ap (answer-text _) (answer (put .before .before .before .before)) in
+    ((room, sym (length-take-le _ _ room)), put .put-sheet .ensures .text ∙ same)
 
 pub sheet-text-spec : {M : Type 1} → statement M
 sheet-text-spec =

@@ -20,7 +20,7 @@ returns c =
     let d = c .before .before .before .before .before in
     let made = d .decimal .ensures in
     let put = c .before .before .words .ensures in
-    put-as (made .1 .1 ∙ decimal-is _ _ (made .1 .0)) (omega (arith, put .size, made .0 .1, ten d)) put
+    put-as (made .1 .1 ∙ decimal-is _ _ (ten d) (made .1 .0)) (omega (arith, put .size, made .0 .1, ten d)) put
 
 pub decimal-spec : {M : Type 1} → statement M
 decimal-spec =

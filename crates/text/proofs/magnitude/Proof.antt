@@ -5,7 +5,6 @@ use mathlib.Core.Bool.{true, false}
 use Prim.Native.Nat.{_+_}
 use native.Mathlib.Numerals.{add-one}
 use native.Mathlib.Omega.{arith}
-use borrow.Author.Needs.{needs}
 use borrow.Author.Tests.{ltb-true}
 use lib.IntN.{ℤ, pos, negsuc, natAbs}
 use lib.Signed.{ltZ}
@@ -59,5 +58,8 @@ cast-result-2 : tie.Need-cast-result-2
 cast-result-2 c =
     rw (toZ-ofZ (c .before .fits .n)) (cast-of-natural tt (c .before .fits .n) (natural-of-not-negative _ (not-negative c)))
 
+returns-2 : tie.Need-returns-2
+returns-2 c = rw (toZ-ofZ (c .before .fits .n))
+
 pub magnitude-spec : {M : Type 1} → statement M
-magnitude-spec = tie.close (tie.spec sub-result cast-result add-result returns cast-result-2 (λ c. rw (toZ-ofZ (c .before .fits .n))))
+magnitude-spec = tie.close (tie.spec sub-result cast-result add-result returns cast-result-2 returns-2)
