@@ -51,7 +51,7 @@ def run(*words, data=None, **options):
         caught['input'] = data
     elif 'stdin' not in options:
         caught['stdin'] = subprocess.DEVNULL
-    return subprocess.run([PROGRAM, *words], timeout=60, **{**caught, **options})
+    return subprocess.run([PROGRAM, *words], timeout=20, **{**caught, **options})
 
 
 class Sheets(unittest.TestCase):
@@ -99,7 +99,7 @@ class Sheets(unittest.TestCase):
         for start in range(0, len(EXAMPLE), 7):
             process.stdin.write(EXAMPLE[start:start + 7])
             time.sleep(0.02)
-        self.assertEqual(process.communicate(timeout=60)[0], sheet(EXAMPLE))
+        self.assertEqual(process.communicate(timeout=20)[0], sheet(EXAMPLE))
 
     def test_one_write(self):
         for data in (LONGEST, REFUSED):

@@ -63,6 +63,7 @@ enum Input {
     Failed,
 }
 
+// One read.
 fn read_some(fd: i32, buf: &mut [u8]) -> Input
     ensures { λ r. ⌜ Came r (now (buf .exit)) ⌝ }
 {
@@ -98,7 +99,7 @@ fn print_sheet(bytes: &[u8]) {
     print(&out[..n]);
 }
 
-// A file's first 776 bytes decide what is printed.
+// The first 776 bytes of a file decide what is printed (`FirstBytesDecide` in sheet_text's specs).
 fn print_input() {
     let mut bytes = [0u8; sheet_text::FILE_MOST + 1];
     match read_all(STDIN_FILENO, &mut bytes) {

@@ -4,7 +4,7 @@
 --   within, readable, limit    an area of a sheet is the curve's, can be read, and is at most 20,000
 --   next, whole                the lines after the first; all lines of a sheet, at most 801 (few)
 -- Assumes nothing.
-use mathlib.Core.Path.{_≡_, refl}
+use mathlib.Core.Path.{_≡_}
 use mathlib.Core.Bool.{false}
 use mathlib.Core.List.{List, _∷_}
 use Prim.Native.Nat.{ℕ, _+_, _-_, _/_, _≤_, _<_}

@@ -1,6 +1,6 @@
 -- Document 01's example, by computation, and that the first 776 bytes of a file decide.
 -- Assumes nothing.
-use mathlib.Core.Path.{_≡_, refl, sym, _∙_, ap}
+use mathlib.Core.Path.{_≡_, refl, ap}
 use mathlib.Core.Bool.{Bool, true, false}
 use mathlib.Core.List.{List}
 use mathlib.Core.Logic.{inl, inr}
@@ -27,7 +27,7 @@ use Rattle.file.specs.Open.{ShapeAndCount, short-list, open-answer}
 use Rattle.text.specs.Text.{ascii, digits-within, decimal, signed}
 use Rattle.sheet_text.specs.SheetText.{words-line, entry-line, entry-lines, sheet-lines}
 use Rattle.sheet_text.specs.SheetText.{file-answer, answer-text, sheet-text}
-use Rattle.sheet_text.specs.Laws.{file, TextExamples, FirstBytesDecide}
+use Rattle.sheet_text.specs.Laws.{file, dips, TextExamples, FirstBytesDecide}
 
 pub text-examples : TextExamples
 unfolding _over_ whole _+ℚ_ _-ℚ_ _*ℚ_ _/ℚ_ leℚ ltℚ eqℚ floorDiv floor round row _then_ gradient segments shape-of
@@ -35,8 +35,8 @@ unfolding _over_ whole _+ℚ_ _-ℚ_ _*ℚ_ _/ℚ_ leℚ ltℚ eqℚ floorDiv fl
     bad-count bad-code bad-area bad-value bad-slope point-rows segment-rows curve-rows
     taken value-in exact-value reading tabulate
     twos-complement little-endian record-at wrong-mark bad-head bad-size head-rows short-list open-answer
-    ascii digits-within decimal signed words-line entry-line entry-lines sheet-lines file-answer answer-text sheet-text file
-text-examples = (refl, refl, refl)
+    ascii digits-within decimal signed words-line entry-line entry-lines sheet-lines file-answer answer-text sheet-text file dips
+text-examples = (refl, refl, refl, refl)
 
 -- ---- the first 776 bytes
 

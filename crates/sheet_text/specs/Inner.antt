@@ -3,7 +3,7 @@
 --   head-of      shape code and count of a file
 --   FileCurve    the first n points of a file are an accepted curve
 --   Lines        so many areas from one on, in steps, are areas of the curve
---   text-most    no file's text has more bytes
+--   text-most    enough bytes for the text of every file
 -- Assumes nothing.
 use Prim.Native.Nat.{ℕ, _+_, _-_, _*_, _≤_}
 use mathlib.Core.List.{List}

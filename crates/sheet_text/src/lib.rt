@@ -1,7 +1,7 @@
 // The text of a curve file's sheet, in a lent buffer.
 ghost use mathlib.Core.Path.{_≡_};
 ghost use mathlib.Core.List.{_++_};
-ghost use Prim.Native.Nat.{_+_, _*_, _-_, _/_, _≤_};
+ghost use Prim.Native.Nat.{_+_, _*_, _≤_};
 ghost use lib.ListN.{length, take};
 ghost use Rattle.io.specs.Counts.{Counts};
 ghost use Rattle.model.specs.Answer.{gives, _then_};
@@ -26,6 +26,7 @@ pub const FILE_MOST: usize = layout::HEAD_SIZE + layout::RECORD_SIZE * rows::POI
 // Enough for the text of every file: a first line, and a line for each entry.
 pub const TEXT_MOST: usize = 35 + 23 * ENTRIES_MOST;
 
+// A line of two words, each with its number.
 fn put_words(out: &mut [u8], first: &[u8], a: u32, second: &[u8], b: u32) -> usize
     requires { ⌜ length (now first) + length (now second) + 21 ≤ length (now out) ⌝ }
     ensures { λ r. ⌜ Put (words-line (now (first .entry)) a (now (second .entry)) b)
@@ -38,6 +39,7 @@ fn put_words(out: &mut [u8], first: &[u8], a: u32, second: &[u8], b: u32) -> usi
     words(out, at, b"\n")
 }
 
+// The line of an area and its factor.
 fn put_entry(out: &mut [u8], at: usize, area: u32, factor: i32) -> usize
     requires { ⌜ at + 23 ≤ length (now out) ⌝ }
     ensures { λ r. ⌜ Put (entry-line area factor) 23 at (now (out .entry)) r (now (out .exit)) ⌝ }
@@ -104,7 +106,7 @@ fn file_fault(bytes: &[u8]) -> Fault
     records::curve_fault(bytes, bytes[6] as usize, bytes[5] as u32)
 }
 
-// The text for the bytes of a file, at the start of the buffer; gives its length.
+// Puts what is printed for the bytes of a file at the start of the buffer, and gives its length.
 pub fn sheet_text(bytes: &[u8], out: &mut [u8]) -> usize
     requires { ⌜ text-most ≤ length (now out) ⌝ }
     ensures within { λ r. ⌜ Counts r (now (out .exit)) ⌝ }

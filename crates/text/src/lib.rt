@@ -7,6 +7,7 @@ ghost use lib.ListN.{length};
 ghost use Rattle.text.specs.Text.{decimal as Text·decimal, signed as Text·signed};
 ghost use Rattle.text.specs.Inner.{Put};
 
+// Words as they are.
 pub fn words(out: &mut [u8], at: usize, piece: &[u8]) -> usize
     requires { ⌜ at + length (now piece) ≤ length (now out) ⌝ }
     ensures { λ r. ⌜ Put (now (piece .entry)) (length (now (piece .entry))) at (now (out .entry)) r (now (out .exit)) ⌝ }
@@ -14,7 +15,7 @@ pub fn words(out: &mut [u8], at: usize, piece: &[u8]) -> usize
     at + bytes::copy(piece, &mut out[at..])
 }
 
-// No number of 32 bits has more than ten digits.
+// A number in decimal. None of 32 bits has more than ten digits.
 pub fn decimal(out: &mut [u8], at: usize, n: u32) -> usize
     requires { ⌜ at + 10 ≤ length (now out) ⌝ }
     ensures { λ r. ⌜ Put (Text·decimal n) 10 at (now (out .entry)) r (now (out .exit)) ⌝ }
@@ -33,6 +34,7 @@ fn magnitude(n: i32) -> u32
     n as u32
 }
 
+// A number in decimal, with a minus sign if it is below 0.
 pub fn signed(out: &mut [u8], at: usize, n: i32) -> usize
     requires { ⌜ at + 11 ≤ length (now out) ⌝ }
     ensures { λ r. ⌜ Put (Text·signed n) 11 at (now (out .entry)) r (now (out .exit)) ⌝ }

@@ -1,6 +1,6 @@
 -- `sheet_text::file_fault` meets its contract: rows 9 and 10, the length, then rows 1 to 6 of the points.
 -- Assumes nothing.
-use mathlib.Core.Path.{_≡_, refl, sym, _∙_}
+use mathlib.Core.Path.{_≡_, sym, _∙_}
 use mathlib.Core.List.{List}
 use Prim.Native.Nat.{ℕ}
 use native.Mathlib.Omega.{arith}

@@ -1,10 +1,9 @@
 -- `sheet_text::put_entry` meets its contract: its pieces follow one another.
 -- Assumes nothing.
-use mathlib.Core.Path.{refl}
 use borrow.Author.Needs.{needs}
 use mir.Facts.{toZ-ofZ}
 use Rattle.text.specs.Text.{ascii}
-use Rattle.text.proofs.Pieces.{put-as, follows}
+use Rattle.text.proofs.Pieces.{follows}
 use Rattle.sheet_text.specs.SheetText.{entry-line}
 use Rattle.sheet_text.proofs.put_entry.Statement.{statement}
 use Rattle.sheet_text.proofs.put_entry.Tie as tie

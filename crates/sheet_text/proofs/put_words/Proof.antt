@@ -1,7 +1,6 @@
 -- `sheet_text::put_words` meets its contract: its pieces follow one another.
 -- Assumes nothing.
 use mathlib.Core.Path.{refl}
-use native.Mathlib.Omega.{arith}
 use borrow.Author.Needs.{needs}
 use Rattle.text.specs.Text.{ascii}
 use Rattle.text.proofs.Pieces.{put-as, follows}

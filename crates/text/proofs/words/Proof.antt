@@ -1,6 +1,5 @@
 -- `text::words` meets its contract.
 -- Assumes nothing.
-use native.Mathlib.Omega.{arith}
 use borrow.Author.Needs.{needs}
 use Rattle.text.proofs.Pieces.{copied}
 use Rattle.text.proofs.words.Statement.{statement}
