@@ -24,6 +24,7 @@ from fractions import Fraction
 
 import curves
 import exact_fractions as ref
+from curve_file import curve_file
 
 SEED = 'factor curves 1'
 CHUNK = 500                     # cases that one random generator makes
@@ -39,7 +40,7 @@ def any_curve(rng):
 
 def any_file(rng):
     points, shape = any_curve(rng)
-    return curves.curve_file(points, shape), curves.inner_area(rng, points)
+    return curve_file(points, shape), curves.inner_area(rng, points)
 
 
 def scratch_for(rng, data):
@@ -50,7 +51,7 @@ def scratch_for(rng, data):
 
 def readings(rng, points, shape, number):
     """Cases for some areas of one accepted curve."""
-    data = curves.curve_file(points, shape)
+    data = curve_file(points, shape)
     for _ in range(number):
         yield data, curves.inner_area(rng, points), scratch_for(rng, data)
 
@@ -95,7 +96,7 @@ def half_curve(rng):
 def halves(rng):
     """Areas whose exact value is a whole number and a half."""
     points, shape = half_curve(rng)
-    data = curves.curve_file(points, shape)
+    data = curve_file(points, shape)
     middle = points[1][0] // 2
     for area in {1, middle, middle // 2, middle + middle // 2}:
         lists = [list(fields) for fields in zip(*points)]
@@ -112,7 +113,7 @@ def beside_halves(rng):
     lists = [list(fields) for fields in zip(*points)]
     if ref.check(*lists, shape)[0] != 'ok':
         return
-    data = curves.curve_file(points, shape)
+    data = curve_file(points, shape)
     area = points[1][0] // 2
     beside = abs(ref.exact_value(*lists, shape, area) % 1 - Fraction(1, 2))
     if 0 < beside < Fraction(1, 100):
@@ -147,7 +148,7 @@ def one_past(rng):
     else:
         points, shape = any_curve(rng)
     for _ in range(5):
-        data = curves.curve_file(past_limit(rng, points), shape)
+        data = curve_file(past_limit(rng, points), shape)
         yield data, curves.inner_area(rng, points), scratch_for(rng, data)
 
 
@@ -157,7 +158,7 @@ def shifted(rng):
     at = rng.randrange(1, len(points))
     more = points[at - 1][0] + rng.choice([2000, 2001]) - points[at][0]
     moved = [(area + more, value, slope) for area, value, slope in points[at:]]
-    data = curves.curve_file(points[:at] + moved, shape)
+    data = curve_file(points[:at] + moved, shape)
     yield data, points[0][0], scratch_for(rng, data)
 
 
@@ -167,9 +168,9 @@ def counts_and_codes(rng):
     code = rng.choice([0, 3, 4, 127, 128, 129, 130, 254, 255])
     count = rng.choice([0, 1, 65, 66, 127, 128, 129, 254, 255])
     many = (points * (count // len(points) + 1))[:count]
-    for data in (curves.curve_file(points, code),
-                 curves.curve_file(many, shape),
-                 curves.curve_file(many, code)):
+    for data in (curve_file(points, code),
+                 curve_file(many, shape),
+                 curve_file(many, code)):
         yield data, area, scratch_for(rng, data)
 
 
@@ -199,12 +200,12 @@ def shapeless_points(rng, points):
 
 def shapeless(rng):
     points = equal_side(rng)
-    yield curves.curve_file(points, 2), points[0][0], 24
+    yield curve_file(points, 2), points[0][0], 24
     points, shape = any_curve(rng)
     for _ in range(4):
-        data = curves.curve_file(shapeless_points(rng, points), shape)
+        data = curve_file(shapeless_points(rng, points), shape)
         yield data, curves.inner_area(rng, points), scratch_for(rng, data)
-    data = curves.curve_file(points, 3 - shape)         # the other shape
+    data = curve_file(points, 3 - shape)         # the other shape
     yield data, curves.inner_area(rng, points), scratch_for(rng, data)
 
 
@@ -256,7 +257,7 @@ def scratches(rng):
 
 def outside(rng):
     points, shape = any_curve(rng)
-    data = curves.curve_file(points, shape)
+    data = curve_file(points, shape)
     for _ in range(8):
         yield data, curves.outer_area(rng, points), scratch_for(rng, data)
     for area in (points[0][0], points[-1][0]):
@@ -272,7 +273,7 @@ def several_faults(rng):
         points = rng.choice([past_limit, shapeless_points])(rng, points)
     if rng.random() < 0.1:
         shape = rng.choice([0, 3])
-    data = curves.curve_file(points, shape)
+    data = curve_file(points, shape)
     scratch = scratch_for(rng, data) - rng.choice([0, 0, 0, 0, 0, 0, 100])
     if rng.random() < 0.1:
         data = data[:rng.randrange(len(data))]

@@ -1,4 +1,4 @@
-"""Random curves and curve files for the tests: inputs only, no answers.
+"""Random curves for the tests: inputs only, no answers.
 
 A curve is a list of points (area, value, slope) and a shape code. The curves
 made here are meant to be accepted; whether one is, exact_fractions.py says.
@@ -11,16 +11,6 @@ SLOPE_MAX = 10000
 POINTS_MAX = 64
 RISING = 1
 CONVEX = 2
-
-
-def curve_file(points, shape):
-    """The bytes of a curve file. Fields are taken modulo their width."""
-    data = bytearray(b'TRF\1\0')
-    data += bytes([shape & 255, len(points) & 255])
-    for point in points:
-        for field in point:
-            data += (field & 0xFFFFFFFF).to_bytes(4, 'little')
-    return bytes(data)
 
 
 def some_count(rng):

@@ -9,6 +9,7 @@ import sys
 from fractions import Fraction
 
 import exact_fractions as ref
+from curve_file import curve_file
 
 tests = 0
 failures = 0
@@ -26,14 +27,6 @@ def lists(points):
     """Points (area, value, slope) as three lists."""
     return ([point[0] for point in points], [point[1] for point in points],
             [point[2] for point in points])
-
-
-def curve_file(points, shape):
-    data = b'TRF' + bytes([1, 0, shape, len(points)])
-    for area, value, slope in points:
-        data += area.to_bytes(4, 'little') + value.to_bytes(4, 'little')
-        data += slope.to_bytes(4, 'little', signed=True)
-    return data
 
 
 def check(points, shape):
