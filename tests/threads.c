@@ -1,0 +1,124 @@
+/*
+ * Calls from two threads at once.
+ *
+ *     threads LEAST < cases
+ *
+ * The stream is described in cases.py. First one thread runs all cases, then
+ * two run them at the same time: the lists that are only read are the same
+ * for both, those to be written are each thread's own. Fails if a case alone
+ * is not as expected, if a thread gets another answer or list than that, or
+ * with fewer than LEAST cases.
+ */
+#define _POSIX_C_SOURCE 200112L
+#include <pthread.h>
+#include <stdio.h>
+#include <stdlib.h>
+#include <string.h>
+
+#include "stream.h"
+
+enum { THREADS = 2, ROUNDS = 2 };
+
+typedef struct {
+    int backwards;
+    unsigned long ran, differences;
+    uint8_t *own[LISTS];
+} worker;
+
+static test_case *cases;
+static size_t count;
+static pthread_barrier_t barrier;
+
+static void take_all(void)
+{
+    size_t room = 0;
+    test_case c;
+    take_names();
+    while (take_case(&c)) {
+        if (count == room) {
+            room = room ? 2 * room : 1024;
+            cases = realloc(cases, room * sizeof *cases);
+            if (cases == NULL)
+                die("no memory");
+        }
+        cases[count++] = c;
+    }
+}
+
+/* Whether the answer and the lists are as expected. */
+static int as_expected(const test_case *c, uint8_t *const own[LISTS])
+{
+    uint8_t *list[LISTS];
+    for (int k = 0; k < LISTS; k++) {
+        list[k] = c->list[k];
+        if (forms[c->call][k].written) {
+            list[k] = own[k];
+            fill_list(own[k], c->size[k], c->fill);
+        }
+    }
+    int good = invoke(c, list) == c->wanted;
+    for (int k = 0; k < LISTS; k++)
+        if (forms[c->call][k].written)
+            good &= memcmp(own[k], c->list[k], c->size[k]) == 0;
+    return good;
+}
+
+static void run_cases(worker *w)
+{
+    for (size_t i = 0; i < count; i++) {
+        const test_case *c = &cases[w->backwards ? count - 1 - i : i];
+        w->differences += !as_expected(c, w->own);
+        w->ran++;
+    }
+}
+
+/* First both in the same order, then the second one backwards. */
+static void *work(void *argument)
+{
+    worker *w = argument;
+    int other_way = w->backwards;
+    for (int round = 0; round < ROUNDS; round++) {
+        w->backwards = round > 0 && other_way;
+        pthread_barrier_wait(&barrier);
+        run_cases(w);
+    }
+    return NULL;
+}
+
+static void prepare(worker *w, int backwards)
+{
+    memset(w, 0, sizeof *w);
+    w->backwards = backwards;
+    for (int k = 0; k < LISTS; k++)
+        if ((w->own[k] = malloc(LIST_BYTES_MAX)) == NULL)
+            die("no memory");
+}
+
+int main(int argc, char **argv)
+{
+    pthread_t threads[THREADS];
+    worker alone, together[THREADS];
+    unsigned long differences = 0, ran = 0;
+    unsigned long least = argc > 1 ? strtoul(argv[1], NULL, 10) : 1;
+    take_all();
+    prepare(&alone, 0);
+    run_cases(&alone);
+    pthread_barrier_init(&barrier, NULL, THREADS);
+    for (int i = 0; i < THREADS; i++) {
+        prepare(&together[i], i);
+        if (pthread_create(&threads[i], NULL, work, &together[i]) != 0)
+            die("no thread");
+    }
+    for (int i = 0; i < THREADS; i++) {
+        pthread_join(threads[i], NULL);
+        differences += together[i].differences;
+        ran += together[i].ran;
+    }
+    printf("  %8lu  cases by one thread, %lu differences\n", alone.ran,
+           alone.differences);
+    printf("  %8lu  by %d threads at once, %lu differences\n", ran, THREADS,
+           differences);
+    if (alone.ran < least || ran != (unsigned long)THREADS * ROUNDS * count)
+        return printf("  fewer than %lu cases\n", least) > 0;
+    return alone.differences + differences > 0;
+}
