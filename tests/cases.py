@@ -97,14 +97,18 @@ FUNCTIONS = [desk, check, read, pair, sheet, open_file]
 WIDTHS = [(1, 1), (4, 4, 4), (4, 4, 4), (4,) * 4, (4,) * 4, (1, 4, 4, 4)]
 
 
-def encode(kind, fill, call, arguments):
-    """The answer, and the case as bytes."""
+def expected(fill, call, arguments):
+    """By the exact-fraction program: the answer, the numbers, the lists."""
+    return FUNCTIONS[CALLS.index(call)](fill, *arguments)
+
+
+def record(kind, fill, call, answer, extra, lists):
+    """The case as bytes."""
     code = CALLS.index(call)
-    answer, extra, lists = FUNCTIONS[code](fill, *arguments)
     lengths = [len(data) // width for data, width in zip(lists, WIDTHS[code])]
     head = HEAD.pack(kind, code, fill, *extra, *[0] * (3 - len(extra)),
                      *lengths, *[0] * (4 - len(lengths)), answer)
-    return answer, head + b''.join(lists)
+    return head + b''.join(lists)
 
 
 # ---- what has been seen ----
@@ -180,8 +184,9 @@ def chunk(job):
     out, seen = [], set()
     while len(out) < min(CHUNK, least):
         for call, *arguments in make(rng):
-            answer, record = encode(kind, rng.randrange(256), call, arguments)
-            out.append(record)
+            fill = rng.randrange(256)
+            answer, extra, lists = expected(fill, call, arguments)
+            out.append(record(kind, fill, call, answer, extra, lists))
             seen.update(noted(call, arguments, answer))
     return b''.join(out), len(out), seen
 
@@ -192,21 +197,28 @@ def jobs(part):
             yield kind, index
 
 
+def stream_head(names):
+    return bytes([len(names)]) + b''.join(
+        bytes([len(name)]) + name.encode() for name in names)
+
+
+def stream_end(total):
+    return HEAD.pack(255, 0, 0, total, 0, 0, 0, 0, 0, 0, 0)
+
+
 def main():
     parser = argparse.ArgumentParser()
     parser.add_argument('--part', type=int, default=1)
     part = parser.parse_args().part
     out = sys.stdout.buffer
-    out.write(bytes([len(KINDS)]))
-    for _, name, _ in KINDS:
-        out.write(bytes([len(name)]) + name.encode())
+    out.write(stream_head([name for _, name, _ in KINDS]))
     total, seen = 0, set()
     with multiprocessing.Pool(2) as pool:
         for data, number, shown in pool.imap(chunk, jobs(part)):
             out.write(data)
             total += number
             seen |= shown
-    out.write(HEAD.pack(255, 0, 0, total, 0, 0, 0, 0, 0, 0, 0))
+    out.write(stream_end(total))
     missing = set(wanted()) - seen
     if part == 1 and missing:
         sys.exit('cases.py: no case of %s'

@@ -45,10 +45,10 @@ void make_rooms(void)
             rooms[k][written] = make_room(written);
 }
 
-/* Without entries a null pointer is good, except for the desk reading. */
-static uint8_t *on_heap(const test_case *c, size_t size)
+/* Without entries a null pointer is as good as any. */
+static uint8_t *on_heap(size_t size)
 {
-    if (size == 0 && c->call != DESK && taken % 2 == 0)
+    if (size == 0 && taken % 2 == 0)
         return NULL;
     uint8_t *block = malloc(size ? size : 1);
     if (block == NULL)
@@ -75,14 +75,14 @@ void lend(const test_case *c, int where, uint8_t *list[LISTS])
         if (forms[c->call][k].width == 0)
             continue;
         if (where == ON_HEAP) {
-            list[k] = on_heap(c, size);
+            list[k] = on_heap(size);
             set_list(c, k, list[k]);
             continue;
         }
         set_list(c, k, r->ours + at);
         if (written)
             memset(r->ours + (at > 0 ? at - GUARD : size), GUARD_BYTE, GUARD);
-        if (size > 0 || where == AT_END || c->call == DESK)
+        if (size > 0 || where == AT_END)
             list[k] = r->lent + at;
     }
 }

@@ -1,13 +1,13 @@
 /*
  * Calls from two threads at once.
  *
- *     threads LEAST < cases
+ *     threads LEAST ROUNDS < cases
  *
  * The stream is described in cases.py. First one thread runs all cases, then
- * two run them at the same time: the lists that are only read are the same
- * for both, those to be written are each thread's own. Fails if a case alone
- * is not as expected, if a thread gets another answer or list than that, or
- * with fewer than LEAST cases.
+ * two run them at the same time, ROUNDS times: the lists that are only read
+ * are the same for both, those to be written are each thread's own. Fails if
+ * a case alone is not as expected, if a thread gets another answer or list
+ * than that, or with fewer than LEAST cases.
  */
 #define _POSIX_C_SOURCE 200112L
 #include <pthread.h>
@@ -17,16 +17,17 @@
 
 #include "stream.h"
 
-enum { THREADS = 2, ROUNDS = 2 };
+enum { THREADS = 2 };
 
 typedef struct {
-    int backwards;
+    int second;
     unsigned long ran, differences;
     uint8_t *own[LISTS];
 } worker;
 
 static test_case *cases;
 static size_t count;
+static unsigned long rounds;
 static pthread_barrier_t barrier;
 
 static void take_all(void)
@@ -63,62 +64,70 @@ static int as_expected(const test_case *c, uint8_t *const own[LISTS])
     return good;
 }
 
-static void run_cases(worker *w)
+static void run_cases(worker *w, int backwards)
 {
     for (size_t i = 0; i < count; i++) {
-        const test_case *c = &cases[w->backwards ? count - 1 - i : i];
+        const test_case *c = &cases[backwards ? count - 1 - i : i];
         w->differences += !as_expected(c, w->own);
         w->ran++;
     }
 }
 
-/* First both in the same order, then the second one backwards. */
+/* Both in the same order; in every other round the second one backwards. */
 static void *work(void *argument)
 {
     worker *w = argument;
-    int other_way = w->backwards;
-    for (int round = 0; round < ROUNDS; round++) {
-        w->backwards = round > 0 && other_way;
+    for (unsigned long round = 0; round < rounds; round++) {
         pthread_barrier_wait(&barrier);
-        run_cases(w);
+        run_cases(w, w->second && round % 2 == 1);
     }
     return NULL;
 }
 
-static void prepare(worker *w, int backwards)
+static void prepare(worker *w, int second)
 {
     memset(w, 0, sizeof *w);
-    w->backwards = backwards;
+    w->second = second;
     for (int k = 0; k < LISTS; k++)
         if ((w->own[k] = malloc(LIST_BYTES_MAX)) == NULL)
             die("no memory");
+}
+
+static int report(const worker *alone, const worker *together,
+                  unsigned long least)
+{
+    unsigned long ran = 0, differences = 0;
+    for (int i = 0; i < THREADS; i++) {
+        ran += together[i].ran;
+        differences += together[i].differences;
+    }
+    printf("  %8lu  cases by one thread, %lu differences\n"
+           "  %8lu  by %d threads at once, %lu differences\n", alone->ran,
+           alone->differences, ran, THREADS, differences);
+    if (alone->ran < least || ran != THREADS * rounds * count)
+        return printf("  fewer than %lu cases\n", least) > 0;
+    return alone->differences + differences > 0;
 }
 
 int main(int argc, char **argv)
 {
     pthread_t threads[THREADS];
     worker alone, together[THREADS];
-    unsigned long differences = 0, ran = 0;
-    unsigned long least = argc > 1 ? strtoul(argv[1], NULL, 10) : 1;
+    if (argc != 3) {
+        fprintf(stderr, "usage: threads LEAST ROUNDS < cases\n");
+        return 2;
+    }
+    rounds = strtoul(argv[2], NULL, 10);
     take_all();
     prepare(&alone, 0);
-    run_cases(&alone);
+    run_cases(&alone, 0);
     pthread_barrier_init(&barrier, NULL, THREADS);
     for (int i = 0; i < THREADS; i++) {
         prepare(&together[i], i);
         if (pthread_create(&threads[i], NULL, work, &together[i]) != 0)
             die("no thread");
     }
-    for (int i = 0; i < THREADS; i++) {
+    for (int i = 0; i < THREADS; i++)
         pthread_join(threads[i], NULL);
-        differences += together[i].differences;
-        ran += together[i].ran;
-    }
-    printf("  %8lu  cases by one thread, %lu differences\n", alone.ran,
-           alone.differences);
-    printf("  %8lu  by %d threads at once, %lu differences\n", ran, THREADS,
-           differences);
-    if (alone.ran < least || ran != (unsigned long)THREADS * ROUNDS * count)
-        return printf("  fewer than %lu cases\n", least) > 0;
-    return alone.differences + differences > 0;
+    return report(&alone, together, strtoul(argv[1], NULL, 10));
 }
