@@ -64,6 +64,14 @@ static void set_list(const test_case *c, int k, uint8_t *to)
         memcpy(to, c->list[k], c->size[k]);
 }
 
+/* Whether list k, only read, holds what the list before it holds. */
+static int is_repeated(const test_case *c, int k)
+{
+    return k > 0 && !forms[c->call][k].written && c->size[k] > 0 &&
+           c->size[k] == c->size[k - 1] &&
+           memcmp(c->list[k], c->list[k - 1], c->size[k]) == 0;
+}
+
 void lend(const test_case *c, int where, uint8_t *list[LISTS])
 {
     for (int k = 0; k < LISTS; k++) {
@@ -84,6 +92,8 @@ void lend(const test_case *c, int where, uint8_t *list[LISTS])
             memset(r->ours + (at > 0 ? at - GUARD : size), GUARD_BYTE, GUARD);
         if (size > 0 || where == AT_END)
             list[k] = r->lent + at;
+        if (where == AT_START && is_repeated(c, k))
+            list[k] = list[k - 1];
     }
 }
 

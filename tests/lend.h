@@ -1,7 +1,8 @@
 /*
  * Memory to lend to a call. Fenced: between pages that trap, and a list that
  * is only read in pages that cannot be written. On the heap: a block for each
- * list, for a memory checker.
+ * list, for a memory checker. Lists without entries are null pointers too,
+ * and lists that are only read and hold the same are one list too.
  */
 #ifndef LEND_H
 #define LEND_H

@@ -151,6 +151,18 @@ def far_lengths(rng):
                 yield from list_calls(rng, mixed, 2, 1)
 
 
+def same_lists(rng):
+    """Lists that hold the same numbers; the client lends one for all."""
+    count = rng.choice([2, 3, 64, rng.randint(2, 70)])
+    numbers = [rng.randint(0, 50)]
+    while len(numbers) < count:
+        numbers.append(numbers[-1] + rng.randint(1, 150))
+    areas = tuple(numbers)
+    slopes = rng.choice([areas, areas, (0,) * count])
+    yield from list_calls(rng, (areas, areas, slopes), 1,
+                          rng.randint(areas[0], areas[-1]))
+
+
 def codes(rng):
     """Shape codes beyond a byte too, most of them with a 1 or 2 inside."""
     points, shape = any_curve(rng)
@@ -325,6 +337,7 @@ KINDS = [
     (unequal, 'lists of unequal lengths', 16000),
     (all_lengths, 'lists of 0 to 70 points', 500),
     (far_lengths, 'lists of more points', 60),
+    (same_lists, 'one list for several', 4000),
     (codes, 'shape codes beyond a byte', 8000),
     (each_place, 'each refusal at each place', 500),
     (pair_rooms, 'pair: out short, exact, longer', 8000),

@@ -5,7 +5,7 @@
 Builds client.c and far_lengths.c with the plain C version of bench/, which
 must pass on the file CASES, then with the wrong versions of it that
 wrong_edits.py has, which must not. With "threads" also threads.c under the
-thread sanitizer.
+thread sanitizer. Nor may the client pass on streams that leave something out.
 """
 
 import multiprocessing.pool
@@ -92,6 +92,30 @@ def fault_of(right, folder, cases, number, test, old, new):
     return None
 
 
+def left_out(program, cases):
+    """Streams and words with which even the right version may not pass."""
+    with open(cases, 'rb') as file:
+        stream = file.read()
+    examples = subprocess.run([sys.executable,
+                               os.path.join(HERE, 'examples.py')],
+                              stdout=subprocess.PIPE, check=True).stdout
+    end = 39                                # bytes of the mark at the end
+    for name, words, data, wanted in (
+            ('all', ['1'], stream, 0),
+            ('examples', ['1', 'some'], examples, 0),
+            ('no end', ['1'], stream[:-end], 2),
+            ('half a case', ['1'], stream[:-end - 3], 2),
+            ('a wrong total', ['1'], stream[:-end] + b'\xff' + bytes(38), 2),
+            ('too few cases', ['9999999'], stream, 1),
+            ('refusals not seen', ['1'], examples, 1)):
+        done = subprocess.run([program, *words], input=data,
+                              stdout=subprocess.DEVNULL,
+                              stderr=subprocess.DEVNULL)
+        if done.returncode != wanted:
+            yield 'client on a stream with %s: exit status %d' % (
+                name, done.returncode)
+
+
 def main():
     cases, folder, *words = sys.argv[1:]
     with open(os.path.join(ROOT, 'bench', 'plain.c'), encoding='ascii') as file:
@@ -106,6 +130,7 @@ def main():
 
     with multiprocessing.pool.ThreadPool(2) as pool:
         faults = list(filter(None, pool.map(try_one, enumerate(todo), 1)))
+    faults += left_out(os.path.join(folder, 'client0'), cases)
     for fault in faults:
         print('FAILED ' + fault)
     for name, edits in wrong_edits.COMPARED:
