@@ -4,10 +4,11 @@
  *     threads LEAST ROUNDS < cases
  *
  * The stream is described in cases.py. First one thread runs all cases, then
- * two run them at the same time, ROUNDS times: the lists that are only read
- * are the same for both, those to be written are each thread's own. Fails if
- * a case alone is not as expected, if a thread gets another answer or list
- * than that, or with fewer than LEAST cases.
+ * two run them at the same time, ROUNDS times, and wait for each other after
+ * each batch: the lists that are only read are the same for both, those to be
+ * written are each thread's own. Fails if a case alone is not as expected, if
+ * a thread gets another answer or list than that, or with fewer than LEAST
+ * cases.
  */
 #define _POSIX_C_SOURCE 200112L
 #include <pthread.h>
@@ -17,7 +18,7 @@
 
 #include "stream.h"
 
-enum { THREADS = 2 };
+enum { THREADS = 2, BATCH = 100 };
 
 typedef struct {
     int second;
@@ -64,23 +65,26 @@ static int as_expected(const test_case *c, uint8_t *const own[LISTS])
     return good;
 }
 
-static void run_cases(worker *w, int backwards)
+/* The cases from start up to end, or from end down. */
+static void run_cases(worker *w, size_t start, size_t end, int down)
 {
-    for (size_t i = 0; i < count; i++) {
-        const test_case *c = &cases[backwards ? count - 1 - i : i];
+    for (size_t i = start; i < end; i++) {
+        const test_case *c = &cases[down ? start + end - 1 - i : i];
         w->differences += !as_expected(c, w->own);
         w->ran++;
     }
 }
 
-/* Both in the same order; in every other round the second one backwards. */
+/* In every other round the second thread takes each batch from its end. */
 static void *work(void *argument)
 {
     worker *w = argument;
-    for (unsigned long round = 0; round < rounds; round++) {
-        pthread_barrier_wait(&barrier);
-        run_cases(w, w->second && round % 2 == 1);
-    }
+    for (unsigned long round = 0; round < rounds; round++)
+        for (size_t start = 0; start < count; start += BATCH) {
+            size_t end = count - start > BATCH ? start + BATCH : count;
+            pthread_barrier_wait(&barrier);
+            run_cases(w, start, end, w->second && round % 2 == 1);
+        }
     return NULL;
 }
 
@@ -120,7 +124,7 @@ int main(int argc, char **argv)
     rounds = strtoul(argv[2], NULL, 10);
     take_all();
     prepare(&alone, 0);
-    run_cases(&alone, 0);
+    run_cases(&alone, 0, count, 0);
     pthread_barrier_init(&barrier, NULL, THREADS);
     for (int i = 0; i < THREADS; i++) {
         prepare(&together[i], i);

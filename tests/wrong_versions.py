@@ -62,7 +62,7 @@ class Test:
 CLIENT = Test('client', ['1', 'first'], ['client', 'stream', 'lend'])
 FAR = Test('far', [], ['far_lengths'])
 THREADS = Test('threads', ['1', '1'], ['threads', 'stream'],
-               ['-g', '-O1', '-pthread', '-fsanitize=thread'])
+               ['-g', '-pthread', '-fsanitize=thread'])
 
 
 def jobs(with_threads):
