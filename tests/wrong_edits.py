@@ -114,7 +114,10 @@ CHECK = [
     (CHECKED + '    return fault ?', '''    if (areas_len)
         *(volatile uint32_t *)areas = *(const volatile uint32_t *)areas;
 ''' + CHECKED + '    return fault ?'),
-    # reading an entry too many
+    # reading an entry of a list without entries, and one too many
+    (CHECKED + '    return fault ?',
+     '    (void)*(const volatile uint32_t *)values;\n' + CHECKED
+     + '    return fault ?'),
     (CHECKED + '    return fault ?', '''    if (slopes_len)
         (void)*(const volatile int32_t *)(slopes + slopes_len);
 ''' + CHECKED + '    return fault ?'),
@@ -211,6 +214,9 @@ SHEET = [
     # writing before refusing
     ('    if (last > areas[areas_len - 1])',
      '    out[0] = factor(c, shape, start);\n    if (last > areas[areas_len - 1])'),
+    # touching a list without entries
+    (SHEET_ROW_8, '    *(volatile int32_t *)out = *(volatile int32_t *)out;\n'
+     + SHEET_ROW_8),
     # entries not written, another result
     ('start, step, out, out_len);', 'start, step, out, out_len - 1);'),
     ('start, step, out, out_len);', 'start, step, out, 1);'),
