@@ -20,6 +20,7 @@ import unittest
 sys.path.insert(0, os.path.dirname(os.path.abspath(__file__)))
 import curves
 import exact_fractions
+from curve_file import curve_file
 
 ROOT = os.path.join(os.path.dirname(os.path.abspath(__file__)), '..')
 PROGRAM = os.path.abspath(os.environ.get('RATESHEET') or os.path.join(ROOT, 'target', 'bin', 'ratesheet'))
@@ -74,11 +75,11 @@ class Sheets(unittest.TestCase):
 
     def test_lengths_around_the_limit(self):
         flat = [(point, 5, 0) for point in range(66)]
-        longest = curves.curve_file(flat[:64], 1)
+        longest = curve_file(flat[:64], 1)
         self.assertEqual(len(longest), 775)
         self.assertTrue(self.expect(longest).startswith(b'shape 1 points 64\n'))
         self.assertEqual(self.expect(longest + b'\0'), b'refused 10 at 0\n')
-        fits = curves.curve_file(flat[:65], 1)
+        fits = curve_file(flat[:65], 1)
         self.assertEqual(len(fits), 787)
         self.assertEqual(self.expect(fits), b'refused 10 at 0\n')
         self.assertEqual(self.expect(b'X' + fits[1:]), b'refused 9 at 0\n')
@@ -92,7 +93,7 @@ class Sheets(unittest.TestCase):
         rng = random.Random('sheets 2')
         for index in range(60):
             shape = 1 + index % 2
-            self.expect(curves.curve_file(curves.some_curve(rng, shape), shape))
+            self.expect(curve_file(curves.some_curve(rng, shape), shape))
 
     def test_input_in_small_pieces(self):
         process = subprocess.Popen([PROGRAM], stdin=subprocess.PIPE, stdout=subprocess.PIPE, bufsize=0)
