@@ -2,36 +2,49 @@
 PREFIX ?= /usr/local
 DESTDIR ?=
 CC ?= cc
+AR ?= ar
 CFLAGS ?= -O2
 INSTALL ?= install
 
-archive = target/staticlib/libdesk.a
+version := $(shell cat VERSION)
+major := $(firstword $(subst ., ,$(version)))
+lib = target/lib/libfactor_curves
+objects = target/lib/objects
 program = target/bin/ratesheet
+pages = ratesheet factor-curves
+to = $(DESTDIR)$(PREFIX)
 
 # $(call proved,FILE,COMMAND): rt proves only what has changed. What it prints is shown if it fails.
 define proved
 @[ -e $(1) ] || echo "make: proving what $(1) is made of; from nothing this takes a minute or two" >&2
-@mkdir -p target; $(2) >target/make.log 2>&1 || { cat target/make.log >&2; exit 1; }
+@mkdir -p target; { $(2); } >target/make.log 2>&1 || { cat target/make.log >&2; exit 1; }
 endef
 
 # $(call need,TOOL,WHERE IT COMES FROM)
 need = @command -v $(1) >/dev/null || { echo "make: $(1) is not on the path: $(2)" >&2; exit 1; }
 
 .NOTPARALLEL:
-.PHONY: all archive program quote run test bench install clean help need-rt need-cc need-python3
+.PHONY: all lib program quote run test bench install uninstall version clean help need-rt need-cc need-python3
 
-all: archive program ## the archive and the program; what `make` alone does
+all: lib program ## the library and the program; what `make` alone does
 
-archive: need-rt ## target/staticlib/libdesk.a, for C programs (include/desk.h)
-	$(call proved,$(archive),rt staticlib desk)
-	@echo $(archive)
+lib: need-rt need-cc ## target/lib/libfactor_curves.a and .so, for C and Python
+	$(call proved,$(lib).a,rt staticlib desk && rt staticlib exports)
+	@rm -rf $(objects) && mkdir -p $(objects)
+	@cd $(objects) && $(AR) x ../../staticlib/libdesk.a && $(AR) x ../../staticlib/libexports.a
+	@$(CC) $(CFLAGS) -fPIC -Iinclude -c c/refusal_words.c -o $(objects)/refusal_words.o
+	@rm -f $(lib).a && $(AR) rcs $(lib).a $(objects)/*.o
+	@$(CC) $(CFLAGS) -shared -Wl,-soname,libfactor_curves.so.$(major) -Wl,-z,noexecstack -o $(lib).so $(objects)/*.o
+	@ln -sf libfactor_curves.so $(lib).so.$(major)
+	@echo $(lib).a $(lib).so
 
 program: need-rt ## target/bin/ratesheet, the sheet of a curve file (man/ratesheet.1)
 	$(call proved,$(program),rt check ratesheet)
 	@echo $(program)
 
-quote: need-cc archive ## target/quote, the sample quoting desk: target/quote samples/document-01.trf 550
-	$(CC) $(CFLAGS) -Iinclude samples/quote.c $(archive) -o target/quote
+quote: need-cc lib ## target/quote, the sample quoting desk: target/quote samples/document-01.trf 550
+	@$(CC) $(CFLAGS) -Iinclude samples/quote.c $(lib).a -o target/quote
+	@echo target/quote
 
 run: need-rt ## print the sheet of samples/document-01.trf
 	$(call proved,$(program),rt check ratesheet)
@@ -40,22 +53,36 @@ run: need-rt ## print the sheet of samples/document-01.trf
 test: need-rt need-cc need-python3 ## the whole gate: outside tests, proofs, must-fail edits, programs (.ci/run)
 	.ci/run
 
-bench: need-rt need-cc ## times against a plain C version (docs/BENCHMARKS.md)
+bench: need-rt need-cc need-python3 ## times against a plain C version (docs/BENCHMARKS.md)
 	bench/run
 
-install: all ## header, archive, program and man page, below PREFIX (/usr/local)
-	$(INSTALL) -d $(DESTDIR)$(PREFIX)/include $(DESTDIR)$(PREFIX)/lib
-	$(INSTALL) -d $(DESTDIR)$(PREFIX)/bin $(DESTDIR)$(PREFIX)/share/man/man1
-	$(INSTALL) -m 644 include/desk.h $(DESTDIR)$(PREFIX)/include/desk.h
-	$(INSTALL) -m 644 $(archive) $(DESTDIR)$(PREFIX)/lib/libdesk.a
-	$(INSTALL) -m 755 $(program) $(DESTDIR)$(PREFIX)/bin/ratesheet
-	$(INSTALL) -m 644 man/ratesheet.1 $(DESTDIR)$(PREFIX)/share/man/man1/ratesheet.1
+install: all ## library, headers, pkg-config file, program and man pages, below PREFIX (/usr/local)
+	$(INSTALL) -d $(to)/include $(to)/lib/pkgconfig $(to)/bin $(to)/share/man/man1
+	$(INSTALL) -m 644 include/factor_curves.h include/desk.h $(to)/include
+	$(INSTALL) -m 644 $(lib).a $(to)/lib
+	$(INSTALL) -m 755 $(lib).so $(to)/lib/libfactor_curves.so.$(version)
+	ln -sf libfactor_curves.so.$(version) $(to)/lib/libfactor_curves.so.$(major)
+	ln -sf libfactor_curves.so.$(version) $(to)/lib/libfactor_curves.so
+	sed 's|@PREFIX@|$(PREFIX)|; s|@VERSION@|$(version)|' c/factor_curves.pc.in >target/factor_curves.pc
+	$(INSTALL) -m 644 target/factor_curves.pc $(to)/lib/pkgconfig
+	$(INSTALL) -m 755 $(program) $(to)/bin
+	$(INSTALL) -m 644 $(pages:%=man/%.1) $(to)/share/man/man1
+
+uninstall: ## remove what `make install` with the same PREFIX and DESTDIR installed
+	rm -f $(to)/include/factor_curves.h $(to)/include/desk.h $(to)/bin/ratesheet $(to)/lib/pkgconfig/factor_curves.pc
+	rm -f $(to)/lib/libfactor_curves.a $(to)/lib/libfactor_curves.so $(to)/lib/libfactor_curves.so.$(major)
+	rm -f $(to)/lib/libfactor_curves.so.$(version) $(pages:%=$(to)/share/man/man1/%.1)
+
+version: ## write the number in VERSION into the header, the Python package and the program
+	sed -i 's|\(#define FACTOR_CURVES_VERSION "\)[^"]*|\1$(version)|' include/factor_curves.h
+	sed -i 's|^\(__version__ = "\)[^"]*|\1$(version)|' python/factor_curves/__init__.py
+	sed -i 's|\(b"ratesheet \)[0-9.]*|\1$(version)|' crates/ratesheet/src/main.rt
 
 clean: ## remove target/, with all that was built
 	rm -rf target
 
 help: ## this list
-	@awk -F ':.*## ' '/^[a-z]+:.*## / { printf "make %-8s %s\n", $$1, $$2 }' Makefile
+	@awk -F ':.*## ' '/^[a-z]+:.*## / { printf "make %-9s %s\n", $$1, $$2 }' Makefile
 
 need-rt:
 	$(call need,rt,it comes with the Rattle kit)

@@ -1,6 +1,6 @@
 /*
- * The desk reading and the sheet in plain C, with __int128 for the one
- * product that 64 bits cannot hold. Same checks, same order of refusals.
+ * The calls in plain C, with __int128 for the one product that 64 bits cannot
+ * hold. Same checks, same order of refusals, same answers.
  */
 #include "plain.h"
 
@@ -12,9 +12,15 @@ typedef struct {
     int32_t slope;
 } point;
 
-static int32_t refused(int number)
+/* A refusal of the five calls; the desk reading gives its number alone. */
+static int64_t refused(int number, size_t place)
 {
-    return -1000000 - number;
+    return -((INT64_C(1) << 32) * number + (int64_t)place);
+}
+
+static int32_t desk_refused(int64_t refusal)
+{
+    return -1000000 - (int32_t)(-refusal >> 32);
 }
 
 static uint32_t load32(const uint8_t *p)
@@ -29,6 +35,8 @@ static inline point load_point(const uint8_t *record)
                (int32_t)load32(record + 8)};
     return p;
 }
+
+/* ---- one point, one segment ---- */
 
 /* The refusal at one point, or 0. The first point has no one before it. */
 static inline int point_fault(point p, uint32_t before, int first)
@@ -102,29 +110,54 @@ static inline int32_t segment_factor(point l, point r, uint32_t shape,
     return shape == 1 ? rising(l, r, t, u) : convex(l, r, t, u);
 }
 
-/* Rows 3 to 6 for the points of a file: a refusal number, or 0. */
-static inline int scan(const uint8_t *records, size_t count, uint32_t shape)
+/* ---- points in a file ---- */
+
+/* Rows 3 to 6: a refusal, or 0. */
+static inline int64_t scan(const uint8_t *records, size_t count,
+                           uint32_t shape)
 {
     point l = load_point(records);
     int fault = point_fault(l, 0, 1);
-    int shapeless = 0;
+    size_t shapeless = count;
     if (fault)
-        return fault;
+        return refused(fault, 0);
     for (size_t i = 1; i < count; i++) {
         point r = load_point(records + 12 * i);
         fault = point_fault(r, l.area, 0);
         if (fault)
-            return fault;
-        if (!has_shape(l, r, shape))
-            shapeless = 1;
+            return refused(fault, i);
+        if (!has_shape(l, r, shape) && shapeless == count)
+            shapeless = i - 1;
         l = r;
     }
-    return shapeless ? 6 : 0;
+    return shapeless < count ? refused(6, shapeless) : 0;
+}
+
+/* Rows 9 and 10: a refusal, or 0. */
+static inline int64_t head_fault(const uint8_t *bytes, size_t bytes_len)
+{
+    if (bytes_len < 7 || memcmp(bytes, "TRF\1\0", 5) != 0)
+        return refused(9, 0);
+    if (bytes_len != 7 + 12 * (size_t)bytes[6])
+        return refused(10, 0);
+    return 0;
+}
+
+/* Rows 1 to 6 of a file with a good head: a refusal, or 0. */
+static inline int64_t file_fault(const uint8_t *bytes)
+{
+    size_t count = bytes[6];
+    uint32_t shape = bytes[5];
+    if (count < 2 || count > 64)
+        return refused(1, 0);
+    if (shape != 1 && shape != 2)
+        return refused(2, 0);
+    return shape == 1 ? scan(bytes + 7, count, 1) : scan(bytes + 7, count, 2);
 }
 
 /* The last segment whose left area is not above the area. */
-static inline size_t find_segment(const uint8_t *records, size_t count,
-                                  uint32_t area)
+static inline size_t find_record(const uint8_t *records, size_t count,
+                                 uint32_t area)
 {
     size_t low = 0, left = count - 1;
     while (left > 1) {
@@ -139,50 +172,156 @@ int32_t plain_desk_reading(const uint8_t *bytes, size_t bytes_len,
                            uint32_t area, uint8_t *scratch,
                            size_t scratch_len)
 {
-    if (bytes_len < 7 || memcmp(bytes, "TRF\1\0", 5) != 0)
-        return refused(9);
-    uint32_t shape = bytes[5];
-    size_t count = bytes[6];
-    if (bytes_len != 7 + 12 * count)
-        return refused(10);
-    if (scratch_len < 12 * count)
-        return refused(11);
-    if (count < 2 || count > 64)
-        return refused(1);
-    if (shape != 1 && shape != 2)
-        return refused(2);
-    const uint8_t *records = bytes + 7;
-    int fault = shape == 1 ? scan(records, count, 1) : scan(records, count, 2);
+    int64_t fault = head_fault(bytes, bytes_len);
     if (fault)
-        return refused(fault);
+        return desk_refused(fault);
+    size_t count = bytes[6];
+    if (scratch_len < 12 * count)
+        return desk_refused(refused(11, 0));
+    const uint8_t *records = bytes + 7;
+    fault = file_fault(bytes);
+    if (fault)
+        return desk_refused(fault);
     if (area < load32(records) || area > load32(records + 12 * (count - 1)))
-        return refused(7);
-    size_t segment = find_segment(records, count, area);
-    point l = load_point(records + 12 * segment);
-    point r = load_point(records + 12 * segment + 12);
-    memcpy(scratch, records, 12 * count);
-    return segment_factor(l, r, shape, area);
+        return desk_refused(refused(7, 0));
+    const uint8_t *left = records + 12 * find_record(records, count, area);
+    point l = load_point(left), r = load_point(left + 12);
+    /* Not memcpy: gcc 12 puts rep movs for it, which is slow to start. */
+    memmove(scratch, records, 12 * count);
+    return segment_factor(l, r, bytes[5], area);
 }
 
-/* Rows 3 to 6 for three lists. A refusal number, or 0. */
-static int check_lists(const uint32_t *areas, const uint32_t *values,
-                       const int32_t *slopes, size_t count, uint32_t shape)
+int64_t plain_curve_open(const uint8_t *bytes, size_t bytes_len,
+                         uint32_t *areas, size_t areas_len, uint32_t *values,
+                         size_t values_len, int32_t *slopes,
+                         size_t slopes_len)
 {
-    point l = {areas[0], values[0], slopes[0]};
-    int fault = point_fault(l, 0, 1);
-    int shapeless = 0;
+    int64_t fault = head_fault(bytes, bytes_len);
     if (fault)
         return fault;
-    for (size_t i = 1; i < count; i++) {
-        point r = {areas[i], values[i], slopes[i]};
+    size_t count = bytes[6];
+    if (areas_len < count || values_len < count || slopes_len < count)
+        return refused(11, 0);
+    fault = file_fault(bytes);
+    if (fault)
+        return fault;
+    for (size_t i = 0; i < count; i++) {
+        point p = load_point(bytes + 7 + 12 * i);
+        areas[i] = p.area;
+        values[i] = p.value;
+        slopes[i] = p.slope;
+    }
+    return 256 * bytes[5] + (int64_t)count;
+}
+
+/* ---- points in lists ---- */
+
+typedef struct {
+    const uint32_t *areas, *values;
+    const int32_t *slopes;
+    size_t count;
+} lists;
+
+static inline point point_at(lists c, size_t i)
+{
+    point p = {c.areas[i], c.values[i], c.slopes[i]};
+    return p;
+}
+
+/* Rows 3 to 6: a refusal, or 0. */
+static inline int64_t scan_lists(lists c, uint32_t shape)
+{
+    point l = point_at(c, 0);
+    int fault = point_fault(l, 0, 1);
+    size_t shapeless = c.count;
+    if (fault)
+        return refused(fault, 0);
+    for (size_t i = 1; i < c.count; i++) {
+        point r = point_at(c, i);
         fault = point_fault(r, l.area, 0);
         if (fault)
-            return fault;
-        if (!has_shape(l, r, shape))
-            shapeless = 1;
+            return refused(fault, i);
+        if (!has_shape(l, r, shape) && shapeless == c.count)
+            shapeless = i - 1;
         l = r;
     }
-    return shapeless ? 6 : 0;
+    return shapeless < c.count ? refused(6, shapeless) : 0;
+}
+
+/* Rows 1 to 6: a refusal, or 0. */
+static inline int64_t lists_fault(lists c, size_t values_len,
+                                  size_t slopes_len, uint32_t shape)
+{
+    if (values_len != c.count || slopes_len != c.count)
+        return refused(1, 0);
+    if (c.count < 2 || c.count > 64)
+        return refused(1, 0);
+    if (shape != 1 && shape != 2)
+        return refused(2, 0);
+    return shape == 1 ? scan_lists(c, 1) : scan_lists(c, 2);
+}
+
+static inline int outside(lists c, uint32_t area)
+{
+    return area < c.areas[0] || area > c.areas[c.count - 1];
+}
+
+/* The factor at an area that is not outside. */
+static inline int32_t factor(lists c, uint32_t shape, uint32_t area)
+{
+    size_t low = 0, left = c.count - 1;
+    while (left > 1) {
+        size_t half = left / 2;
+        low += c.areas[low + half] <= area ? half : 0;
+        left -= half;
+    }
+    return segment_factor(point_at(c, low), point_at(c, low + 1), shape, area);
+}
+
+int64_t plain_curve_check(const uint32_t *areas, size_t areas_len,
+                          const uint32_t *values, size_t values_len,
+                          const int32_t *slopes, size_t slopes_len,
+                          uint32_t shape)
+{
+    lists c = {areas, values, slopes, areas_len};
+    int64_t fault = lists_fault(c, values_len, slopes_len, shape);
+    return fault ? fault : (int64_t)areas_len - 1;
+}
+
+int64_t plain_curve_read(const uint32_t *areas, size_t areas_len,
+                         const uint32_t *values, size_t values_len,
+                         const int32_t *slopes, size_t slopes_len,
+                         uint32_t shape, uint32_t area)
+{
+    lists c = {areas, values, slopes, areas_len};
+    int64_t fault = lists_fault(c, values_len, slopes_len, shape);
+    if (fault)
+        return fault;
+    if (outside(c, area))
+        return refused(7, 0);
+    return factor(c, shape, area);
+}
+
+int64_t plain_curve_pair(const uint32_t *areas, size_t areas_len,
+                         const uint32_t *values, size_t values_len,
+                         const int32_t *slopes, size_t slopes_len,
+                         uint32_t shape, uint32_t form, uint32_t plan,
+                         int32_t *out, size_t out_len)
+{
+    lists c = {areas, values, slopes, areas_len};
+    if (out_len < 3)
+        return refused(11, 0);
+    int64_t fault = lists_fault(c, values_len, slopes_len, shape);
+    if (fault)
+        return fault;
+    if (outside(c, form))
+        return refused(7, 0);
+    if (outside(c, plan))
+        return refused(7, 1);
+    out[0] = factor(c, shape, form);
+    out[1] = factor(c, shape, plan);
+    out[2] = out[1] - out[0];
+    return 3;
 }
 
 /* Fills the entries from index i on whose areas are below end. */
@@ -196,32 +335,36 @@ static inline size_t fill(point l, point r, uint32_t shape, uint64_t end,
     return i;
 }
 
-int32_t plain_sheet_factors(const uint32_t *areas, size_t areas_len,
-                            const uint32_t *values, size_t values_len,
-                            const int32_t *slopes, size_t slopes_len,
-                            uint32_t shape, uint32_t start, uint32_t step,
-                            int32_t *out, size_t m)
+/* The entries of a sheet whose areas are not outside. */
+static inline void fill_sheet(lists c, uint32_t shape, uint32_t start,
+                              uint32_t step, int32_t *out, size_t m)
 {
-    size_t count = areas_len;
-    if (values_len != count || slopes_len != count || count < 2 || count > 64)
-        return refused(1);
-    if (shape != 1 && shape != 2)
-        return refused(2);
-    int fault = check_lists(areas, values, slopes, count, shape);
-    if (fault)
-        return refused(fault);
-    if (step == 0 || m == 0 || m > 1024)
-        return refused(8);
-    uint64_t last = start + (uint64_t)step * (m - 1);
-    if (start < areas[0] || last > areas[count - 1])
-        return refused(7);
     size_t i = 0;
-    for (size_t k = 0; k + 1 < count && i < m; k++) {
-        point l = {areas[k], values[k], slopes[k]};
-        point r = {areas[k + 1], values[k + 1], slopes[k + 1]};
-        uint64_t end = k + 2 < count ? r.area : (uint64_t)r.area + 1;
+    for (size_t k = 0; k + 1 < c.count && i < m; k++) {
+        point l = point_at(c, k), r = point_at(c, k + 1);
+        uint64_t end = k + 2 < c.count ? r.area : (uint64_t)r.area + 1;
         i = shape == 1 ? fill(l, r, 1, end, start, step, out, i, m)
                        : fill(l, r, 2, end, start, step, out, i, m);
     }
-    return (int32_t)m;
+}
+
+int64_t plain_curve_sheet(const uint32_t *areas, size_t areas_len,
+                          const uint32_t *values, size_t values_len,
+                          const int32_t *slopes, size_t slopes_len,
+                          uint32_t shape, uint32_t start, uint32_t step,
+                          int32_t *out, size_t out_len)
+{
+    lists c = {areas, values, slopes, areas_len};
+    int64_t fault = lists_fault(c, values_len, slopes_len, shape);
+    if (fault)
+        return fault;
+    if (step == 0 || out_len == 0 || out_len > 1024)
+        return refused(8, 0);
+    if (outside(c, start))
+        return refused(7, 0);
+    uint64_t last = start + (uint64_t)step * (out_len - 1);
+    if (last > areas[areas_len - 1])
+        return refused(7, (areas[areas_len - 1] - start) / step + 1);
+    fill_sheet(c, shape, start, step, out, out_len);
+    return (int64_t)out_len;
 }

@@ -1,7 +1,8 @@
 /*
  * desk.h: read one factor from a curve file.
  *
- * Link with libdesk.a. C99 or later, and C++.
+ * Link with libfactor_curves. C99 or later, and C++. The other calls, and the
+ * refusal numbers in words, are in factor_curves.h, which this includes.
  *
  *     #include <stdio.h>
  *     #include "desk.h"
@@ -17,8 +18,7 @@
 #ifndef DESK_H
 #define DESK_H
 
-#include <stddef.h>
-#include <stdint.h>
+#include "factor_curves.h"
 
 #ifdef __cplusplus
 extern "C" {
@@ -27,8 +27,8 @@ extern "C" {
 /* A curve file: a header, then the points. */
 #define DESK_HEADER_BYTES 7 /* before the first point */
 #define DESK_POINT_BYTES 12 /* for each point */
-#define DESK_POINTS_MAX 64  /* points of an accepted curve */
-#define DESK_COUNT_MAX 255  /* points that a header can state, in one byte */
+#define DESK_POINTS_MAX CURVE_POINTS_MAX /* points of an accepted curve */
+#define DESK_COUNT_MAX CURVE_COUNT_MAX   /* points that a header can state */
 
 /* The longest file of an accepted curve. */
 #define DESK_FILE_MAX (DESK_HEADER_BYTES + DESK_POINT_BYTES * DESK_POINTS_MAX)
@@ -38,54 +38,27 @@ extern "C" {
 #define DESK_SCRATCH_ENOUGH (DESK_POINT_BYTES * DESK_COUNT_MAX)
 
 /*
- * Refusal numbers. If several apply, the first in this order is given:
- * 9, 10, 11, 1, 2, then 3 to 5 by point, 6, 7. Number 8 is not used here.
+ * The refusal numbers of factor_curves.h under a desk's names. If several
+ * apply, the first in this order is given: 9, 10, 11, 1, 2, then 3 to 5 by
+ * point, 6, 7. Number 8 is not used here.
  */
-#define DESK_REFUSED_COUNT 1    /* fewer than 2 or more than 64 points */
-#define DESK_REFUSED_SHAPE 2    /* the shape code is neither 1 nor 2 */
-#define DESK_REFUSED_AREA 3     /* an area is above 20,000, or not larger than
-                                   the one before, or over 2,000 beyond it */
-#define DESK_REFUSED_VALUE 4    /* a value is above 200,000 */
-#define DESK_REFUSED_SLOPE 5    /* a slope is outside -10,000 to 10,000 */
-#define DESK_REFUSED_SEGMENT 6  /* a segment does not have the shape */
-#define DESK_REFUSED_OUTSIDE 7  /* the area read is outside the curve */
-#define DESK_REFUSED_MARK 9     /* under 7 bytes, not TRF, or not version 1 */
-#define DESK_REFUSED_LENGTH 10  /* the length is not 7 + 12 * count */
-#define DESK_REFUSED_SCRATCH 11 /* the scratch is under 12 * count bytes */
+#define DESK_REFUSED_COUNT CURVE_REFUSED_COUNT
+#define DESK_REFUSED_SHAPE CURVE_REFUSED_SHAPE
+#define DESK_REFUSED_AREA CURVE_REFUSED_AREA
+#define DESK_REFUSED_VALUE CURVE_REFUSED_VALUE
+#define DESK_REFUSED_SLOPE CURVE_REFUSED_SLOPE
+#define DESK_REFUSED_SEGMENT CURVE_REFUSED_SEGMENT
+#define DESK_REFUSED_OUTSIDE CURVE_REFUSED_OUTSIDE
+#define DESK_REFUSED_MARK CURVE_REFUSED_MARK
+#define DESK_REFUSED_LENGTH CURVE_REFUSED_LENGTH
+#define DESK_REFUSED_SCRATCH CURVE_REFUSED_ROOM
 
 /* Whether an answer of desk_reading is a refusal, and if so its number. */
 #define DESK_IS_REFUSED(answer) ((answer) < -1000000)
 #define DESK_REFUSAL(answer) (-1000000 - (answer))
 
-/* A refusal number of desk_reading in words. */
-static inline const char *desk_reason(int number)
-{
-    switch (number) {
-    case DESK_REFUSED_COUNT:
-        return "the curve has fewer than 2 or more than 64 points";
-    case DESK_REFUSED_SHAPE:
-        return "the shape code is neither 1 (rising) nor 2 (convex)";
-    case DESK_REFUSED_AREA:
-        return "an area is above 20,000, not larger than the one before, "
-               "or more than 2,000 beyond it";
-    case DESK_REFUSED_VALUE:
-        return "a value is above 200,000";
-    case DESK_REFUSED_SLOPE:
-        return "a slope is outside -10,000 to 10,000";
-    case DESK_REFUSED_SEGMENT:
-        return "two neighbouring points do not fit the shape";
-    case DESK_REFUSED_OUTSIDE:
-        return "the area is outside the curve";
-    case DESK_REFUSED_MARK:
-        return "not a curve file of version 1";
-    case DESK_REFUSED_LENGTH:
-        return "the file's length does not fit its number of points";
-    case DESK_REFUSED_SCRATCH:
-        return "the scratch is too short";
-    default:
-        return "unknown refusal";
-    }
-}
+/* A refusal number in words. */
+#define desk_reason(number) curve_refusal_words(number)
 
 /*
  * The factor at an area.
@@ -96,8 +69,8 @@ static inline const char *desk_reason(int number)
  *                         of the file are needed
  *
  * What the caller owes, and nothing else:
- *   - neither pointer is null, even with length 0;
- *   - each is good for its length, scratch also for writing;
+ *   - each pointer is good for its length, scratch also for writing; where
+ *     the length is 0 it may be null;
  *   - the two do not overlap, and nothing else writes there during the call.
  * What the bytes hold is free.
  *

@@ -9,10 +9,12 @@ one line `area value slope` for each point. A file with a fault may also say
 """
 
 import os
-import struct
 import sys
 
 HERE = os.path.dirname(os.path.abspath(__file__))
+sys.path.insert(0, os.path.join(HERE, '..', 'tests'))
+
+from curve_file import curve_file
 
 
 def sections(lines):
@@ -37,11 +39,8 @@ def file_bytes(lines):
             said[words[0]] = words[1]
         else:
             points.append([int(word) for word in words])
-    data = said['mark'].encode('ascii')
-    data += struct.pack('<HBB', int(said['version']), int(said['shape']),
-                        len(points))
-    for area, value, slope in points:
-        data += struct.pack('<IIi', area, value, slope)
+    data = curve_file(points, int(said['shape']), said['mark'].encode('ascii'),
+                      int(said['version']))
     return data[:len(data) - int(said['drop'])]
 
 

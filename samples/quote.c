@@ -6,7 +6,7 @@
  * AREA is in tenths of a square metre. Prints the factor, or the refusal in
  * words. Exit status: 0 a factor, 1 a refusal, 2 wrong usage or no such file.
  *
- * Build: cc -Iinclude samples/quote.c target/staticlib/libdesk.a -o quote
+ * Build: cc -Iinclude samples/quote.c target/lib/libfactor_curves.a -o quote
  */
 #include <stdio.h>
 
@@ -70,7 +70,7 @@ int main(int argc, char **argv)
     answer = desk_reading(bytes, length, area, scratch, sizeof scratch);
     if (DESK_IS_REFUSED(answer)) {
         printf("refused %ld: %s\n", (long)DESK_REFUSAL(answer),
-               desk_reason(DESK_REFUSAL(answer)));
+               curve_refusal_words(DESK_REFUSAL(answer)));
         return 1;
     }
     print_factor(answer);

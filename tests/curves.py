@@ -1,4 +1,4 @@
-"""Random curves and curve files for the tests: inputs only, no answers.
+"""Random curves for the tests: inputs only, no answers.
 
 A curve is a list of points (area, value, slope) and a shape code. The curves
 made here are meant to be accepted; whether one is, exact_fractions.py says.
@@ -13,14 +13,11 @@ RISING = 1
 CONVEX = 2
 
 
-def curve_file(points, shape):
-    """The bytes of a curve file. Fields are taken modulo their width."""
-    data = bytearray(b'TRF\1\0')
-    data += bytes([shape & 255, len(points) & 255])
-    for point in points:
-        for field in point:
-            data += (field & 0xFFFFFFFF).to_bytes(4, 'little')
-    return bytes(data)
+def lists(points):
+    """Areas, values and slopes, each in its 32 bits."""
+    return (tuple(area % 2**32 for area, _, _ in points),
+            tuple(value % 2**32 for _, value, _ in points),
+            tuple((slope + 2**31) % 2**32 - 2**31 for _, _, slope in points))
 
 
 def some_count(rng):
@@ -182,6 +179,11 @@ def some_curve(rng, shape):
     return convex_curve(rng, count)
 
 
+def any_curve(rng):
+    shape = rng.choice([RISING, CONVEX])
+    return some_curve(rng, shape), shape
+
+
 # ---- curves at the limits ----
 
 def full_ladder(rng):
@@ -235,6 +237,42 @@ def dipping_curve(rng):
     rise = rng.randint(max(least, -40), min(most, 40))
     value = max(0, -rise) + rng.choice([0, 0, 1, 7])
     return [(0, value, left), (gap, value + rise, right)]
+
+
+# ---- a point changed ----
+
+def changed(points, at, field, new):
+    """The points with one field replaced."""
+    point = list(points[at])
+    point[field] = new
+    return points[:at] + [tuple(point)] + points[at + 1:]
+
+
+def past_limit(rng, points):
+    """The points with one field one past a limit, or far past it."""
+    at = rng.randrange(len(points))
+    area, value, slope = points[at]
+    before = points[at - 1][0] if at else 0
+    wrong = [(0, AREA_MAX + 1), (0, area + 2**16), (0, area + 2**31),
+             (1, VALUE_MAX + 1), (1, value + 2**24), (1, 2**32 - 1),
+             (2, SLOPE_MAX + 1), (2, -SLOPE_MAX - 1),
+             (2, slope + 2**16), (2, slope ^ -2**31)]
+    if at:
+        wrong += [(0, before + GAP_MAX + 1), (0, before),
+                  (0, before - 1)]
+    return changed(points, at, *rng.choice(wrong))
+
+
+def shapeless_points(rng, points):
+    """One point's value or slope changed a little or anew."""
+    at = rng.randrange(len(points))
+    _, value, slope = points[at]
+    near = rng.choice([-1, 1])
+    field, new = rng.choice([
+        (1, max(0, value + near)), (1, rng.randint(0, VALUE_MAX)),
+        (2, slope + near), (2, -slope),
+        (2, rng.randint(-SLOPE_MAX, SLOPE_MAX))])
+    return changed(points, at, field, new)
 
 
 # ---- areas to read ----

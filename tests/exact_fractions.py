@@ -1,12 +1,14 @@
 """Factor curves through rated points, computed with exact fractions.
 
-Follows document 01 sentence by sentence; speed does not matter.
-Equation numbers in brackets are those of report TR/10/83.
+Follows document 01 sentence by sentence; speed does not matter, but what was
+computed for a curve is remembered. Equation numbers in brackets are those of
+report TR/10/83.
 
 An answer is ('ok', result...) or ('refused', number, place).
 Run as a program it is `ratesheet`: a curve file on standard input.
 """
 
+import functools
 import math
 import sys
 from fractions import Fraction
@@ -18,6 +20,16 @@ CONVEX = 2
 
 def refused(number, place):
     return ('refused', number, place)
+
+
+def remembered(function):
+    """The same function of areas, values, slopes and further arguments."""
+    known = functools.lru_cache(maxsize=5000)(function)
+
+    @functools.wraps(function)
+    def look(areas, values, slopes, *rest):
+        return known(tuple(areas), tuple(values), tuple(slopes), *rest)
+    return look
 
 
 # ---- Document 01, The exact curve ----
@@ -84,6 +96,12 @@ def reading(v):
     return math.floor(v + Fraction(1, 2))
 
 
+@remembered
+def factor(areas, values, slopes, shape, area):
+    """The reading of the exact value; only where there is one."""
+    return reading(exact_value(areas, values, slopes, shape, area))
+
+
 # ---- Document 01, When a segment has its shape ----
 
 def has_shape(areas, values, slopes, shape, segment):
@@ -117,6 +135,7 @@ def point_fault(areas, values, slopes, point):
     return None
 
 
+@remembered
 def check(areas, values, slopes, shape):
     """Rows 1 to 6. Result: the number of segments."""
     count = len(areas)
@@ -152,7 +171,7 @@ def read(areas, values, slopes, shape, area):
         return checked
     if outside(areas, area):
         return refused(7, 0)
-    return ('ok', reading(exact_value(areas, values, slopes, shape, area)))
+    return ('ok', factor(areas, values, slopes, shape, area))
 
 
 def pair(areas, values, slopes, shape, form, plan):
@@ -168,8 +187,8 @@ def pair(areas, values, slopes, shape, form, plan):
         return refused(7, 0)
     if outside(areas, plan):
         return refused(7, 1)
-    form_factor = reading(exact_value(areas, values, slopes, shape, form))
-    plan_factor = reading(exact_value(areas, values, slopes, shape, plan))
+    form_factor = factor(areas, values, slopes, shape, form)
+    plan_factor = factor(areas, values, slopes, shape, plan)
     return ('ok', form_factor, plan_factor, plan_factor - form_factor)
 
 
@@ -189,8 +208,7 @@ def sheet(areas, values, slopes, shape, start, step, entries_count):
     for index in range(entries_count):
         if outside(areas, read_at[index]):
             return refused(7, index)
-    factors = [reading(exact_value(areas, values, slopes, shape, area))
-               for area in read_at]
+    factors = [factor(areas, values, slopes, shape, area) for area in read_at]
     return ('ok', entries_count, factors)
 
 
@@ -208,6 +226,7 @@ def file_fault(data):
     return None
 
 
+@functools.lru_cache(maxsize=100)
 def file_lists(data):
     """The areas, values and slopes of a file that passes rows 9 and 10."""
     areas, values, slopes = [], [], []
@@ -216,7 +235,7 @@ def file_lists(data):
         areas.append(int.from_bytes(record[0:4], 'little'))
         values.append(int.from_bytes(record[4:8], 'little'))
         slopes.append(int.from_bytes(record[8:12], 'little', signed=True))
-    return areas, values, slopes
+    return tuple(areas), tuple(values), tuple(slopes)
 
 
 def open_file(data, lengths):
@@ -262,6 +281,58 @@ def desk(data, area, scratch):
     return answer[1], records + scratch[12 * count:]
 
 
+# ---- The C interface (include/factor_curves.h): answers and lists ----
+#
+# The lent lists go in as they are before the call. Each function gives the
+# answer, and after it each list that was lent to be written, as it is after
+# the call.
+
+def number_of(answer):
+    """One number: the result, or -(2^32 * number + place)."""
+    if answer[0] == 'refused':
+        return -(2**32 * answer[1] + answer[2])
+    return answer[1]
+
+
+def curve_check(areas, values, slopes, shape):
+    return number_of(check(areas, values, slopes, shape)),
+
+
+def curve_read(areas, values, slopes, shape, area):
+    return number_of(read(areas, values, slopes, shape, area)),
+
+
+def curve_pair(areas, values, slopes, shape, form, plan, out):
+    # A list that is too short is refused before all else.
+    if len(out) < 3:
+        return number_of(refused(11, 0)), out
+    answer = pair(areas, values, slopes, shape, form, plan)
+    if answer[0] == 'refused':
+        return number_of(answer), out
+    return 3, list(answer[1:]) + out[3:]
+
+
+def curve_sheet(areas, values, slopes, shape, start, step, out):
+    answer = sheet(areas, values, slopes, shape, start, step, len(out))
+    if answer[0] == 'refused':
+        return number_of(answer), out
+    return number_of(answer), answer[2]
+
+
+def curve_open(data, areas, values, slopes):
+    lengths = (len(areas), len(values), len(slopes))
+    answer = open_file(data, lengths)
+    if answer[0] == 'refused':
+        return number_of(answer), areas, values, slopes
+    shape, count, points = answer[1:]
+    return (256 * shape + count,
+            [point[0] for point in points] + areas[count:],
+            [point[1] for point in points] + values[count:],
+            [point[2] for point in points] + slopes[count:])
+
+
+# ---- Document 01, The curve file: the program ----
+
 def ratesheet(data):
     """The text that the program prints for the bytes of standard input."""
     # More than 775 bytes is refusal 10 once 9 is passed.
@@ -276,8 +347,8 @@ def ratesheet(data):
     # The first area and every 25 tenths after it while not beyond the last.
     area = areas[0]
     while area <= areas[-1]:
-        factor = reading(exact_value(areas, values, slopes, shape, area))
-        lines.append('%d %d\n' % (area, factor))
+        lines.append('%d %d\n'
+                     % (area, factor(areas, values, slopes, shape, area)))
         area = area + 25
     return ''.join(lines)
 

@@ -1,227 +1,156 @@
-"""The lines that the program crates/examples prints, from exact_fractions.py.
+"""Document 01's examples as cases for client.c, to standard output.
 
-    examples.py             the lines, in order
-    examples.py --calls     the calls behind them, one JSON object a line:
-                            call, curve, areas, values, slopes, shape, the
-                            further arguments, and the line
-    examples.py --stdin     the cases that crates/examples reads, as bytes
-
-A line is `CURVE CALL ARGUMENTS: ANSWER`:
-
-    CURVE check: SEGMENTS
-    CURVE read AREA: FACTOR
-    CURVE pair FORM PLAN: FORM-FACTOR PLAN-FACTOR DIFFERENCE
-    CURVE sheet START STEP over N: N, first F last L
-
-and every answer may be `refused NUMBER at PLACE`. A sheet's list has N
-entries, each 7 before the call; first and last are of the entries after it,
-also after a refusal. Without entries they are left out.
-
-The cases are numbers of 4 bytes, the lowest first, a slope in two's
-complement: how many cases there are, then each case. The program takes at
-most 16,384 bytes in all, 65 points in a case and 1,025 entries in a list.
-
-     0  how many bytes the case has
-     4  the call: 1 check, 2 read, 3 pair, 4 sheet
-     8  the shape
-    12  the first argument after the shape, 0 without one
-    16  the second, 0 without one
-    20  how many entries a sheet's list has, 0 in the other calls
-    24  how many areas there are
-    28  how many values
-    32  how many slopes
-    36  where the points start in the case
-    40  what the line has before the answer, as text
-        the points: area, value and slope of each, 0 where a list is shorter
+The expected answers are those that document 01 states. If exact_fractions.py
+gives another, it is said and the exit status is 1.
 """
 
-import itertools
-import json
-import struct
 import sys
 
-import exact_fractions as ref
+import cases
+import curves
+from curve_file import curve_file
 
-FILL = 7                        # each entry of a sheet's list before the call
-TOP = 2**32 - 1                 # the end of 32 bits, unsigned
-LEAST, MOST = -2**31, 2**31 - 1  # and signed
-
-
-def curve(shape, *points):
-    areas, values, slopes = zip(*points)
-    return list(areas), list(values), list(slopes), shape
+FILL = 7
+STEEP = [(500, 10000, 0), (600, 14000, 10000)]
 
 
-def squares(count):
-    """Point i: area 10 i, value i * i, slope 20 i; shape 2."""
-    return ([10 * i for i in range(count)], [i * i for i in range(count)],
-            [20 * i for i in range(count)], 2)
+def flat(count, gap):
+    """A constant curve of shape 1: F is 0 and the slopes are 0."""
+    return [(gap * i, 5, 0) for i in range(count)]
 
 
-# Areas, values, slopes and shape of each curve; points as area/value/slope.
-CURVES = {
-    # Document 01's ten readings; K2 has K1's curve, K4 has K3's.
-    'K1': curve(1, (500, 10000, 0), (600, 14000, 10000)),
-    'K2': curve(1, (500, 10000, 0), (600, 14000, 10000)),
-    'K3': curve(2, (500, 10000, 0), (600, 14000, 10000)),
-    'K4': curve(2, (500, 10000, 0), (600, 14000, 10000)),
-    'K5': curve(1, (500, 10000, 2000), (600, 14000, 6000)),
-    'K6': curve(2, (0, 0, 50), (2, 1, 50)),
-    'K7': curve(2, (0, 0, -300), (2, 0, 300)),
-    'K8': curve(2, (0, 0, 0), (2, 1, 100)),
-    'K9': curve(2, (0, 0, 100), (100, 100, 200)),
-    'K10': curve(1, (0, 5, 0), (10, 5, 1)),
-    # The largest gap, and one more.
-    'gap2000': curve(1, (0, 0, 0), (2000, 200000, 10000)),
-    'gap2001': curve(1, (0, 0, 0), (2001, 200000, 10000)),
-    # The deepest dip: both slopes at their ends.
-    'dip': curve(2, (0, 0, -10000), (2000, 0, 10000)),
-    # As many points as a curve may have, and one more.
-    'points64': squares(64),
-    'points65': squares(65),
-    # Row 1 by the lists: none, one point, one list short.
-    'none': ([], [], [], 1),
-    'single': curve(1, (0, 5, 0)),
-    'short': ([0, 10], [5, 5], [0], 1),
-    # K1 with a shape code at the ends of its type and beside 1 and 2.
-    'code0': curve(0, (500, 10000, 0), (600, 14000, 10000)),
-    'code3': curve(3, (500, 10000, 0), (600, 14000, 10000)),
-    'codetop': curve(TOP, (500, 10000, 0), (600, 14000, 10000)),
-    # Fields at the ends of their types.
-    'areatop': curve(1, (0, 5, 0), (TOP, 5, 0)),
-    'valuetop': curve(1, (0, TOP, 0), (10, 5, 0)),
-    'slopeleast': curve(2, (0, 5, 0), (10, 5, LEAST)),
-    'slopemost': curve(2, (0, 5, 0), (10, 5, MOST)),
-}
+def refusal(number, place):
+    return -(2**32 * number + place)
 
-# The calls in order: curve, call, further arguments (a sheet: start, step,
-# entries).
-CALLS = [
-    ('K1', 'read', 550),
-    ('K2', 'read', 525),
-    ('K3', 'read', 550),
-    ('K4', 'read', 525),
-    ('K5', 'read', 501),
-    ('K6', 'read', 1),
-    ('K7', 'read', 1),
-    ('K8', 'read', 1),
-    ('K9', 'read', 50),
-    ('K10', 'read', 5),
-    ('K9', 'check'),
-    ('K10', 'check'),
-    # Document 01, "Also run".
-    ('K1', 'read', 499),
-    ('K1', 'read', 601),
-    ('K1', 'read', 500),
-    ('K1', 'read', 600),
-    ('gap2000', 'check'),
-    ('gap2001', 'check'),
-    ('points64', 'check'),
-    ('points65', 'check'),
-    ('gap2000', 'sheet', 0, 1, 1024),
-    ('gap2000', 'sheet', 0, 1, 1025),
-    # The other calls on the same curves.
-    ('K1', 'check'),
-    ('gap2000', 'read', 1999),
-    ('dip', 'read', 1000),
-    ('points64', 'read', 314),
-    ('points64', 'read', 630),
-    ('K3', 'sheet', 500, 25, 5),
-    ('K3', 'sheet', 500, 25, 6),
-    ('points64', 'sheet', 5, 10, 63),
-    ('K1', 'pair', 525, 550),
-    ('K3', 'pair', 550, 525),
-    ('K1', 'pair', 499, 601),
-    ('K1', 'pair', 550, 601),
-    ('K9', 'pair', 499, 601),
-    # Lists, codes and fields at their ends.
-    ('none', 'check'),
-    ('single', 'check'),
-    ('short', 'check'),
-    ('code0', 'check'),
-    ('code3', 'read', 550),
-    ('codetop', 'check'),
-    ('areatop', 'check'),
-    ('valuetop', 'check'),
-    ('slopeleast', 'check'),
-    ('slopemost', 'check'),
-    # Areas, starts and steps at the ends of 32 bits.
-    ('K1', 'read', 0),
-    ('K1', 'read', TOP),
-    ('K1', 'pair', 550, TOP),
-    ('K1', 'sheet', 550, TOP, 1),
-    ('K1', 'sheet', 550, 2**32 - 25, 2),    # would be 525 if it wrapped
-    ('K1', 'sheet', TOP, TOP, 3),
-    ('K1', 'sheet', 550, 0, 1),
-    ('K1', 'sheet', 550, 1, 0),
+
+# ---- cases: call, arguments, answer, written lists (None: as found) ----
+
+def reads(points, shape, area, factor):
+    """By each call that reads a factor."""
+    lists, data = curves.lists(points), curve_file(points, shape)
+    yield 'read', (lists, shape, area), factor, None
+    yield 'pair', (lists, shape, area, area, 3), 3, [[factor, factor, 0]]
+    yield 'sheet', (lists, shape, area, 1, 1), 1, [[factor]]
+    yield 'desk', (data, area, len(data) - 7), factor, [data[7:]]
+
+
+def refused(points, shape, area, number, place):
+    """By each call that reads a factor; every list is as found."""
+    lists, data = curves.lists(points), curve_file(points, shape)
+    answer = refusal(number, place)
+    yield 'read', (lists, shape, area), answer, None
+    yield 'pair', (lists, shape, area, area, 3), answer, None
+    yield 'sheet', (lists, shape, area, 1, 1), answer, None
+    yield 'desk', (data, area, len(data) - 7), -1000000 - number, None
+
+
+def passes(points, shape):
+    lists, data = curves.lists(points), curve_file(points, shape)
+    count = len(points)
+    yield 'check', (lists, shape), count - 1, None
+    yield ('open', (data, (count,) * 3), 256 * shape + count,
+           [list(fields) for fields in lists])
+
+
+def not_accepted(points, shape, number, place):
+    """By every call."""
+    lists, data = curves.lists(points), curve_file(points, shape)
+    answer = refusal(number, place)
+    yield 'check', (lists, shape), answer, None
+    yield 'open', (data, (len(points),) * 3), answer, None
+    yield from refused(points, shape, points[0][0], number, place)
+
+
+def file_31_bytes():
+    """The curve file, and the lines that are printed for it."""
+    data = bytes.fromhex('54 52 46 01 00 02 02'
+                         'F4 01 00 00 10 27 00 00 00 00 00 00'
+                         '58 02 00 00 B0 36 00 00 10 27 00 00')
+    printed = [(500, 10000), (525, 10182), (550, 10800), (575, 12000),
+               (600, 14000)]
+    yield ('open', (data, (2, 2, 2)), 2 * 256 + 2,
+           [[500, 600], [10000, 14000], [0, 10000]])
+    for area, factor in printed:
+        yield 'desk', (data, area, 24), factor, [data[7:]]
+    yield ('sheet', (curves.lists(STEEP), 2, 500, 25, 5), 5,
+           [[factor for _, factor in printed]])
+
+
+def sheet_entries():
+    lists = curves.lists(flat(2, 2000))
+    yield 'sheet', (lists, 1, 0, 1, 1024), 1024, [[5] * 1024]
+    yield 'sheet', (lists, 1, 0, 1, 1025), refusal(8, 0), None
+
+
+EXAMPLES = [
+    # Readings to prove.
+    ('K1: 550 reads 10,889', reads(STEEP, 1, 550, 10889)),
+    ('K2: 525 reads 10,229', reads(STEEP, 1, 525, 10229)),
+    ('K3: 550 reads 10,800', reads(STEEP, 2, 550, 10800)),
+    ('K4: 525 reads 10,182', reads(STEEP, 2, 525, 10182)),
+    ('K5: 501 reads 10,020',
+     reads([(500, 10000, 2000), (600, 14000, 6000)], 1, 501, 10020)),
+    ('K6: 1 reads 1', reads([(0, 0, 50), (2, 1, 50)], 2, 1, 1)),
+    ('K7: 1 reads -1', reads([(0, 0, -300), (2, 0, 300)], 2, 1, -1)),
+    ('K8: 1 reads 0', reads([(0, 0, 0), (2, 1, 100)], 2, 1, 0)),
+    ('K9: refused 6 at 0',
+     not_accepted([(0, 0, 100), (100, 100, 200)], 2, 6, 0)),
+    ('K10: refused 6 at 0', not_accepted([(0, 5, 0), (10, 5, 1)], 1, 6, 0)),
+    # Also run.
+    ('K1 at 499: refused 7', refused(STEEP, 1, 499, 7, 0)),
+    ('K1 at 601: refused 7', refused(STEEP, 1, 601, 7, 0)),
+    ('K1 at 500 reads 10,000', reads(STEEP, 1, 500, 10000)),
+    ('K1 at 600 reads 14,000', reads(STEEP, 1, 600, 14000)),
+    ('a gap of 2,000 passes', passes(flat(2, 2000), 1)),
+    ('a gap of 2,001: refused 3 at the right point',
+     not_accepted(flat(2, 2001), 1, 3, 1)),
+    ('64 points pass', passes(flat(64, 1), 1)),
+    ('65 points: refused 1', not_accepted(flat(65, 1), 1, 1, 0)),
+    ('a sheet of 1,024 entries passes, 1,025: refused 8', sheet_entries()),
+    # The curve file.
+    ('the file of 31 bytes', file_31_bytes()),
 ]
 
-NUMBERS = {'check': 1, 'read': 2, 'pair': 3, 'sheet': 4}
-FUNCTIONS = {'check': ref.check, 'read': ref.read, 'pair': ref.pair,
-             'sheet': ref.sheet}
+
+def written(call, arguments, after):
+    """The lists that are lent to be written, after the call, as bytes."""
+    if call in ('check', 'read'):
+        return []
+    if call == 'desk':
+        return after or [cases.found(FILL, arguments[-1])]
+    if after is None:
+        lengths = arguments[-1] if call == 'open' else arguments[-1:]
+        return [cases.found(FILL, 4 * length) for length in lengths]
+    letters = 'IIi' if call == 'open' else 'i'
+    return [cases.packed(*pair) for pair in zip(letters, after)]
 
 
-def answer_text(answer):
-    if answer[0] == 'refused':
-        return 'refused %d at %d' % answer[1:]
-    numbers = [part for part in answer[1:] if not isinstance(part, list)]
-    return ' '.join(str(number) for number in numbers)
-
-
-def list_text(answer, count):
-    """A sheet's list after the call."""
-    after = answer[2] if answer[0] == 'ok' else [FILL] * count
-    return ', first %d last %d' % (after[0], after[-1]) if after else ''
-
-
-def label(name, call, *words):
-    """What the line has before the answer."""
-    if call == 'sheet':
-        said = ' %d %d over %d' % words
-    else:
-        said = ''.join(' %d' % word for word in words)
-    return '%s %s%s: ' % (name, call, said)
-
-
-def line(name, call, *words):
-    answer = FUNCTIONS[call](*CURVES[name], *words)
-    text = answer_text(answer)
-    if call == 'sheet':
-        text += list_text(answer, words[2])
-    return label(name, call, *words) + text
-
-
-def case(name, call, *words):
-    """The case's bytes."""
-    areas, values, slopes, shape = CURVES[name]
-    text = label(name, call, *words).encode()
-    points = b''.join(
-        struct.pack('<IIi', *point) for point in
-        itertools.zip_longest(areas, values, slopes, fillvalue=0))
-    arguments = words + (0,) * (3 - len(words))
-    start = 40 + len(text)
-    return struct.pack('<10I', start + len(points), NUMBERS[call], shape,
-                       *arguments, len(areas), len(values), len(slopes),
-                       start) + text + points
+def case(kind, call, arguments, answer, after):
+    """The case as bytes; None if the exact-fraction program differs."""
+    computed, extra, lists = cases.expected(FILL, call, arguments)
+    last = written(call, arguments, after)
+    wanted = lists[:len(lists) - len(last)] + last
+    if (answer, wanted) != (computed, lists):
+        return None
+    return cases.record(kind, FILL, call, answer, extra, wanted)
 
 
 def main():
-    if sys.argv[1:] == ['--stdin']:
-        sys.stdout.buffer.write(struct.pack('<I', len(CALLS)))
-        for call in CALLS:
-            sys.stdout.buffer.write(case(*call))
-        return
-    for name, call, *words in CALLS:
-        text = line(name, call, *words)
-        if sys.argv[1:] == ['--calls']:
-            areas, values, slopes, shape = CURVES[name]
-            print(json.dumps({'call': call, 'curve': name, 'areas': areas,
-                              'values': values, 'slopes': slopes,
-                              'shape': shape, 'arguments': words,
-                              'line': text}))
-        else:
-            print(text)
+    out, total, faults = sys.stdout.buffer, 0, 0
+    out.write(cases.stream_head([name for name, _ in EXAMPLES]))
+    for kind, (name, group) in enumerate(EXAMPLES):
+        for call, arguments, answer, after in group:
+            data = case(kind, call, arguments, answer, after)
+            if data is None:
+                faults += 1
+                print('examples.py: exact_fractions differs: %s, %s'
+                      % (name, call), file=sys.stderr)
+                continue
+            out.write(data)
+            total += 1
+    out.write(cases.stream_end(total))
+    return 1 if faults else 0
 
 
 if __name__ == '__main__':
-    main()
+    sys.exit(main())

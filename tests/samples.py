@@ -18,6 +18,7 @@ import time
 
 import curves
 import exact_fractions as ref
+from curve_file import curve_file
 
 SAMPLES = os.path.join(os.path.dirname(os.path.abspath(__file__)), '..',
                        'samples')
@@ -112,7 +113,7 @@ def sheet_inputs():
     rng = random.Random('ratesheets 1')
     for index in range(80):
         points = curves.some_curve(rng, 1 + index % 2)
-        data = curves.curve_file(points, 1 + index % 2)
+        data = curve_file(points, 1 + index % 2)
         yield 'curve %d' % index, data
         if index % 4 == 0:
             flipped = bytearray(data)
@@ -121,8 +122,8 @@ def sheet_inputs():
             yield 'cut %d' % index, data[:rng.randrange(len(data))]
     flat = [(point, 5, 0) for point in range(255)]
     for count in (0, 1, 2, 63, 64, 65, 255):
-        yield '%d points' % count, curves.curve_file(flat[:count], 1)
-    long_file = curves.curve_file(flat[:64], 1)
+        yield '%d points' % count, curve_file(flat[:count], 1)
+    long_file = curve_file(flat[:64], 1)
     for more in (1, 12, 5000, 100000):
         yield '%d bytes more' % more, long_file + bytes(more)
         yield 'and a wrong mark', b'X' + long_file[1:] + bytes(more)

@@ -9,6 +9,7 @@ import sys
 from fractions import Fraction
 
 import exact_fractions as ref
+from curve_file import curve_file
 
 tests = 0
 failures = 0
@@ -26,14 +27,6 @@ def lists(points):
     """Points (area, value, slope) as three lists."""
     return ([point[0] for point in points], [point[1] for point in points],
             [point[2] for point in points])
-
-
-def curve_file(points, shape):
-    data = b'TRF' + bytes([1, 0, shape, len(points)])
-    for area, value, slope in points:
-        data += area.to_bytes(4, 'little') + value.to_bytes(4, 'little')
-        data += slope.to_bytes(4, 'little', signed=True)
-    return data
 
 
 def check(points, shape):
@@ -360,10 +353,60 @@ def test_desk():
            (-1000001, b''))
 
 
+def test_c_answers():
+    """include/factor_curves.h: the answers of Check, Read, Pair and Sheet."""
+    steep = lists(STEEP)
+    expect('segments', ref.curve_check(*steep, 1), (1,))
+    expect('no shape', ref.curve_check(*lists(K9), 2), (-6 * 2**32,))
+    expect('right point', ref.curve_check(*lists(flat(2, 2001)), 1),
+           (-3 * 2**32 - 1,))
+    expect('K1', ref.curve_read(*steep, 1, 550), (10889,))
+    expect('K7', ref.curve_read(*lists(K7), 2, 1), (-1,))
+    expect('K1 at 499', ref.curve_read(*steep, 1, 499), (-7 * 2**32,))
+    expect('pair', ref.curve_pair(*steep, 1, 525, 550, [4, 5, 6, 7]),
+           (3, [10229, 10889, 660, 7]))
+    expect('plan outside', ref.curve_pair(*steep, 1, 525, 601, [4, 5, 6]),
+           (-7 * 2**32 - 1, [4, 5, 6]))
+    for points in (STEEP, K9, []):
+        expect('pair, 11 before all else',
+               ref.curve_pair(*lists(points), 1, 499, 499, [4, 5]),
+               (-11 * 2**32, [4, 5]))
+    expect('sheet', ref.curve_sheet(*steep, 2, 500, 25, [0] * 5),
+           (5, [10000, 10182, 10800, 12000, 14000]))
+    expect('sheet, entry 5', ref.curve_sheet(*steep, 2, 500, 25, [9] * 7),
+           (-7 * 2**32 - 5, [9] * 7))
+    expect('sheet, step 0', ref.curve_sheet(*steep, 2, 500, 0, [9]),
+           (-8 * 2**32, [9]))
+
+
+def test_c_open():
+    """include/factor_curves.h: the answer of Open, and its lists."""
+    expect('open', ref.curve_open(FILE_31, [7] * 2, [7] * 3, [7] * 4),
+           (514, [500, 600], [10000, 14000, 7], [0, 10000, 7, 7]))
+    expect('open, slope below 0',
+           ref.curve_open(curve_file(K7, 2), [7] * 2, [7] * 2, [7] * 2),
+           (514, [0, 2], [0, 0], [-300, 300]))
+    expect('open, rising', ref.curve_open(curve_file(flat(3), 1), [0] * 3,
+                                          [0] * 3, [1] * 3),
+           (259, [0, 1, 2], [5, 5, 5], [0, 0, 0]))
+    expect('open, a list short', ref.curve_open(FILE_31, [7], [8, 8], [9, 9]),
+           (-11 * 2**32, [7], [8, 8], [9, 9]))
+    expect('open, no shape', ref.curve_open(curve_file(K9, 2), [7, 7], [8, 8],
+                                            [9, 9]),
+           (-6 * 2**32, [7, 7], [8, 8], [9, 9]))
+
+
+def test_curve_file():
+    """Document 01, The curve file: what the tests' writer writes."""
+    expect('as written', curve_file(STEEP, 2), FILE_31)
+    expect('two\'s complement', curve_file(K7, 2)[15:19].hex(), 'd4feffff')
+    expect('a fault in each field of the head',
+           curve_file([], 3, b'XYZ', 258, 9), b'XYZ\2\1\3\x09')
+
+
 def test_ratesheet():
     """Document 01, The curve file: the program ratesheet."""
     expect('31 bytes', ref.ratesheet(FILE_31), PRINTED_31)
-    expect('file as written', curve_file(STEEP, 2), FILE_31)
     expect('not beyond the last', ref.ratesheet(curve_file(flat(2, 60), 1)),
            'shape 1 points 2\n0 5\n25 5\n50 5\n')
     expect('775 bytes', ref.ratesheet(curve_file(flat(64), 1)),

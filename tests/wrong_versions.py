@@ -1,9 +1,11 @@
-"""Shows that the comparison finds faults.
+"""Shows that the tests find faults.
 
-    wrong_versions.py CASES FOLDER
+    wrong_versions.py CASES FOLDER [threads]
 
-Builds client.c with the plain C version of bench/, which must pass on the
-file CASES, then with each wrong version of it, which must not.
+Builds client.c and far_lengths.c with the plain C version of bench/, which
+must pass on the file CASES, then with the wrong versions of it that
+wrong_edits.py has, which must not. With "threads" also threads.c under the
+thread sanitizer. Nor may the client pass on streams that leave something out.
 """
 
 import multiprocessing.pool
@@ -11,102 +13,132 @@ import os
 import subprocess
 import sys
 
-ROOT = os.path.join(os.path.dirname(os.path.abspath(__file__)), '..')
+import wrong_edits
+
+HERE = os.path.dirname(os.path.abspath(__file__))
+ROOT = os.path.join(HERE, '..')
 CC = os.environ.get('CC', 'cc')
-
-# In bench/plain.c the first text, which occurs there, becomes the second.
-EDITS = [
-    # limits
-    ('p.area > 20000', 'p.area > 20001'),
-    ('p.area > 20000', 'p.area >= 20000'),
-    ('- 1 > 1999', '- 1 > 2000'),
-    ('- 1 > 1999', '- 1 >= 1999'),
-    ('p.value > 200000', 'p.value > 200001'),
-    ('p.value > 200000', 'p.value >= 200000'),
-    ('p.slope < -10000', 'p.slope < -10001'),
-    ('p.slope > 10000', 'p.slope >= 10000'),
-    ('count > 64', 'count > 65'),
-    ('count > 64', 'count >= 64'),
-    ('count < 2', 'count < 3'),
-    # the file
-    ('bytes_len < 7 ', 'bytes_len < 8 '),
-    ('"TRF\\1\\0", 5', '"TRF\\1\\0", 4'),
-    ('"TRF\\1\\0", 5', '"TRG\\1\\0", 5'),
-    ('bytes_len != 7 + 12 * count', 'bytes_len < 7 + 12 * count'),
-    ('(uint32_t)p[3] << 24', '0'),
-    ('shape != 1 && shape != 2', 'shape > 3'),
-    # the scratch
-    ('scratch_len < 12 * count', 'scratch_len <= 12 * count'),
-    ('scratch_len < 12 * count', 'scratch_len + 1 < 12 * count'),
-    ('scratch, records, 12 * count', 'scratch, records, 12 * count + 1'),
-    ('scratch, records, 12 * count', 'scratch, records, 12 * count - 1'),
-    ('const uint8_t *records = bytes + 7;',
-     'const uint8_t *records = memcpy(scratch, bytes + 7, 12 * count);'),
-    # the shape of a segment
-    ('(a == 0 && b == 0)', '(a == 0)'),
-    ('(a == 0 && b == 0)', '(b == 0)'),
-    ('|| (a == 0 && b == 0)', ''),
-    ('return rise == 0 && (l.slope', 'return rise <= 0 && (l.slope'),
-    ('return (l.slope | r.slope) >= 0;', 'return l.slope >= 0;'),
-    ('return shapeless ? 6 : 0;', 'return shapeless ? 5 : 0;'),
-    # the area read
-    ('area < load32(records)', 'area + 1 < load32(records)'),
-    ('area > load32(records', 'area >= load32(records'),
-    ('<= area ? half : 0', '<= area + 1 ? half : 0'),
-    # the curve and the rounding
-    ('int64_t w = a * u + b * t;', 'int64_t w = a * t + b * u;'),
-    ('(uint64_t)den;', '0;'),
-    ('(uint64_t)den;', '(uint64_t)den - 1;'),
-    ('(2 * (int64_t)l.value + 1)', '(2 * (int64_t)l.value)'),
-    ('q - (n % d < 0)', 'q'),
-    ('(2 * bt) / (uint64_t)w', '(2 * bt) / (uint64_t)w - 1'),
-    ('if (rise == 0)', 'if (rise <= 1)'),
-]
+CALLS = ['desk_reading', 'curve_check', 'curve_read', 'curve_pair',
+         'curve_sheet', 'curve_open']
+FLAGS = ['-std=c99', '-I' + os.path.join(ROOT, 'include'),
+         '-I' + os.path.join(ROOT, 'bench')]
+FLAGS += ['-Dplain_%s=%s' % (call, call) for call in CALLS]
 
 
-def build(name, text, folder):
-    """The client over this version of plain.c; its path."""
-    source = os.path.join(folder, name + '.c')
-    with open(source, 'w', encoding='ascii') as file:
-        file.write(text)
-    program = os.path.join(folder, name)
-    subprocess.run([CC, '-std=c99', '-O1', '-Dplain_desk_reading=desk_reading',
-                    '-I' + os.path.join(ROOT, 'include'),
-                    '-I' + os.path.join(ROOT, 'bench'), source,
-                    os.path.join(ROOT, 'tests', 'client.c'), '-o', program],
-                   check=True)
-    return program
+class Test:
+    """A program that takes cases, and what it is made of."""
+
+    def __init__(self, name, words, parts, flags=()):
+        self.name, self.words, self.parts = name, words, parts
+        self.flags = [*FLAGS, *flags]
+        self.objects = []
+
+    def compile_parts(self, folder):
+        """What is the same for every version."""
+        for part in self.parts:
+            made = os.path.join(folder, '%s-%s.o' % (self.name, part))
+            source = os.path.join(HERE, part + '.c')
+            subprocess.run([CC, *self.flags, '-c', source, '-o', made],
+                           check=True)
+            self.objects.append(made)
+
+    def passes(self, name, text, folder, cases):
+        """Whether it passes with this text for plain.c."""
+        program = os.path.join(folder, name)
+        with open(program + '.c', 'w', encoding='ascii') as file:
+            file.write(text)
+        subprocess.run([CC, *self.flags, program + '.c', *self.objects,
+                        '-o', program], check=True)
+        with open(cases, 'rb') as stream:
+            try:
+                done = subprocess.run([program, *self.words], stdin=stream,
+                                      stdout=subprocess.DEVNULL,
+                                      stderr=subprocess.DEVNULL, timeout=60)
+            except subprocess.TimeoutExpired:
+                return False
+        return done.returncode == 0
 
 
-def passes(name, text, folder, cases):
-    with open(cases, 'rb') as stream:
-        return subprocess.run([build(name, text, folder), '1'], stdin=stream,
+CLIENT = Test('client', ['1', 'first'], ['client', 'stream', 'lend'])
+FAR = Test('far', [], ['far_lengths'])
+THREADS = Test('threads', ['1', '1'], ['threads', 'stream'],
+               ['-g', '-pthread', '-fsanitize=thread'])
+
+
+def jobs(with_threads):
+    """(test, edit), the edit (None, None) for the right version."""
+    groups = [(CLIENT, edits) for _, edits in wrong_edits.COMPARED]
+    groups += [(FAR, wrong_edits.FAR)]
+    if with_threads:
+        groups += [(THREADS, wrong_edits.SHARED)]
+    for test in dict.fromkeys(test for test, _ in groups):
+        yield test, (None, None)
+    for test, edits in groups:
+        for edit in edits:
+            yield test, edit
+
+
+def fault_of(right, folder, cases, number, test, old, new):
+    """What is wrong with a test, by this edit; or None."""
+    name = '%s%d' % (test.name, number)
+    if old is None:
+        if test.passes(name, right, folder, cases):
+            return None
+        return '%s: bench/plain.c itself does not pass' % test.name
+    if right.count(old) != 1:
+        return '%d times in bench/plain.c: %s' % (right.count(old), old)
+    if test.passes(name, right.replace(old, new), folder, cases):
+        return '%s: not found: %s for %s' % (test.name, new, old)
+    return None
+
+
+def left_out(program, cases):
+    """Streams and words with which even the right version may not pass."""
+    with open(cases, 'rb') as file:
+        stream = file.read()
+    examples = subprocess.run([sys.executable,
+                               os.path.join(HERE, 'examples.py')],
+                              stdout=subprocess.PIPE, check=True).stdout
+    end = 39                                # bytes of the mark at the end
+    for name, words, data, wanted in (
+            ('all', ['1'], stream, 0),
+            ('examples', ['1', 'some'], examples, 0),
+            ('no end', ['1'], stream[:-end], 2),
+            ('half a case', ['1'], stream[:-end - 3], 2),
+            ('a wrong total', ['1'], stream[:-end] + b'\xff' + bytes(38), 2),
+            ('too few cases', ['9999999'], stream, 1),
+            ('refusals not seen', ['1'], examples, 1)):
+        done = subprocess.run([program, *words], input=data,
                               stdout=subprocess.DEVNULL,
-                              stderr=subprocess.DEVNULL).returncode == 0
+                              stderr=subprocess.DEVNULL)
+        if done.returncode != wanted:
+            yield 'client on a stream with %s: exit status %d' % (
+                name, done.returncode)
 
 
 def main():
-    cases, folder = sys.argv[1:]
+    cases, folder, *words = sys.argv[1:]
     with open(os.path.join(ROOT, 'bench', 'plain.c'), encoding='ascii') as file:
         right = file.read()
-    faults = []
-    if not passes('right', right, folder, cases):
-        faults.append('bench/plain.c itself does not pass')
+    todo = list(jobs('threads' in words))
+    for test in {test for test, _ in todo}:
+        test.compile_parts(folder)
 
-    def try_edit(job):
-        number, (old, new) = job
-        if old not in right:
-            return 'not in bench/plain.c: ' + old
-        text = right.replace(old, new, 1)
-        if passes('wrong%d' % number, text, folder, cases):
-            return 'not found: %s for %s' % (new, old)
-        return None
+    def try_one(job):
+        number, (test, (old, new)) = job
+        return fault_of(right, folder, cases, number, test, old, new)
 
     with multiprocessing.pool.ThreadPool(2) as pool:
-        faults += filter(None, pool.map(try_edit, enumerate(EDITS)))
+        faults = list(filter(None, pool.map(try_one, enumerate(todo), 1)))
+    faults += left_out(os.path.join(folder, 'client0'), cases)
     for fault in faults:
         print('FAILED ' + fault)
-    print('%d wrong versions tried, %d faults' % (len(EDITS), len(faults)))
+    for name, edits in wrong_edits.COMPARED:
+        print('  %8d  %s' % (len(edits), name))
+    wrong = [test for test, (old, _) in todo if old is not None]
+    print('  %8d  of lengths beyond 32 bits' % wrong.count(FAR))
+    print('  %8d  with memory that threads share' % wrong.count(THREADS))
+    print('  %8d  wrong versions in all, %d faults' % (len(wrong), len(faults)))
     return 1 if faults else 0
 
 

@@ -1,31 +1,23 @@
 -- No factor is taken for a refusal.
 -- Assumes nothing.
-use mathlib.Core.Path.{_≡_, refl, subst}
+use mathlib.Core.Path.{_≡_, refl}
 use mathlib.Core.List.{List, [], _∷_}
 use Prim.Native.Nat.{ℕ, _*_, _≤_}
+use native.Mathlib.Omega.{arith}
 use lib.Dec.{ltb}
 use lib.IntN.{ℤ, pos, negℤ, _-ℤ_}
 use lib.Signed.{_≤ℤ_}
 use Rattle.exact.proofs.Ring.{ring, terms}
 use Rattle.exact.proofs.Order as Z
 use Rattle.model.specs.Answer.{Answer, gives, refused, row}
-use Rattle.model.specs.Points.{Point}
-use Rattle.model.specs.Read.{read-answer}
-use Rattle.model.specs.Laws.{Curve}
 use Rattle.model.proofs.Rows.{then-rest}
-use Rattle.model.proofs.Answers.{given}
-use Rattle.model.proofs.Laws.{factors-are-ranged}
+use Rattle.model.proofs.Answers.{factor-is-high}
+use Rattle.model.proofs.Numbered.{Numbered, in-row, in-then, in-reading}
 use Rattle.layout.specs.Layout.{record-size, count}
 use Rattle.layout.specs.Head.{head-rows}
+use Rattle.layout.proofs.Heads.{in-head}
 use Rattle.desk.specs.Desk.{desk-answer, desk-number}
 use Rattle.desk.specs.Laws.{Apart, FactorsAndRefusalsApart}
-use Rattle.desk.proofs.Numbered.{Numbered, in-desk}
-
-factor-is-high : (ps : List Point) (code x : ℕ) {factor : ℤ} → read-answer ps code x ≡ gives factor → negℤ (pos 200000) ≤ℤ factor
-factor-is-high ps code x e =
-    let g = given ps code x e in
-    let c : Curve = record { points = ps; code = code; accepted = g .accepted .none-applies } in
-    subst (λ z. negℤ (pos 200000) ≤ℤ z) (g .factor) (factors-are-ranged c x (record { within = g .within }) .low)
 
 -- what a refusal's number is below −1,000,001
 below-by : (number : ℕ) → negℤ (pos 1000001) -ℤ (negℤ (pos 1000000) -ℤ pos number) ≡ pos number -ℤ pos 1
@@ -34,10 +26,15 @@ below-by number = ring (pos number ∷ []) (search terms depth 20 fits 9999) tt
 refusal-is-low : {number : ℕ} → 1 ≤ number → (negℤ (pos 1000000) -ℤ pos number) ≤ℤ negℤ (pos 1000001)
 refusal-is-low {number} h = Z.≤-by (pos number -ℤ pos 1) (below-by number) (Z.nonneg-difference (Z.pos-≤-of-≤ h))
 
+in-desk : (bytes : List ℕ) (area scratch : ℕ) → Numbered (desk-answer bytes area scratch)
+unfolding desk-answer
+in-desk bytes area scratch =
+    in-then _ _ (in-head bytes) (λ _. in-then _ _ (in-row _ 11 0 tt (omega arith)) (λ _. in-reading _ _ area))
+
 by-cases : (a : Answer ℤ) → Numbered a → ((factor : ℤ) → a ≡ gives factor → negℤ (pos 200000) ≤ℤ factor) → Apart a
 unfolding Apart desk-number
 by-cases (gives factor) n high = high factor refl
-by-cases (refused number place) n high = refusal-is-low (n .0)
+by-cases (refused number place) n high = refusal-is-low (n .least)
 
 pub apart : FactorsAndRefusalsApart
 unfolding desk-answer

@@ -1,5 +1,4 @@
 -- Theorems of the desk reading, and their laws.
-pub mod Numbered
 pub mod Apart
 pub mod Records
 pub mod Blocks

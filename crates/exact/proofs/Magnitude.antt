@@ -30,7 +30,7 @@ scaled-size {c = c} y h = div-le-of-le-mul c (mul-le-mul-right y h)
 
 -- ---- signed numbers
 
-size-neg : (z : ℤ) → natAbs (negℤ z) ≡ natAbs z
+pub size-neg : (z : ℤ) → natAbs (negℤ z) ≡ natAbs z
 size-neg (pos zero) = refl
 size-neg (pos (suc n)) = refl
 size-neg (negsuc n) = refl

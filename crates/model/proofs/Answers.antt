@@ -6,21 +6,25 @@
 --   Given              what a factor that Read gives says; reading-given
 --   given-of-rows      rows 1 to 7 decide: they pass, and Read gives the reading; read-refused, they refuse, and Read does
 --   refused-outside    on an accepted curve Read refuses by row 7 only
+--   factor-is-high     no factor that Read gives is below −200,000
 --   then-refused       rows that refuse, before whatever follows; refused-before, from before a result
 -- Assumes nothing.
-use mathlib.Core.Path.{_≡_, refl, sym, _∙_, ap}
+use mathlib.Core.Path.{_≡_, refl, sym, _∙_, ap, subst}
 use mathlib.Core.Bool.{Bool, true, false}
 use mathlib.Core.List.{List, map}
 use mathlib.Core.Logic.{inl, inr}
 use Prim.Native.Nat.{ℕ}
-use lib.IntN.{ℤ}
+use lib.IntN.{ℤ, pos, negℤ}
 use lib.ListN.{length}
+use lib.Signed.{_≤ℤ_}
 use Rattle.exact.proofs.Tests.{true-or-false}
 use Rattle.model.specs.Answer.{Answer, gives, refused, row, _then_}
 use Rattle.model.specs.Points.{Point, points}
 use Rattle.model.specs.Check.{lengths-differ, curve-rows, on-lists, on-lists-of}
 use Rattle.model.specs.Read.{outside, reading, read-answer}
+use Rattle.model.specs.Laws.{Curve}
 use Rattle.model.specs.Inner.{read-rows, Accepted, Alike}
+use Rattle.model.proofs.Laws.{factors-are-ranged}
 use Rattle.model.proofs.Lists.{points-of-fields, same-lengths-of}
 use Rattle.model.proofs.Rows.{gives-injective, refused≢gives, then-first, then-rest, row-passed, row-refused}
 use Rattle.model.proofs.Rows.{alike-of-row-1}
@@ -110,6 +114,13 @@ module _ (ps : List Point) (code x : ℕ) where
   pub refused-outside : {n i : ℕ} → Accepted ps code → read-answer ps code x ≡ refused n i → (n ≡ 7) × (outside ps x ≡ true)
   unfolding read-answer _then_
   refused-outside k e = row-refused (outside ps x) 7 0 _ (rw (k .none-applies) at e)
+
+-- no factor is below −200,000
+pub factor-is-high : (ps : List Point) (code x : ℕ) {f : ℤ} → read-answer ps code x ≡ gives f → negℤ (pos 200000) ≤ℤ f
+factor-is-high ps code x e =
+    let g = given ps code x e in
+    let c : Curve = record { points = ps; code = code; accepted = g .accepted .none-applies } in
+    subst (λ z. negℤ (pos 200000) ≤ℤ z) (g .factor) (factors-are-ranged c x (record { within = g .within }) .low)
 
 -- from before a result to before whatever follows
 pub refused-before : {A B : Type 0} {n i : ℕ} (rows : Answer (Unit {0})) (b : Bool) (m : ℕ) (x : A) (rest : Answer B) →

@@ -17,3 +17,4 @@ pub mod Laws
 pub mod Answers
 pub mod Filling
 pub mod SheetRows
+pub mod Numbered

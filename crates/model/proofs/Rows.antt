@@ -1,7 +1,7 @@
 -- What rows that refuse nothing say.
 --   gives-injective           a result is one; refused≢gives, and no refusal
 --   then-first, then-rest     the parts of `first then rest` that gives a result
---   row-passed                a row before a result does not apply
+--   row-passed                a row before a result does not apply; row-left, nor one that refuses nothing
 --   row-refused               where it refuses, it does so by its own number
 --   alike-of-row-1            the three lists are equally long
 --   count-of-row-1            2 to 64 points
@@ -48,6 +48,11 @@ pub row-passed : {A : Type 0} {x : A} (b : Bool) (n i : ℕ) (rest : Answer A) �
 unfolding row
 row-passed true n i rest e = absurd (refused≢gives (then-first (refused n i) rest e))
 row-passed false n i rest e = refl
+
+pub row-left : (b : Bool) (n i : ℕ) → row b n i ≡ gives tt → b ≡ false
+unfolding row
+row-left true n i e = absurd (refused≢gives e)
+row-left false n i e = refl
 
 pub row-refused : {A : Type 0} {m j : ℕ} (b : Bool) (n i : ℕ) (x : A) → (row b n i then gives x) ≡ refused m j →
     (m ≡ n) × (b ≡ true)

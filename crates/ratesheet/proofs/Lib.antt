@@ -1,3 +1,2 @@
 -- Proofs of `ratesheet`.
-pub mod Ends
-pub mod Opened
+pub mod Buffers

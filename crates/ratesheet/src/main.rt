@@ -1,107 +1,123 @@
 // Prints the sheet of the curve file on standard input.
-ghost use mathlib.Core.Path.{_≡_};
-ghost use Prim.Native.Nat.{_+_, _-_, _/_, _≤_};
-ghost use lib.ListN.{length};
-ghost use Rattle.model.specs.Answer.{gives};
-ghost use Rattle.model.specs.Points.{area-most};
-ghost use Rattle.model.specs.Check.{curve-rows, on-lists};
-use curve::Filled;
-use file::Opened;
-use rows::POINTS_MOST;
+ghost use Rattle.ratesheet.specs.Inner.{Came};
+use libc::STDERR_FILENO;
+use libc::STDIN_FILENO;
+use libc::STDOUT_FILENO;
 
-// From one area to the next, and the most entries of a sheet with that step.
-const STEP: u32 = 25;
-
-const ENTRIES_MOST: usize = (point::AREA_MOST / STEP) as usize + 1;
-
-// The most bytes that the file of an accepted curve has.
-const FILE_MOST: usize = layout::HEAD_SIZE + layout::RECORD_SIZE * POINTS_MOST;
-
-fn print_head(shape: u32, points: usize) {
-    print::text(b"shape ");
-    print::unsigned(shape as u64);
-    print::text(b" points ");
-    print::unsigned(points as u64);
-    print::text(b"\n");
+// What the arguments ask for.
+enum Request {
+    Sheet,
+    Help,
+    Version,
+    Unknown,
 }
 
-fn print_entry(area: u64, factor: i32) {
-    print::unsigned(area);
-    print::text(b" ");
-    print::signed(factor);
-    print::text(b"\n");
-}
-
-// Area and factor of each entry.
-fn print_entries(start: u32, factors: &[i32])
-    requires { ⌜ length (now factors) ≤ 801 ⌝ }
-{
-    let mut area = start as u64;
-    let mut i: usize = 0;
-    while i < factors.len() {
-        print_entry(area, factors[i]);
-        area += STEP as u64;
-        i += 1;
+fn asked() -> Request {
+    let count = os::arg_count();
+    if count < 2 {
+        return Request::Sheet;
     }
+    if count > 2 {
+        return Request::Unknown;
+    }
+    let mut word = [0u8; 16];
+    let n = os::arg(1, &mut word);
+    if check::same(&word[..n], b"--help") {
+        return Request::Help;
+    }
+    if check::same(&word[..n], b"--version") {
+        return Request::Version;
+    }
+    Request::Unknown
 }
 
-fn print_refusal(number: u32, place: u32) {
-    print::refused(number, place);
-    print::text(b"\n");
-}
-
-// How many areas there are from the first on while not beyond the last.
-fn entries(first: u32, last: u32) -> usize
-    requires { ⌜ (first ≤ last) × (last ≤ area-most) ⌝ }
-    ensures { λ r. ⌜ r ≡ (last - first) / 25 + 1 ⌝ }
-{
-    ((last - first) / STEP + 1) as usize
-}
-
-fn print_sheet(
-    areas: &[u32],
-    values: &[u32],
-    slopes: &[i32],
-    shape: u32,
-    start: u32,
-    factors: &mut [i32],
-)
-    requires { ⌜ length (now factors) ≤ 801 ⌝ }
-{
-    match curve::sheet(areas, values, slopes, shape, start, STEP, factors) {
-        Filled::Refused(number, place) => print_refusal(number, place),
-        Filled::Entries(_) => {
-            print_head(shape, areas.len());
-            print_entries(start, factors);
+// Writes the text to standard output, or says why it cannot. Some file systems report a full disk only when a file is closed.
+fn print(text: &[u8]) {
+    if io::write_all(STDOUT_FILENO, text) {
+        if libc::close(STDOUT_FILENO) == 0 {
+            return;
         }
     }
+    os::fail(b"ratesheet: cannot write standard output");
 }
 
-fn print_curve(areas: &[u32], values: &[u32], slopes: &[i32], shape: u32)
-    requires { ⌜ on-lists (now areas) (now values) (now slopes) (λ ps. curve-rows ps shape) ≡ gives tt ⌝ }
+fn print_help() {
+    print(
+        b"usage: ratesheet [--help | --version] < FILE\n\
+        \n\
+        Prints the sheet of a curve file: shape code and number of points on a first line, then area and\n\
+        factor in steps of 25 tenths of a square metre, from the first point's area up to the last point's.\n\
+        A file that is refused gives one line instead, such as: refused 6 at 0.\n\
+        \n\
+        The exit status is always 0. What cannot be read or written is said on standard error. The command\n\
+        factor-curves sheet FILE has an exit status that tells. The manual is ratesheet(1).\n\
+        \n\
+        \x20 --help     print this text\n\
+        \x20 --version  print the version\n",
+    );
+}
+
+// What reading gave.
+enum Input {
+    Bytes(usize),
+    Failed,
+}
+
+// One read.
+fn read_some(fd: i32, buf: &mut [u8]) -> Input
+    ensures { λ r. ⌜ Came r (now (buf .exit)) ⌝ }
 {
-    let first = areas[0];
-    let n = entries(first, areas[areas.len() - 1]);
-    let mut factors = [0i32; ENTRIES_MOST];
-    print_sheet(areas, values, slopes, shape, first, &mut factors[..n]);
+    let got = libc::read(fd, buf);
+    if got < 0 {
+        return Input::Failed;
+    }
+    Input::Bytes(io::count(got, buf))
 }
 
-fn print_file(bytes: &[u8]) {
-    let mut areas = [0u32; POINTS_MOST];
-    let mut values = [0u32; POINTS_MOST];
-    let mut slopes = [0i32; POINTS_MOST];
-    match file::open(bytes, &mut areas, &mut values, &mut slopes) {
-        Opened::Refused(number, place) => print_refusal(number, place),
-        Opened::Curve(shape, count) => {
-            let n = count as usize;
-            print_curve(&areas[..n], &values[..n], &slopes[..n], shape);
+// Reads until the buffer is full or the input ends.
+fn read_all(fd: i32, buf: &mut [u8]) -> Input
+    ensures { λ r. ⌜ Came r (now (buf .exit)) ⌝ }
+{
+    let mut n: usize = 0;
+    while n < buf.len() {
+        match read_some(fd, &mut buf[n..]) {
+            Input::Failed => return Input::Failed,
+            Input::Bytes(more) => {
+                if more == 0 {
+                    return Input::Bytes(n);
+                }
+                n += more;
+            }
         }
+    }
+    Input::Bytes(n)
+}
+
+fn print_sheet(bytes: &[u8]) {
+    let mut out = [0u8; sheet_text::TEXT_MOST];
+    let n = sheet_text::sheet_text(bytes, &mut out);
+    print(&out[..n]);
+}
+
+// The first 776 bytes of a file decide what is printed (`FirstBytesDecide` in sheet_text's specs).
+fn print_input() {
+    let mut bytes = [0u8; sheet_text::FILE_MOST + 1];
+    match read_all(STDIN_FILENO, &mut bytes) {
+        Input::Bytes(n) => print_sheet(&bytes[..n]),
+        Input::Failed => os::fail(b"ratesheet: cannot read standard input"),
     }
 }
 
-// A file of one byte more fits no count, so `open` refuses a longer file by its first 776 bytes.
 fn main() {
-    let mut bytes = [0u8; FILE_MOST + 1];
-    let n = io::read_full(0, &mut bytes);
-    print_file(&bytes[..n]);
+    match asked() {
+        Request::Sheet => print_input(),
+        Request::Help => print_help(),
+        Request::Version => print(b"ratesheet 0.1.0\n"),
+        Request::Unknown => {
+            io::write_all(
+                STDERR_FILENO,
+                b"usage: ratesheet [--help | --version] < FILE\n",
+            );
+        }
+    }
 }

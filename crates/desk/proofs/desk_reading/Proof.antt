@@ -15,12 +15,12 @@ use Rattle.model.specs.Answer.{Answer, gives, refused, row, _then_}
 use Rattle.model.specs.Read.{read-answer}
 use Rattle.model.specs.Inner.{read-rows}
 use Rattle.model.proofs.Answers.{reading-given, given-of-rows, read-refused}
+use Rattle.model.proofs.Numbered.{Numbered, in-reading}
 use Rattle.rows.proofs.Faults.{a-fault, no-fault}
 use Rattle.layout.specs.Layout.{record-size, point-offset, shape-code, count, points-of}
 use Rattle.layout.specs.Head.{head-rows}
-use Rattle.layout.proofs.Heads.{size-of-passed}
+use Rattle.layout.proofs.Heads.{size-of-passed, in-head}
 use Rattle.desk.specs.Desk.{desk-answer, desk-number, desk-scratch}
-use Rattle.desk.proofs.Numbered.{Numbered, in-head, in-reading}
 use Rattle.desk.proofs.Records.{body-fits, body-copied}
 use Rattle.desk.proofs.desk_reading.Statement.{statement}
 use Rattle.desk.proofs.desk_reading.Tie as tie
@@ -89,7 +89,7 @@ points-refused : (c : tie.Then3) → (let r = c .before .before .read-fault .res
 points-refused c = read-refused _ _ _ (sym (c .before .before .read-fault .ensures) ∙ a-fault _ (c .if3 .taken))
 
 refusal-requires-3 : tie.Need-refusal-requires-3
-refusal-requires-3 c κs = subst Numbered (points-refused c) (in-reading _ _ _) .1
+refusal-requires-3 c κs = subst Numbered (points-refused c) (in-reading _ _ _) .most
 
 returns-3 : tie.Need-returns-3
 unfolding desk-number desk-scratch
@@ -124,7 +124,7 @@ returns-4 c =
 pub desk-reading-spec : {M : Type 1} → statement M
 desk-reading-spec =
     tie.close
-    (tie.spec (search needs) (λ c κs. subst Numbered (head-refused c) (in-head _) .1) returns
+    (tie.spec (search needs) (λ c κs. subst Numbered (head-refused c) (in-head _) .most) returns
     (λ c. omega (arith, size (c .before))) (λ c. omega (arith, c .shared-slice-known2 .given 6))
     (λ c. omega (arith, c .shared-slice-known2 .given 6)) (search needs) returns-2
     (λ c. omega (arith, size (headed (c .before)))) (λ c. omega (arith, c .shared-slice-known3 .given 5))

@@ -1,0 +1,3 @@
+-- The C interface.
+pub mod Exports
+pub mod Laws

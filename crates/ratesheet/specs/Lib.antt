@@ -1,0 +1,2 @@
+-- What contracts of `ratesheet` cite.
+pub mod Inner

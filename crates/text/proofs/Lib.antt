@@ -1,0 +1,4 @@
+-- Proofs of `text`.
+pub mod Pieces
+pub mod Digits
+pub mod Examples

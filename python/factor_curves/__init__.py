@@ -1,0 +1,41 @@
+"""Price factors between a tariff's rated points, by the proved library libfactor_curves.
+
+    >>> from factor_curves import CONVEX, Curve
+    >>> curve = Curve([(500, 10000, 0), (600, 14000, 10000)], CONVEX)
+    >>> curve.read(550)
+    10800
+    >>> curve.pair(525, 550)
+    Pair(form=10182, plan=10800, difference=618)
+    >>> curve.sheet(500, 25, 5)
+    [10000, 10182, 10800, 12000, 14000]
+
+Areas are tenths of a square metre: 550 is 55 square metres. Factors are units of one
+ten-thousandth: 10800 is the factor 1.08. What the library does not accept is raised as Refused:
+
+    >>> curve.read(499)
+    Traceback (most recent call last):
+    ...
+    factor_curves.Refused: refused 7 at 0: an area is outside the curve
+
+The functions check, read, pair, sheet, open_bytes and desk_reading are the library's calls on
+plain lists and bytes. The library is looked for and loaded at the first call; importing the
+package does not need it. `python3 -m factor_curves --help` says what the command line offers.
+"""
+
+from ._calls import (CONVEX, COUNT_MAX, ENTRIES_MAX, FILE_MAX, POINTS_MAX, RISING,
+                     SCRATCH_ENOUGH, SHAPE_NAMES, Lists, Pair, Refusal, Refused, check,
+                     desk_reading, open_bytes, pair, read, refusal_words, sheet)
+from ._curve import Curve, Point
+from ._library import LibraryNotFound
+
+__version__ = "0.1.0"
+
+__all__ = [
+    'CONVEX', 'COUNT_MAX', 'ENTRIES_MAX', 'FILE_MAX', 'POINTS_MAX', 'RISING', 'SCRATCH_ENOUGH',
+    'SHAPE_NAMES', 'Curve', 'LibraryNotFound', 'Lists', 'Pair', 'Point', 'Refusal', 'Refused',
+    'check', 'desk_reading', 'open_bytes', 'pair', 'read', 'refusal_words', 'sheet',
+]
+
+for _name in ('Curve', 'LibraryNotFound', 'Lists', 'Pair', 'Point', 'Refusal', 'Refused'):
+    globals()[_name].__module__ = __name__      # as users name them, in messages and pickles
+del _name

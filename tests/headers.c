@@ -1,0 +1,95 @@
+/* What the headers define: sizes, numbers, answers taken apart, words. */
+#include <stdio.h>
+#include <string.h>
+
+#include "desk.h"
+#include "factor_curves.h"
+
+static int tests, failures;
+
+static void expect(const char *name, int good)
+{
+    tests++;
+    if (good)
+        return;
+    failures++;
+    printf("DIFFERENCE: %s\n", name);
+}
+
+/* Document 01: the units, the sheet, the curve file. */
+static void sizes(void)
+{
+    expect("points", CURVE_POINTS_MAX == 64 && DESK_POINTS_MAX == 64);
+    expect("entries", CURVE_ENTRIES_MAX == 1024);
+    expect("count", CURVE_COUNT_MAX == 255 && DESK_COUNT_MAX == 255);
+    expect("shapes", CURVE_RISING == 1 && CURVE_CONVEX == 2);
+    expect("file", DESK_FILE_MAX == 7 + 12 * 64);
+    expect("scratch", DESK_SCRATCH_MAX == 12 * 64);
+    expect("any scratch", DESK_SCRATCH_ENOUGH == 12 * 255);
+}
+
+/* Document 01, Refusals and their places. */
+static void numbers(void)
+{
+    static const int curve[] = {
+        CURVE_REFUSED_COUNT, CURVE_REFUSED_SHAPE, CURVE_REFUSED_AREA,
+        CURVE_REFUSED_VALUE, CURVE_REFUSED_SLOPE, CURVE_REFUSED_SEGMENT,
+        CURVE_REFUSED_OUTSIDE, CURVE_REFUSED_SHEET, CURVE_REFUSED_MARK,
+        CURVE_REFUSED_LENGTH, CURVE_REFUSED_ROOM};
+    static const int desk[] = {
+        DESK_REFUSED_COUNT, DESK_REFUSED_SHAPE, DESK_REFUSED_AREA,
+        DESK_REFUSED_VALUE, DESK_REFUSED_SLOPE, DESK_REFUSED_SEGMENT,
+        DESK_REFUSED_OUTSIDE, 8, DESK_REFUSED_MARK, DESK_REFUSED_LENGTH,
+        DESK_REFUSED_SCRATCH};
+    for (int i = 0; i < 11; i++)
+        expect("a refusal's number", curve[i] == i + 1 && desk[i] == i + 1);
+}
+
+static void answers(void)
+{
+    for (int number = 1; number <= 11; number++) {
+        const uint32_t places[] = {0, 1, 63, 1023, UINT32_MAX};
+        for (int i = 0; i < 5; i++) {
+            int64_t answer = -((int64_t)number * 4294967296 + places[i]);
+            expect("a refusal", CURVE_IS_REFUSED(answer));
+            expect("its number", CURVE_REFUSAL(answer) == number);
+            expect("its place", CURVE_PLACE(answer) == places[i]);
+        }
+        expect("a desk's", DESK_IS_REFUSED(-1000000 - number) &&
+                               DESK_REFUSAL(-1000000 - number) == number);
+    }
+    expect("a result", !CURVE_IS_REFUSED((int64_t)-200000) &&
+                           !CURVE_IS_REFUSED((int64_t)0) &&
+                           !CURVE_IS_REFUSED((int64_t)200000) &&
+                           !DESK_IS_REFUSED(-200000));
+    expect("a result of curve_open",
+           CURVE_SHAPE((int64_t)576) == 2 && CURVE_COUNT((int64_t)576) == 64);
+}
+
+/* Each number has its own words, and no other number has them. */
+static void words(void)
+{
+    const char *unknown = curve_refusal_words(0);
+    for (int n = 1; n <= 11; n++) {
+        expect("words", strlen(curve_refusal_words(n)) > 10);
+        expect("known", strcmp(curve_refusal_words(n), unknown) != 0);
+        expect("a desk's words", n == 8 || (strcmp(desk_reason(n), unknown) &&
+                                            strlen(desk_reason(n)) > 10));
+        for (int m = 1; m < n; m++)
+            expect("its own words", strcmp(curve_refusal_words(n),
+                                           curve_refusal_words(m)) != 0);
+    }
+    const int others[] = {-1, 12, 256 + 1, 2147483647, -2147483647 - 1};
+    for (int i = 0; i < 5; i++)
+        expect("unknown", strcmp(curve_refusal_words(others[i]), unknown) == 0);
+}
+
+int main(void)
+{
+    sizes();
+    numbers();
+    answers();
+    words();
+    printf("%d tests, %d failures\n", tests, failures);
+    return failures > 0 || tests == 0;
+}

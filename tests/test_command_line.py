@@ -1,0 +1,637 @@
+"""Tests of the command line, python3 -m factor_curves.
+
+    PYTHONPATH=python FACTOR_CURVES_LIBRARY=... python3 -m unittest tests/test_command_line.py
+
+Expected answers are exact_fractions.py's.
+"""
+
+import glob
+import importlib.util
+import io
+import os
+import random
+import re
+import resource
+import shlex
+import signal
+import subprocess
+import sys
+import tempfile
+import time
+import unittest
+import xml.etree.ElementTree
+from fractions import Fraction
+
+HERE = os.path.dirname(os.path.abspath(__file__))
+ROOT = os.path.dirname(HERE)
+sys.path.insert(0, HERE)
+
+import curves
+import exact_fractions as ref
+from curve_file import curve_file
+from factor_curves import __main__ as program
+from factor_curves import refusal_words
+
+SAMPLES = os.path.join(ROOT, 'samples')
+GOOD = os.path.join(SAMPLES, 'document-01.trf')
+BAD = os.path.join(SAMPLES, 'refused-6-no-shape.trf')
+TWO = [os.path.join(SAMPLES, 'same-points-%s.trf' % shape) for shape in ('rising', 'convex')]
+COMMAND = [sys.executable, '-m', 'factor_curves']
+MATPLOTLIB = importlib.util.find_spec('matplotlib') is not None
+
+
+class Done:
+    """How a run ended: exit status, standard output and standard error."""
+
+    def __init__(self, status, out, err):
+        self.status, self.out, self.err = status, out, err
+
+    def __repr__(self):
+        return 'status %r\n%s\n%s' % (self.status, self.out, self.err)
+
+
+def inside(*words, data=b''):
+    """A run inside this process, which is quicker."""
+    streams = [io.TextIOWrapper(io.BytesIO(each), 'utf-8', 'backslashreplace')
+               for each in (data, b'', b'')]
+    old = sys.stdin, sys.stdout, sys.stderr
+    sys.stdin, sys.stdout, sys.stderr = streams
+    try:
+        status = program.main(list(words))
+        sys.stderr.flush()
+    finally:
+        sys.stdin, sys.stdout, sys.stderr = old
+    out, err = (stream.buffer.getvalue().decode('utf-8') for stream in streams[1:])
+    return Done(status, out, err)
+
+
+def environment(**changes):
+    """The environment without what changes Python's own streams, and with these changes."""
+    kept = {name: text for name, text in os.environ.items() if not name.startswith('PYTHON')}
+    return dict(kept, PYTHONDONTWRITEBYTECODE='1', PYTHONPATH=os.path.join(ROOT, 'python'),
+                **changes)
+
+
+def run(*words, closed=(), limit=None, env=None, **streams):
+    """A run in a process of its own.
+
+    closed  the streams that it does not have
+    limit   the most bytes that a file of it may have
+    """
+    def prepare():
+        for number in closed:
+            os.close(number)
+        if limit is not None:
+            resource.setrlimit(resource.RLIMIT_FSIZE, (limit, limit))
+    streams.setdefault('stdin', subprocess.DEVNULL)
+    streams.setdefault('stdout', subprocess.PIPE)
+    streams.setdefault('stderr', subprocess.PIPE)
+    done = subprocess.run(COMMAND + list(words), preexec_fn=prepare, env=env or environment(),
+                          timeout=60, **streams)
+    return Done(done.returncode, done.stdout, (done.stderr or b'').decode())
+
+
+def open_bytes(path):
+    with open(path, 'rb') as file:
+        return file.read()
+
+
+def sample_files():
+    for path in sorted(glob.glob(os.path.join(SAMPLES, '*.trf'))):
+        yield path, open_bytes(path)
+
+
+def accepted_samples():
+    for path, data in sample_files():
+        if ref.ratesheet(data).startswith('shape'):
+            areas, values, slopes = ref.file_lists(data)
+            yield path, areas, values, slopes, data[5]
+
+
+class Case(unittest.TestCase):
+
+    def assert_refused(self, done, number, place, detail=''):
+        self.assertEqual(done.status, program.REFUSED, done)
+        self.assertFalse(done.out, done)
+        self.assertEqual(done.err, 'refused %d at %d: %s%s\n'
+                         % (number, place, refusal_words(number), detail))
+
+    def assert_usage(self, done, *words):
+        """Status 2, nothing printed, and a message with these words and without a traceback."""
+        self.assertEqual((done.status, done.out or ''), (2, ''), done)
+        self.assert_message(done, *words)
+
+    def assert_message(self, done, *words):
+        self.assertNotIn('Traceback', done.err)
+        self.assertNotIn('Exception ignored', done.err)
+        self.assertIn('factor-curves', done.err)
+        for each in words:
+            self.assertIn(each, done.err)
+
+    def folder(self):
+        made = tempfile.TemporaryDirectory()
+        self.addCleanup(made.cleanup)
+        return made.name
+
+
+class Commands(Case):
+    """What the commands print, file by file."""
+
+    def inputs(self):
+        rng = random.Random('command line')
+        yield from (data for _, data in sample_files())
+        for index in range(40):
+            data = curve_file(curves.some_curve(rng, 1 + index % 2), 1 + index % 2)
+            yield data
+            flipped = bytearray(data)
+            flipped[rng.randrange(len(data))] ^= 1 << rng.randrange(8)
+            yield bytes(flipped)
+            yield data[:rng.randrange(len(data))]
+        flat = [(point, 5, 0) for point in range(255)]
+        for count in (0, 1, 64, 65, 255):
+            yield curve_file(flat[:count], 1)
+        for more in (1, 12, 100000):
+            yield curve_file(flat[:64], 1) + bytes(more)
+            yield b'X' + curve_file(flat[:64], 1) + bytes(more)
+
+    def test_sheet_is_ratesheet(self):
+        for data in self.inputs():
+            text = ref.ratesheet(data)
+            done = inside('sheet', '-', data=data)
+            if text.startswith('refused'):
+                self.assert_refused(done, *map(int, text.split()[1::2]))
+            else:
+                self.assertEqual((done.status, done.out, done.err), (0, text, ''))
+
+    def test_sheet_in_a_process(self):
+        for path in [GOOD, os.path.join(SAMPLES, 'whole-range.trf')]:
+            done = run('sheet', path)
+            self.assertEqual((done.status, done.out.decode(), done.err),
+                             (0, ref.ratesheet(open_bytes(path)), ''))
+
+    def test_refused_by_every_command(self):
+        for path, data in sample_files():
+            text = ref.ratesheet(data)
+            if text.startswith('refused'):
+                number, place = map(int, text.split()[1::2])
+                for words in (['check', path], ['show', path], ['read', path, '550'],
+                              ['sheet', path], ['sheet', path, '--step', '0']):
+                    self.assert_refused(inside(*words), number, place)
+                self.assert_refused(inside('plot', GOOD, path, '-o', '/no/such/folder/x.svg'),
+                                    number, place, ' (%s)' % path)
+
+    def test_check(self):
+        for path, areas, _, _, shape in accepted_samples():
+            count = len(areas)
+            segments = '1 segment' if count == 2 else '%d segments' % (count - 1)
+            self.assertEqual(inside('check', path).out, 'accepted: shape %d (%s), %d points, %s\n'
+                             % (shape, {1: 'rising', 2: 'convex'}[shape], count, segments))
+
+    def test_read(self):
+        rng = random.Random('read')
+        for path, *curve in accepted_samples():
+            first, last = curve[0][0], curve[0][-1]
+            areas = [first, last] + [rng.randint(first, last) for _ in range(20)]
+            done = inside('read', path, *map(str, areas))
+            self.assertEqual(done.out, ''.join('%d %d\n' % (area, ref.read(*curve, area)[1])
+                                               for area in areas))
+            for outside in (last + 1, 2**32 - 1):
+                self.assert_refused(
+                    inside('read', path, str(first), str(outside), str(last)), 7, 0,
+                    ' (area %d; the curve goes from %d to %d)' % (outside, first, last))
+        self.assertEqual(inside('read', GOOD, '00550', '0000000000000550').out,
+                         '550 10800\n550 10800\n')
+
+    def test_show(self):
+        for path, areas, values, slopes, shape in accepted_samples():
+            first, header, *lines = inside('show', path).out.splitlines()
+            self.assertEqual('accepted: ' + first + '\n', inside('check', path).out)
+            self.assertEqual(header.split(), ['point', 'area', 'value', 'slope', 'm2', 'factor',
+                                              'factor/m2'])
+            table = [line.split() for line in lines]
+            self.assertEqual([[int(word) for word in row[:4]] for row in table],
+                             [list(row) for row in zip(range(len(areas)), areas, values, slopes)])
+            for row in table:               # the same figures, in other units
+                self.assertEqual([Fraction(row[4]) * 10, Fraction(row[5]) * 10000,
+                                  Fraction(row[6]) * 100000], [int(word) for word in row[1:4]])
+            self.assertEqual({len(line) for line in lines + [header]}, {len(header)})
+
+
+class Sheets(Case):
+    """The options of sheet."""
+
+    def text(self, curve, start, step, count):
+        lines = ['shape %d points %d\n' % (curve[3], len(curve[0]))]
+        for area in range(start, start + step * count, step):
+            lines.append('%d %d\n' % (area, ref.read(*curve, area)[1]))
+        return ''.join(lines)
+
+    def test_options(self):
+        rng = random.Random('options')
+        for path, *curve in accepted_samples():
+            first, last = curve[0][0], curve[0][-1]
+            for _ in range(4):
+                start = rng.randint(first, last)
+                step = rng.randint(1, max(1, (last - start) // 3))
+                full = (last - start) // step + 1
+                count = rng.randint(1, min(full, 50))
+                words = ['sheet', path, '--start', str(start), '--step=%d' % step]
+                self.assertEqual(inside(*words, '--count', str(count)).out,
+                                 self.text(curve, start, step, count))
+                if full < 300:
+                    self.assertEqual(inside(*words).out, self.text(curve, start, step, full))
+                self.assert_refused(inside(*words, '--count', str(full + 1)), 7, full,
+                                    ' (area %d; the curve goes from %d to %d)'
+                                    % (start + full * step, first, last))
+
+    def test_long_sheets(self):
+        """More than 1,024 entries: several sheets of the library, one on the page."""
+        path = TWO[0]
+        curve = ref.file_lists(open_bytes(path)) + (1,)
+        count = curve[0][-1] - curve[0][0] + 1
+        self.assertGreater(count, 1024)
+        text = self.text(curve, curve[0][0], 1, count)
+        self.assertEqual(inside('sheet', path, '--step', '1').out, text)
+        for number in (1023, 1024, 1025, count):
+            self.assertEqual(inside('sheet', path, '--step', '1', '--count', str(number)).out,
+                             ''.join(text.splitlines(True)[:number + 1]))
+        for number in (count + 1, 2**32 - 1):
+            self.assert_refused(inside('sheet', path, '--step', '1', '--count', str(number)), 7,
+                                count, ' (area 2001; the curve goes from 300 to 2000)')
+
+    def test_longer_steps(self):
+        path = os.path.join(SAMPLES, 'whole-range.trf')
+        curve = ref.file_lists(open_bytes(path)) + (1,)
+        self.assertEqual(inside('sheet', path, '--step', '7').out, self.text(curve, 0, 7, 2858))
+        self.assertEqual(inside('sheet', path, '--step', '1').out.count('\n'), 20002)
+
+    def test_refused(self):
+        ends = '; the curve goes from 500 to 600)'
+        for words, number, detail in [
+                (['--step', '0'], 8, ''), (['--count', '0'], 8, ''),
+                (['--start', '0', '--step', '0'], 8, ''),
+                (['--start', '700', '--count', '0'], 8, ''),
+                (['--start', '499'], 7, ' (area 499' + ends),
+                (['--start', '0'], 7, ' (area 0' + ends),
+                (['--start', '601'], 7, ' (area 601' + ends),
+                (['--start', '4294967295', '--step', '4294967295'], 7,
+                 ' (area 4294967295' + ends)]:
+            self.assert_refused(inside('sheet', GOOD, *words), number, 0, detail)
+        self.assert_refused(inside('sheet', GOOD, '--step', '4294967295', '--count', '4294967295'),
+                            7, 1, ' (area 4294967795' + ends)
+
+
+class Usage(Case):
+    """Exit status 2."""
+
+    def test_words(self):
+        for words in ([], ['chek', GOOD], ['check'], ['check', GOOD, GOOD], ['read', GOOD],
+                      ['show', '--all', GOOD], ['plot', GOOD], ['plot', '-o', 'x.svg'],
+                      ['sheet', GOOD, '--st', '25'], ['--nothing'], ['sheet', GOOD, '--count']):
+            self.assert_usage(inside(*words), 'usage: factor-curves', 'error: ')
+
+    def test_areas(self):
+        for text in ('', '-1', '+550', '5.5', '550.0', ' 550', '5_50', '0x10', 'ten', '1e3',
+                     '4294967296', '9' * 5000, '\u0665\u0665\u0660'):
+            message = 'not a whole number from 0 to 4294967295'
+            self.assert_usage(inside('read', GOOD, '550', text), 'argument AREA', message)
+            for option in ('--start', '--step', '--count'):
+                self.assert_usage(inside('sheet', GOOD, option + '=' + text), option, message)
+
+    def test_files(self):
+        folder = self.folder()
+        for path, words in [(os.path.join(folder, 'none.trf'), 'No such file'),
+                            (folder, 'Is a directory'), ('', 'No such file'),
+                            ('/proc/self/mem', 'Input/output error'),
+                            (os.path.join(GOOD, 'x'), 'Not a directory')]:
+            for command in (['check', path], ['read', path, '1'], ['sheet', path],
+                            ['show', path], ['plot', path, '-o', '-']):
+                self.assert_usage(inside(*command), 'cannot read %s: %s' % (path, words))
+
+    @unittest.skipIf(os.geteuid() == 0, 'root may read every file')
+    def test_unreadable(self):
+        path = os.path.join(self.folder(), 'secret.trf')
+        with open(path, 'wb') as file:
+            file.write(open_bytes(GOOD))
+        os.chmod(path, 0)
+        self.assert_usage(inside('check', path), 'Permission denied')
+
+    def test_in_a_process(self):
+        for words in ([], ['check', '/no/such/file'], ['read', GOOD, 'x'], ['check', SAMPLES]):
+            self.assert_usage(run(*words))
+        strange = os.fsdecode(b'/no/\xff\xc3\xbc\n.trf')
+        for env in (None, environment(LC_ALL='C', PYTHONIOENCODING='ascii')):
+            self.assert_usage(run('check', strange, env=env), 'cannot read /no/')
+
+    def test_standard_input(self):
+        self.assert_usage(run('check', '-', closed=[0]), 'standard input is closed')
+        self.assert_usage(inside('plot', '-', '-', '-o', 'x.svg'), 'only once')
+        with open(GOOD, 'rb') as file:
+            self.assertEqual(run('read', '-', '550', stdin=file).out, b'550 10800\n')
+
+    def test_without_the_library(self):
+        env = environment(FACTOR_CURVES_LIBRARY='/no/such/library.so')
+        self.assert_usage(run('check', GOOD, env=env), '/no/such/library.so', '`make`')
+        done = run('--help', env=env)
+        self.assertEqual((done.status, done.err), (0, ''))
+
+
+class Input(Case):
+    """Long, endless and slow input."""
+
+    def test_long_files(self):
+        path = os.path.join(self.folder(), 'long.trf')
+        flat = [(point, 5, 0) for point in range(255)]
+        for count, more in ((64, 0), (64, 1), (64, 12), (65, 0), (255, 0), (2, 751), (2, 752)):
+            data = curve_file(flat[:count], 1) + bytes(more)
+            with open(path, 'wb') as file:
+                file.write(data)
+            done, text = inside('sheet', path), ref.ratesheet(data)
+            if text.startswith('refused'):
+                self.assert_refused(done, *map(int, text.split()[1::2]))
+            else:
+                self.assertEqual(done.out, text)
+
+    def test_slow(self):
+        data = open_bytes(GOOD)
+        with subprocess.Popen(COMMAND + ['read', '-', '550'], stdin=subprocess.PIPE,
+                              stdout=subprocess.PIPE, env=environment(), bufsize=0) as process:
+            for at in range(0, len(data), 11):
+                process.stdin.write(data[at:at + 11])
+                time.sleep(0.1)
+            self.assertEqual(process.communicate(timeout=60)[0], b'550 10800\n')
+
+    def test_endless(self):
+        self.assert_refused(inside('check', '/dev/zero'), 9, 0)
+        with subprocess.Popen([sys.executable, '-c', 'import sys\n'
+                               'sys.stdout.buffer.write(open(sys.argv[1], "rb").read())\n'
+                               'while True: sys.stdout.write("x" * 9999)', GOOD],
+                              stdout=subprocess.PIPE, stderr=subprocess.DEVNULL) as endless:
+            try:
+                done = run('check', '-', stdin=endless.stdout)
+            finally:
+                endless.kill()
+        self.assertEqual((done.status, done.out), (1, b''))
+        self.assertEqual(done.err, 'refused 10 at 0: %s\n' % refusal_words(10))
+
+
+class Output(Case):
+    """Exit status 3, and standard error that cannot be written."""
+
+    PRINTING = [['check', GOOD], ['read', GOOD, '550'], ['show', GOOD], ['--help'], ['--version'],
+                ['sheet', '--help'], ['sheet', TWO[0], '--step', '1']]
+
+    def assert_unwritten(self, done, *words):
+        self.assertEqual(done.status, 3, done)
+        self.assert_message(done, *words)
+        self.assertEqual(done.err.count('\n'), 1)
+
+    def test_full(self):
+        with open('/dev/full', 'wb') as full:
+            for words in self.PRINTING:
+                self.assert_unwritten(run(*words, stdout=full), 'No space left on device')
+
+    def test_partly_written(self):
+        """Also where Python's own streams are not buffered."""
+        path = os.path.join(self.folder(), 'out')
+        for env in (environment(), environment(PYTHONUNBUFFERED='1')):
+            with open(path, 'wb') as file:
+                done = run('sheet', TWO[0], '--step', '1', stdout=file, limit=1000, env=env)
+            self.assert_unwritten(done, 'File too large')
+
+    def test_unbuffered(self):
+        env = environment(PYTHONUNBUFFERED='1')
+        done = run('sheet', TWO[0], '--step', '1', env=env)
+        self.assertEqual(done.out.decode(), inside('sheet', TWO[0], '--step', '1').out)
+        with open('/dev/full', 'wb') as full:
+            self.assert_unwritten(run('check', GOOD, stdout=full, env=env), 'No space left')
+
+    def test_closed(self):
+        for words in self.PRINTING:
+            self.assert_unwritten(run(*words, closed=[1]), 'standard output is closed')
+
+    def test_broken_pipe(self):
+        for words in self.PRINTING:
+            reader, writer = os.pipe()
+            os.close(reader)
+            try:
+                done = run(*words, stdout=writer)
+            finally:
+                os.close(writer)
+            self.assertEqual((done.status, done.err), (3, ''))
+
+    def test_refusals_need_no_output(self):
+        for words in (['check', BAD], ['sheet', BAD]):
+            done = run(*words, closed=[1])
+            self.assertEqual(done.status, 1)
+            self.assertTrue(done.err.startswith('refused 6 at 0: '))
+
+    def test_standard_error(self):
+        """A message that cannot be written is lost; the status says what it was about."""
+        with open('/dev/full', 'wb') as full:
+            for streams in ({'closed': [2]}, {'stderr': full}):
+                for words, status in [(['check', BAD], 1), (['check', '/none'], 2), ([], 2),
+                                      (['check', GOOD], 0)]:
+                    done = run(*words, **streams)
+                    self.assertEqual(done.status, status, words)
+                    self.assertEqual(bool(done.out), status == 0)
+            done = run('check', GOOD, closed=[1, 2])
+            self.assertEqual(done.status, 3)
+
+
+class Interrupt(Case):
+
+    def waits(self, process):
+        with open('/proc/%d/stat' % process.pid, encoding='utf-8') as file:
+            return file.read().rsplit(')', 1)[1].split()[0] == 'S'
+
+    def test_interrupt(self):
+        path = os.path.join(self.folder(), 'pipe')
+        os.mkfifo(path)
+        with subprocess.Popen(COMMAND + ['check', path], stdout=subprocess.PIPE,
+                              stderr=subprocess.PIPE, env=environment()) as process:
+            with open(path, 'wb'):              # opens when the program does
+                while not self.waits(process):  # until it reads
+                    time.sleep(0.01)
+                process.send_signal(signal.SIGINT)
+                out, err = process.communicate(timeout=20)
+        self.assertEqual((process.returncode, out, err), (130, b'', b''))
+
+
+class Help(Case):
+
+    def test_version(self):
+        with open(os.path.join(ROOT, 'VERSION'), encoding='ascii') as file:
+            self.assertEqual(run('--version').out.decode(), 'factor-curves ' + file.read())
+
+    def test_help(self):
+        text = run('--help').out.decode()
+        for word in ('check', 'read', 'sheet', 'show', 'plot', 'examples:', 'exit status:'):
+            self.assertIn(word, text)
+        examples = re.findall('^  factor-curves (.*)$', text, re.MULTILINE)
+        self.assertEqual(len(examples), 5)
+        folder = self.folder()
+        for example in examples:
+            if example.startswith('plot') and not MATPLOTLIB:
+                continue
+            command, _, source = example.replace('curves.svg', folder + '/x.svg').partition(' < ')
+            with open(os.path.join(ROOT, source or GOOD), 'rb') as file:
+                done = run(*shlex.split(command), cwd=ROOT, stdin=file)
+            self.assertEqual((done.status, done.err), (0, ''), example)
+
+    def test_manual_page(self):
+        """Its examples print what it says; it has every command, option and exit status."""
+        with open(os.path.join(ROOT, 'man', 'factor-curves.1'), encoding='ascii') as file:
+            page = file.read().replace('\\-', '-')
+        examples = page.split('.SH EXAMPLES\n.nf\n')[1].split('.fi\n')[0]
+        found = re.findall(r'^\$ factor-curves (.*)\n((?:[^$].*\n)*)', examples, re.MULTILINE)
+        self.assertEqual(len(found), examples.count('$ '))
+        folder = os.getcwd()
+        os.chdir(ROOT)
+        try:
+            for command, text in found:
+                if not command.startswith('plot'):
+                    done = inside(*shlex.split(command))
+                    self.assertEqual(done.out + done.err, text, command)
+        finally:
+            os.chdir(folder)
+        for word in ('--start', '--step', '--count', '-o', '--help', '--version'):
+            self.assertIn(word, page)
+        statuses = page.split('.SH EXIT STATUS\n')[1].split('.SH')[0]
+        self.assertEqual(re.findall(r'^\.B (\d+)$', statuses, re.MULTILINE),
+                         ['0', '1', '2', '3', '130'])
+
+
+def svg_lines(text):
+    """Of a picture: the corners of each curve, by its id, and where the rated points are."""
+    space = '{http://www.w3.org/2000/svg}'
+    tree = xml.etree.ElementTree.fromstring(text)
+    lines, marks = {}, []
+    for group in tree.iter(space + 'g'):
+        name = group.get('id', '')
+        if name.startswith('curve-'):
+            numbers = re.findall(r'[ML] (\S+) (\S+)', group.find(space + 'path').get('d'))
+            lines[name] = [(float(x), float(y)) for x, y in numbers]
+        elif name == 'rated-points':
+            marks = [(float(use.get('x')), float(use.get('y')))
+                     for use in group.iter(space + 'use')]
+    return lines, marks
+
+
+class Pictures(Case):
+
+    def assert_drawn(self, text, paths):
+        """The picture shows the rated points and the exact curves of these files."""
+        lines, marks = svg_lines(text)
+        read = [ref.file_lists(open_bytes(path)) + (open_bytes(path)[5],) for path in paths]
+        points = sorted({point for curve in read for point in zip(curve[0], curve[1])})
+        self.assertEqual(sorted(lines), ['curve-%d' % index for index in range(len(paths))])
+        self.assertEqual(len(marks), len(points))
+        (x0, y0), (x1, y1) = marks[0], marks[-1]
+        (a0, v0), (a1, v1) = points[0], points[-1]
+        across, up = (x1 - x0) / (a1 - a0), (y1 - y0) / (v1 - v0)
+        for (x, y), (area, value) in zip(marks, points):
+            self.assertAlmostEqual(x, x0 + (area - a0) * across, delta=0.01)
+            self.assertAlmostEqual(y, y0 + (value - v0) * up, delta=0.01)
+        for index, curve in enumerate(read):
+            corners = lines['curve-%d' % index]
+            self.assertGreater(len(corners), 20)
+            for x, y in corners:
+                area = min(max(a0 + Fraction(x - x0) / Fraction(across), curve[0][0]),
+                           curve[0][-1])
+                value = ref.exact_value(*curve, area)
+                self.assertAlmostEqual(y, y0 + float(value - v0) * up, delta=0.15)
+            self.assertAlmostEqual(corners[-1][0], x0 + (curve[0][-1] - a0) * across, delta=0.1)
+
+    def test_of_the_documentation(self):
+        with open(os.path.join(ROOT, 'docs', 'curve.svg'), encoding='utf-8') as file:
+            self.assert_drawn(file.read(), TWO)
+        rising, convex = (ref.file_lists(open_bytes(path)) for path in TWO)
+        self.assertEqual(rising, convex)
+
+    def test_without_matplotlib(self):
+        folder = self.folder()
+        with open(os.path.join(folder, 'matplotlib.py'), 'w', encoding='ascii') as file:
+            file.write('raise ImportError("not here")\n')
+        env = environment()
+        env['PYTHONPATH'] = folder + os.pathsep + env['PYTHONPATH']
+        picture = os.path.join(folder, 'x.svg')
+        done = run('plot', GOOD, '-o', picture, env=env)
+        self.assert_usage(done, 'plot needs matplotlib', 'not here')
+        self.assertEqual(done.err.count('\n'), 1)
+        self.assertFalse(os.path.exists(picture))
+        self.assertEqual(run('check', GOOD, env=env).status, 0)
+
+    @unittest.skipUnless(MATPLOTLIB, 'matplotlib is not installed')
+    def test_picture(self):
+        picture = os.path.join(self.folder(), 'x.svg')
+        done = run('plot', *TWO, '-o', picture)
+        self.assertEqual((done.status, done.out, done.err), (0, b'', ''))
+        data = open_bytes(picture)
+        self.assert_drawn(data.decode(), TWO)
+        again = run('plot', *TWO, '-o', '-')
+        self.assertEqual((again.status, again.out), (0, data))
+
+    @unittest.skipUnless(MATPLOTLIB, 'matplotlib is not installed')
+    def test_figure(self):
+        from factor_curves import Curve, _plot
+        named = []
+        for path in [GOOD] + TWO:
+            curve = Curve.from_file(path)
+            factors = [curve.read(area) for area in range(curve.first_area, curve.last_area + 1)]
+            named.append((path, curve, factors))
+        (axes,) = _plot.figure(named).axes
+        *lines, marks = axes.get_lines()
+        for (path, curve, _), line in zip(named, lines):
+            areas = range(curve.first_area, curve.last_area + 1)
+            self.assertEqual(list(line.get_xdata()), [area / 10 for area in areas])
+            self.assertEqual(list(line.get_ydata()), [
+                ref.read(curve.areas, curve.values, curve.slopes, curve.shape, area)[1] / 10000
+                for area in areas])
+        points = sorted({(point.area, point.value) for _, curve, _ in named
+                         for point in curve.points})
+        self.assertEqual(len(points), 6)
+        self.assertEqual(list(zip(marks.get_xdata(), marks.get_ydata())),
+                         [(area / 10, value / 10000) for area, value in points])
+        self.assertEqual([text.get_text() for text in axes.get_legend().get_texts()],
+                         ['convex (document-01)', 'rising (same-points-rising)',
+                          'convex (same-points-convex)', 'rated points'])
+        self.assertEqual((axes.get_xlabel(), axes.get_ylabel()),
+                         ('floor area (m\u00b2)', 'factor'))
+
+    @unittest.skipUnless(MATPLOTLIB, 'matplotlib is not installed')
+    def test_formats_and_names(self):
+        folder = self.folder()
+        for name, start in [('x.png', b'\x89PNG'), ('x.PDF', b'%PDF'), ('x', b'<?xml')]:
+            picture = os.path.join(folder, name)
+            self.assertEqual(inside('plot', GOOD, '-o', picture).status, 0)
+            data = open_bytes(picture)
+            self.assertTrue(data.startswith(start))
+            self.assertNotIn(b'CreationDate', data)
+            self.assertEqual(run('plot', GOOD, '-o', picture).status, 0)
+            self.assertEqual(open_bytes(picture), data)     # the same bytes each time
+        for name in ('_a', '$x_$', '\\', '<&>', '$', os.fsdecode(b'\xff'), '\u4e00'):
+            path = os.path.join(folder, name + '.trf')
+            with open(path, 'wb') as file:
+                file.write(open_bytes(GOOD))
+            picture = os.path.join(folder, 'y.svg')
+            done = inside('plot', path, '-o', picture)
+            self.assertEqual((done.status, done.err), (0, ''), name)
+            self.assert_drawn(open_bytes(picture).decode(), [GOOD])
+
+    @unittest.skipUnless(MATPLOTLIB, 'matplotlib is not installed')
+    def test_unwritten(self):
+        folder = self.folder()
+        for picture, words in [('/dev/full', 'No space left on device'), (folder, 'directory'),
+                               (os.path.join(folder, 'none', 'x.svg'), 'No such file')]:
+            done = inside('plot', GOOD, '-o', picture)
+            self.assertEqual((done.status, done.out), (3, ''))
+            self.assert_message(done, 'cannot write %s: ' % picture, words)
+        with open('/dev/full', 'wb') as full:
+            self.assertEqual(run('plot', GOOD, '-o', '-', stdout=full).status, 3)
+        self.assertEqual(run('plot', GOOD, '-o', os.path.join(folder, 'z.svg'),
+                             closed=[1]).status, 0)
+
+
+if __name__ == '__main__':
+    unittest.main()

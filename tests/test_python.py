@@ -1,0 +1,619 @@
+"""Tests of the Python package.
+
+    PYTHONPATH=python FACTOR_CURVES_LIBRARY=... python3 -m unittest tests/test_python.py
+
+Expected answers are exact_fractions.py's, or document 01's own.
+"""
+
+import copy
+import doctest
+import glob
+import multiprocessing.pool
+import os
+import pickle
+import random
+import re
+import shutil
+import subprocess
+import sys
+import tempfile
+import typing
+import unittest
+from fractions import Fraction
+
+HERE = os.path.dirname(os.path.abspath(__file__))
+ROOT = os.path.dirname(HERE)
+sys.path.insert(0, HERE)
+
+import curves
+import exact_fractions as ref
+import factor_curves as fc
+from curve_file import curve_file
+from factor_curves import _calls, _library
+
+LARGEST = 2**32 - 1
+STEEP = [(500, 10000, 0), (600, 14000, 10000)]
+LIBRARY = _library.library()._name
+PACKAGE = os.path.dirname(os.path.abspath(fc.__file__))
+
+
+def lists(points):
+    return [list(column) for column in zip(*points)] or [[], [], []]
+
+
+def answer(call, *words):
+    """What a call gives, as exact_fractions.py writes it, with one result."""
+    try:
+        return ('ok', call(*words))
+    except fc.Refused as refusal:
+        return ('refused', refusal.number, refusal.place)
+
+
+def wanted(reference, *words):
+    """The reference's answer, its results after 'ok' as one."""
+    given = reference(*words)
+    if given[0] == 'refused' or len(given) == 2:
+        return given
+    if reference is ref.pair:
+        return ('ok', fc.Pair(*given[1:]))
+    return ('ok', given[2])                     # a sheet: its entries
+
+
+def random_curves(seed, number):
+    """(points, shape) of accepted curves, both shapes, and some at the limits."""
+    rng = random.Random(seed)
+    for index in range(number):
+        if index % 5 == 4:
+            yield curves.limit_curve(rng)
+        else:
+            yield curves.some_curve(rng, 1 + index % 2), 1 + index % 2
+
+
+def opened(data):
+    """The reference's answer to a file; its result is the curve."""
+    given = ref.open_file(data, (255, 255, 255))
+    return ('ok', fc.Curve(given[3], given[1])) if given[0] == 'ok' else given
+
+
+def sample_files():
+    for path in sorted(glob.glob(os.path.join(ROOT, 'samples', '*.trf'))):
+        with open(path, 'rb') as file:
+            yield path, file.read()
+
+
+class Lists(unittest.TestCase):
+    """The calls on lists give what the exact fractions give."""
+
+    def same(self, call, reference, *words):
+        self.assertEqual(answer(call, *words), wanted(reference, *words), repr(words)[:300])
+
+    def test_readings_of_document_01(self):
+        for points, shape, area, factor in [
+                (STEEP, 1, 550, 10889), (STEEP, 1, 525, 10229), (STEEP, 2, 550, 10800),
+                (STEEP, 2, 525, 10182), ([(500, 10000, 2000), (600, 14000, 6000)], 1, 501, 10020),
+                ([(0, 0, 50), (2, 1, 50)], 2, 1, 1), ([(0, 0, -300), (2, 0, 300)], 2, 1, -1),
+                ([(0, 0, 0), (2, 1, 100)], 2, 1, 0)]:
+            self.assertEqual(fc.read(*lists(points), shape, area), factor)
+            self.assertEqual(fc.Curve(points, shape).read(area), factor)
+        for points, shape in [([(0, 0, 100), (100, 100, 200)], 2), ([(0, 5, 0), (10, 5, 1)], 1)]:
+            self.assertEqual(answer(fc.read, *lists(points), shape, 1), ('refused', 6, 0))
+
+    def test_accepted_curves(self):
+        rng = random.Random('lists 1')
+        for points, shape in random_curves('lists 2', 60):
+            curve = lists(points) + [shape]
+            self.same(fc.check, ref.check, *curve)
+            for _ in range(6):
+                area, other = curves.inner_area(rng, points), curves.outer_area(rng, points)
+                self.same(fc.read, ref.read, *curve, area)
+                self.same(fc.read, ref.read, *curve, other)
+                self.same(fc.pair, ref.pair, *curve, area, curves.inner_area(rng, points))
+                self.same(fc.pair, ref.pair, *curve, area, other)
+                self.same(fc.pair, ref.pair, *curve, other, area)
+
+    def test_sheets(self):
+        rng = random.Random('sheets')
+        for points, shape in random_curves('sheets', 25):
+            curve = lists(points) + [shape]
+            first, last = points[0][0], points[-1][0]
+            step = rng.randint(1, max(1, (last - first) // 3))
+            full = min(1024, (last - first) // step + 1)
+            for start, by, count in [
+                    (first, step, full), (first, step, full + 1), (first + 1, step, full),
+                    (last, LARGEST, 1), (last, LARGEST, 2), (first, 2**31, 3), (first, 0, 1),
+                    (last + 1, 0, 1), (first, 1, 0), (LARGEST, 1, 1), (first, 1, 1025)]:
+                self.same(fc.sheet, ref.sheet, *curve, start, by, count)
+
+    def test_longest_sheet(self):
+        curve = lists([(0, 0, 0), (2000, 150000, 9000)]) + [2]
+        self.same(fc.sheet, ref.sheet, *curve, 0, 1, 1024)
+        for count in (1025, 10**15):            # no list of that length is made
+            self.assertEqual(answer(fc.sheet, *curve, 0, 1, count), ('refused', 8, 0))
+        curve[3] = 3                            # row 2 comes before row 8
+        self.assertEqual(answer(fc.sheet, *curve, 0, 1, 10**15), ('refused', 2, 0))
+
+    def test_faults(self):
+        rng = random.Random('faults')
+        fields = [(0, 20001), (0, LARGEST), (1, 200001), (1, LARGEST), (2, 10001), (2, -10001),
+                  (2, 2**31 - 1), (2, -2**31)]
+        for points, shape in random_curves('faults', 60):
+            curve = lists(points) + [shape]
+            at = rng.randrange(len(points))
+            for field, number in fields:
+                wrong = copy.deepcopy(curve)
+                wrong[field][at] = number
+                self.same(fc.check, ref.check, *wrong)
+                self.same(fc.read, ref.read, *wrong, points[0][0])
+            for code in (0, 3 - shape, 3, 256 + shape, LARGEST):
+                self.same(fc.check, ref.check, *curve[:3], code)
+
+    def test_lengths(self):
+        flat = [(point, 5, 0) for point in range(300)]
+        for count in (0, 1, 2, 64, 65, 255, 256, 258, 300):
+            self.same(fc.check, ref.check, *lists(flat[:count]), 1)
+        for which in range(3):
+            wrong = lists(flat[:9])
+            wrong[which].pop()
+            self.same(fc.check, ref.check, *wrong, 1)
+            self.same(fc.read, ref.read, *wrong, 1, 4)
+            self.same(fc.pair, ref.pair, *wrong, 1, 4, 5)
+            self.same(fc.sheet, ref.sheet, *wrong, 1, 4, 1, 1)
+
+    def test_any_iterable(self):
+        columns = lists(STEEP)
+        self.assertEqual(fc.read(*map(tuple, columns), 2, 550), 10800)
+        self.assertEqual(fc.read(*map(iter, columns), 2, 550), 10800)
+
+
+class Files(unittest.TestCase):
+    """The calls on bytes give what the exact fractions give."""
+
+    def files(self):
+        rng = random.Random('files')
+        yield from (data for _, data in sample_files())
+        for points, shape in random_curves('files', 60):
+            data = curve_file(points, shape)
+            yield data
+            yield data[:rng.randrange(len(data))]
+            flipped = bytearray(data)
+            flipped[rng.randrange(len(data))] ^= 1 << rng.randrange(8)
+            yield bytes(flipped)
+        for count in (0, 1, 64, 65, 255):
+            yield curve_file([(point, 5, 0) for point in range(count)], 1)
+
+    def test_open(self):
+        for data in self.files():
+            self.assertEqual(answer(fc.Curve.from_bytes, data), opened(data))
+            given = ref.open_file(data, (255, 255, 255))
+            if given[0] == 'ok':
+                columns = [tuple(column) for column in zip(*given[3])]
+                given = ('ok', fc.Lists(*columns, given[1]))
+            self.assertEqual(answer(fc.open_bytes, data), given)
+
+    def test_other_buffers(self):
+        data = curve_file(STEEP, 2)
+        for same in (bytearray(data), memoryview(data), memoryview(b'x' + data)[1:],
+                     memoryview(data[::-1])[::-1]):
+            self.assertEqual(fc.Curve.from_bytes(same).points, tuple(STEEP))
+            self.assertEqual(fc.desk_reading(same, 550), 10800)
+        for wrong in (5, None, 'TRF', [84, 82, 70]):
+            for call in (fc.open_bytes, fc.Curve.from_bytes):
+                self.assertRaises(TypeError, call, wrong)
+            self.assertRaises(TypeError, fc.desk_reading, wrong, 550)
+
+    def desk(self, data, area, length):
+        before = bytes(range(256)) * 13
+        scratch = bytearray(before[:length])
+        number, after = ref.desk(data, area, before[:length])
+        wanted = ('refused', -1000000 - number, None) if number < -1000000 else ('ok', number)
+        self.assertEqual(answer(fc.desk_reading, data, area, scratch), wanted)
+        self.assertEqual(bytes(scratch), after)
+        return wanted
+
+    def test_desk_reading(self):
+        seen = set()
+        for data in self.files():
+            need = 12 * (data[6] if len(data) > 6 else 0)
+            for area in (0, 1, 550, 1000, 19999, LARGEST):
+                seen.add(self.desk(data, area, need + area % 5)[:2])
+            for length in (0, max(0, need - 1), need // 2, need):
+                seen.add(self.desk(data, 550, length)[:2])
+            answers = [answer(fc.desk_reading, data, 550, *scratch)
+                       for scratch in ((), (None,), (bytearray(fc.SCRATCH_ENOUGH),))]
+            self.assertEqual(answers[0], answers[1])
+            self.assertEqual(answers[0], answers[2])
+        numbers = {words[1] for words in seen if words[0] == 'refused'}
+        self.assertEqual(numbers, {1, 2, 3, 4, 5, 6, 7, 9, 10, 11})
+
+    def test_scratch(self):
+        data = curve_file(STEEP, 2)
+        memory = bytearray(40)
+        self.assertEqual(fc.desk_reading(data, 550, memoryview(memory)[8:33]), 10800)
+        self.assertEqual(bytes(memory), bytes(8) + data[7:] + bytes(8))
+        memory.append(0)                        # nothing holds it after the call
+        overlapping = bytearray(data)           # the file itself as the scratch
+        self.assertEqual(fc.desk_reading(overlapping, 550, overlapping), 10800)
+        self.assertEqual(bytes(overlapping), data[7:] + data[24:])
+        for wrong in (b'', bytes(24), memoryview(bytes(24)), memoryview(memory)[::2], 24, 'x' * 24):
+            self.assertRaises(TypeError, fc.desk_reading, data, 550, wrong)
+        lent, length = _calls._lent(bytearray())
+        self.assertEqual((len(lent), length), (1, 0))       # so that its address is not null
+
+    def test_from_file(self):
+        for path, data in sample_files():
+            self.assertEqual(answer(fc.Curve.from_file, path), opened(data))
+        with tempfile.TemporaryDirectory() as folder:
+            path = os.path.join(folder, 'long.trf')
+            flat = [(point, 5, 0) for point in range(255)]
+            for data in [curve_file(flat[:64], 1), curve_file(flat[:65], 1),
+                         curve_file(flat, 1), curve_file(flat, 1) + bytes(1),
+                         curve_file(flat, 1) + bytes(12), b'X' + bytes(5000)]:
+                with open(path, 'wb') as file:
+                    file.write(data)
+                self.assertEqual(answer(fc.Curve.from_file, path), opened(data))
+            self.assertRaises(FileNotFoundError, fc.Curve.from_file, path + 'x')
+            self.assertRaises(IsADirectoryError, fc.Curve.from_file, folder)
+
+
+class Index:
+    """A whole number that is no int."""
+
+    def __init__(self, number):
+        self.number = number
+
+    def __index__(self):
+        return self.number
+
+
+class Numbers(unittest.TestCase):
+    """What does not fit the C types never reaches the library in another form."""
+
+    UNSIGNED = [-1, -2**31, 2**32, 2**32 + 550, 2**64 + 550, 10**5000, -10**5000]
+    SIGNED = [2**31, -2**31 - 1, 2**32, -2**32, 2**64, 10**5000]
+    NO_NUMBERS = [550.0, '550', b'5', None, True, False, Fraction(550), [550], 5j]
+
+    def calls(self):
+        """(what it takes, a call with one number to be filled in, its name in messages)."""
+        columns, data = lists(STEEP), curve_file(STEEP, 2)
+        curve = fc.Curve(STEEP, 2)
+        yield 'unsigned', lambda n: fc.check(*columns, n), 'shape'
+        yield 'unsigned', lambda n: fc.Curve(STEEP, n), 'shape'
+        yield 'unsigned', lambda n: fc.read(*columns, 2, n), 'area'
+        yield 'unsigned', lambda n: fc.pair(*columns, 2, n, 550), 'form'
+        yield 'unsigned', lambda n: fc.pair(*columns, 2, 550, n), 'plan'
+        yield 'unsigned', lambda n: fc.sheet(*columns, 2, n, 1, 1), 'start'
+        yield 'unsigned', lambda n: fc.sheet(*columns, 2, 550, n, 1), 'step'
+        yield 'unsigned', lambda n: fc.desk_reading(data, n), 'area'
+        yield 'unsigned', curve.read, 'area'
+        yield 'unsigned', lambda n: curve.pair(n, 550), 'form'
+        yield 'unsigned', lambda n: curve.pair(550, n), 'plan'
+        yield 'unsigned', lambda n: curve.sheet(n, 1, 1), 'start'
+        yield 'unsigned', lambda n: curve.sheet(550, n, 1), 'step'
+        yield 'size', lambda n: curve.sheet(550, 1, n), 'count'
+        yield 'size', lambda n: fc.sheet(*columns, 2, 550, 1, n), 'count'
+        yield 'signed', fc.refusal_words, 'number'
+        for field, name in enumerate(['areas', 'values', 'slopes']):
+            kind = 'signed' if name == 'slopes' else 'unsigned'
+            for at in range(2):
+                message = r'%s\[%d\]' % (name, at)
+                yield kind, lambda n, f=field, a=at: fc.check(*self.put(columns, f, a, n), 2), \
+                    message
+                yield kind, lambda n, f=field, a=at: fc.Curve(
+                    zip(*self.put(columns, f, a, n)), 2), message
+                yield kind, lambda n, f=field, a=at: fc.Curve.from_lists(
+                    *self.put(columns, f, a, n), 2), message
+
+    @staticmethod
+    def put(columns, field, at, number):
+        changed = copy.deepcopy(columns)
+        changed[field][at] = number
+        return changed
+
+    def test_too_large(self):
+        limits = {'unsigned': self.UNSIGNED, 'signed': self.SIGNED, 'size': [-1, 2**64, 10**5000]}
+        for kind, call, name in self.calls():
+            for number in limits[kind]:
+                with self.assertRaisesRegex(OverflowError, '^%s must be from ' % name):
+                    call(number)
+
+    def test_no_whole_number(self):
+        for _, call, name in self.calls():
+            for number in self.NO_NUMBERS:
+                with self.assertRaisesRegex(TypeError, '^%s must be a whole number' % name):
+                    call(number)
+
+    def test_largest_that_fit(self):
+        columns = lists(STEEP)
+        for number in (0, LARGEST):
+            self.assertEqual(answer(fc.read, *columns, 2, number), ref.read(*columns, 2, number))
+            self.assertEqual(answer(fc.check, *columns, number), ref.check(*columns, number))
+        for number in (2**31 - 1, -2**31):
+            wrong = self.put(columns, 2, 1, number)
+            self.assertEqual(answer(fc.check, *wrong, 2), ref.check(*wrong, 2))
+
+    def test_other_whole_numbers(self):
+        points = [[Index(figure) for figure in point] for point in STEEP]
+        curve = fc.Curve(points, Index(2))
+        self.assertEqual(curve, fc.Curve(STEEP, 2))
+        self.assertTrue(all(type(figure) is int for point in curve.points for figure in point))
+        self.assertIs(type(curve.shape), int)
+        self.assertEqual(curve.read(Index(550)), 10800)
+
+
+class TheCurve(unittest.TestCase):
+
+    def test_attributes(self):
+        for points, shape in random_curves('attributes', 20):
+            curve = fc.Curve(points, shape)
+            self.assertEqual(curve.points, tuple(points))
+            self.assertEqual(list(zip(curve.areas, curve.values, curve.slopes)), points)
+            self.assertEqual((curve.shape, curve.first_area, curve.last_area),
+                             (shape, points[0][0], points[-1][0]))
+            self.assertEqual(curve.points[1].slope, points[1][2])
+
+    def test_methods(self):
+        rng = random.Random('methods')
+        for points, shape in random_curves('methods', 25):
+            curve, columns = fc.Curve(points, shape), lists(points)
+            for area in (curves.inner_area(rng, points), curves.outer_area(rng, points)):
+                inner = curves.inner_area(rng, points)
+                self.assertEqual(answer(curve.read, area),
+                                 wanted(ref.read, *columns, shape, area))
+                self.assertEqual(answer(curve.pair, inner, area),
+                                 wanted(ref.pair, *columns, shape, inner, area))
+                for step, count in ((1, 3), (7, 2), (0, 1), (1, 0)):
+                    self.assertEqual(answer(curve.sheet, area, step, count),
+                                     wanted(ref.sheet, *columns, shape, area, step, count))
+        pair = fc.Curve(STEEP, 2).pair(form=550, plan=525)
+        self.assertEqual((pair.form, pair.plan, pair.difference), (10800, 10182, -618))
+
+    def test_refused(self):
+        for points, shape, number, place in [
+                ([], 1, 1, 0), (STEEP[:1], 1, 1, 0), (STEEP, 3, 2, 0),
+                (STEEP + [(600, 1, 1)], 1, 3, 2), ([(500, 200001, 0)] + STEEP[1:], 2, 4, 0),
+                (STEEP[:1] + [(600, 14000, 10001)], 2, 5, 1), (STEEP[::-1], 2, 3, 1),
+                ([(0, 0, 100), (100, 100, 200)], 2, 6, 0)]:
+            self.assertEqual(ref.check(*lists(points), shape), ('refused', number, place))
+            self.assertEqual(answer(fc.Curve, points, shape), ('refused', number, place))
+        for which in range(3):
+            wrong = lists(STEEP + [(700, 20000, 10000)])
+            wrong[which].pop()
+            self.assertEqual(answer(fc.Curve.from_lists, *wrong, 2), ('refused', 1, 0))
+
+    def test_points_that_are_none(self):
+        for wrong in ([(500, 10000)], STEEP + [(700, 1, 2, 3)], [()]):
+            with self.assertRaisesRegex(ValueError, 'must have an area, a value and a slope'):
+                fc.Curve(wrong, 2)
+        for wrong in (None, 5, [5, 6]):
+            self.assertRaises(TypeError, fc.Curve, wrong, 2)
+
+    def test_same_points(self):
+        """Lists that change afterwards, and iterators, give the same curve."""
+        points = [list(point) for point in STEEP]
+        curve = fc.Curve(points, 2)
+        points[1][1] = 0
+        self.assertEqual((curve.points, curve.read(550)), (tuple(STEEP), 10800))
+        self.assertEqual(fc.Curve(iter(STEEP), 2), curve)
+        self.assertEqual(fc.Curve(curve.points, curve.shape), curve)
+        self.assertEqual(fc.Curve.from_lists(*map(iter, lists(STEEP)), 2), curve)
+
+    def test_never_changed(self):
+        curve = fc.Curve(STEEP, 2)
+        for name in ('points', 'shape', 'areas', 'values', 'slopes', 'first_area', 'last_area',
+                     'other'):
+            with self.assertRaises(AttributeError):
+                setattr(curve, name, 1)
+        with self.assertRaises(TypeError):
+            curve.points[0] = (0, 0, 0)
+        with self.assertRaises(AttributeError):
+            curve.points[0].area = 0
+
+    def test_equality(self):
+        curve, same = fc.Curve(STEEP, 2), fc.Curve.from_bytes(curve_file(STEEP, 2))
+        other_points = fc.Curve([(500, 10000, 0), (600, 14001, 10000)], 2)
+        self.assertEqual(curve, same)
+        self.assertEqual(hash(curve), hash(same))
+        self.assertEqual({curve: 'a'}[same], 'a')
+        for other in (fc.Curve(STEEP, 1), other_points, STEEP, (tuple(STEEP), 2), None):
+            self.assertNotEqual(curve, other)
+        self.assertEqual(len({curve, same, fc.Curve(STEEP, 1), other_points}), 3)
+
+    def test_copies(self):
+        curve = fc.Curve(STEEP, 2)
+        for same in (copy.copy(curve), copy.deepcopy(curve), pickle.loads(pickle.dumps(curve)),
+                     eval(repr(curve), {'Curve': fc.Curve})):
+            self.assertEqual(same, curve)
+            self.assertEqual(same.read(550), 10800)
+
+    def test_subclass(self):
+        class Tariff(fc.Curve):
+            pass
+        made = Tariff.from_bytes(curve_file(STEEP, 2))
+        self.assertIs(type(made), Tariff)
+        self.assertTrue(repr(made).startswith('Tariff(['))
+        self.assertEqual(made, fc.Curve(STEEP, 2))
+
+    def test_threads(self):
+        points = curves.rising_curve(random.Random('threads'), 40)
+        curve, columns = fc.Curve(points, 1), lists(points)
+        areas = range(points[0][0], points[-1][0] + 1)
+        areas = [areas[index * (len(areas) - 1) // 200] for index in range(201)]
+        with multiprocessing.pool.ThreadPool(4) as pool:
+            factors = pool.map(curve.read, areas)
+        self.assertEqual(factors, [ref.read(*columns, 1, area)[1] for area in areas])
+
+
+class Refusals(unittest.TestCase):
+
+    def test_exception(self):
+        with self.assertRaises(ValueError) as caught:
+            fc.Curve([(0, 5, 0), (9, 5, 0), (10, 5, 1)], 1)
+        refusal = caught.exception
+        self.assertIsInstance(refusal, fc.Refused)
+        self.assertEqual((refusal.number, refusal.place), (6, 1))
+        self.assertEqual(refusal.words, fc.refusal_words(6))
+        self.assertEqual(str(refusal), 'refused 6 at 1: ' + fc.refusal_words(6))
+        same = pickle.loads(pickle.dumps(refusal))
+        self.assertEqual((str(same), same.number, same.place, same.words),
+                         (str(refusal), 6, 1, refusal.words))
+
+    def test_without_a_place(self):
+        with self.assertRaises(fc.Refused) as caught:
+            fc.desk_reading(curve_file(STEEP, 2), 499)
+        self.assertEqual(caught.exception.number, fc.Refusal.OUTSIDE)
+        self.assertIsNone(caught.exception.place)
+        self.assertEqual(str(caught.exception), 'refused 7: ' + fc.refusal_words(7))
+
+    def test_words(self):
+        """Each number has words of its own: those that stand in c/refusal_words.c."""
+        with open(os.path.join(ROOT, 'c', 'refusal_words.c'), encoding='ascii') as file:
+            text = re.sub(r'"\s*"', '', file.read())
+        words = [fc.refusal_words(number) for number in range(12)]
+        self.assertEqual(len(set(words)), 12)
+        for each in words:
+            self.assertIn('return "%s";' % each, text)
+        for number in (-1, 12, 2**31 - 1, -2**31):
+            self.assertEqual(fc.refusal_words(number), words[0])
+
+
+class Package(unittest.TestCase):
+
+    def defines(self, name):
+        with open(os.path.join(ROOT, 'include', name), encoding='ascii') as file:
+            return dict(re.findall(r'^#define (\w+) (\S+)', file.read(), re.MULTILINE))
+
+    def test_constants_are_the_header_s(self):
+        header = self.defines('factor_curves.h')
+        for name in ('RISING', 'CONVEX', 'POINTS_MAX', 'ENTRIES_MAX', 'FILE_MAX', 'COUNT_MAX'):
+            self.assertEqual(getattr(fc, name), int(header['CURVE_' + name]), name)
+        numbers = {name[14:]: int(number) for name, number in header.items()
+                   if name.startswith('CURVE_REFUSED_')}
+        self.assertEqual({each.name: each.value for each in fc.Refusal}, numbers)
+        self.assertEqual(len(numbers), 11)
+        desk = self.defines('desk.h')
+        self.assertEqual(fc.SCRATCH_ENOUGH,
+                         int(desk['DESK_POINT_BYTES']) * int(header['CURVE_COUNT_MAX']))
+
+    def test_version(self):
+        with open(os.path.join(ROOT, 'VERSION'), encoding='ascii') as file:
+            version = file.read().strip()
+        self.assertEqual(fc.__version__, version)
+        with open(os.path.join(PACKAGE, '__init__.py'), encoding='ascii') as file:
+            self.assertIn('\n__version__ = "%s"\n' % version, file.read())
+
+    def test_names(self):
+        for name in fc.__all__:
+            thing = getattr(fc, name)
+            if callable(thing):
+                self.assertTrue(thing.__doc__, name)
+                typing.get_type_hints(thing)    # the annotations are good in this Python
+                if isinstance(thing, type):
+                    self.assertEqual(thing.__module__, 'factor_curves')
+        for name, thing in vars(fc.Curve).items():
+            if not name.startswith('_'):
+                self.assertTrue(thing.__doc__, name)
+                typing.get_type_hints(getattr(thing, 'fget', None) or getattr(fc.Curve, name))
+        self.assertTrue(os.path.exists(os.path.join(PACKAGE, 'py.typed')))
+
+    def test_documented_examples(self):
+        folder = os.getcwd()
+        os.chdir(ROOT)
+        try:
+            for result in (doctest.testmod(fc), doctest.testfile(
+                    os.path.join(ROOT, 'python', 'README.md'), module_relative=False)):
+                self.assertEqual(result.failed, 0)
+                self.assertGreater(result.attempted, 4)
+        finally:
+            os.chdir(folder)
+
+
+FIND = '''
+import sys
+sys.path.insert(0, sys.argv[1])
+if len(sys.argv) > 2:
+    sys.prefix = sys.argv[2]
+import factor_curves
+from factor_curves import _calls, _library
+print(list(_library._places())[:-1])
+print(factor_curves.check([500, 600], [10000, 14000], [0, 10000], 2))
+print(_library.library()._name)
+'''
+
+
+class Finding(unittest.TestCase):
+    """Where the library is looked for."""
+
+    def setUp(self):
+        folder = tempfile.TemporaryDirectory()
+        self.addCleanup(folder.cleanup)
+        self.folder = os.path.realpath(folder.name)
+        self.python = os.path.join(self.folder, 'python')
+        shutil.copytree(PACKAGE, os.path.join(self.python, 'factor_curves'),
+                        ignore=shutil.ignore_patterns('*.so', '__pycache__'))
+
+    def run_find(self, *words, library=None):
+        environment = dict(os.environ, PYTHONDONTWRITEBYTECODE='1')
+        environment.pop('FACTOR_CURVES_LIBRARY', None)
+        if library is not None:
+            environment['FACTOR_CURVES_LIBRARY'] = library
+        return subprocess.run([sys.executable, '-c', FIND, self.python, *words], env=environment,
+                              cwd=self.folder, stdout=subprocess.PIPE, stderr=subprocess.PIPE,
+                              universal_newlines=True, timeout=60)
+
+    def put_library(self, *parts):
+        path = os.path.join(self.folder, *parts, 'libfactor_curves.so')
+        os.makedirs(os.path.dirname(path), exist_ok=True)
+        shutil.copyfile(LIBRARY, path)
+        return path
+
+    def assert_found(self, path, *words, library=None):
+        done = self.run_find(*words, library=library)
+        self.assertEqual(done.stdout.splitlines()[1:], ['1', path], done.stderr)
+
+    def test_order(self):
+        prefix = os.path.join(self.folder, 'prefix')
+        self.assert_found(self.put_library('prefix', 'lib'), prefix)
+        in_target = self.put_library('target', 'lib')
+        self.assert_found(os.path.join(prefix, 'lib', 'libfactor_curves.so'), prefix)
+        shutil.copyfile(os.path.join(ROOT, 'python', 'pyproject.toml'),
+                        os.path.join(self.python, 'pyproject.toml'))
+        self.assert_found(in_target, prefix)
+        in_package = self.put_library('python', 'factor_curves')
+        self.assert_found(in_package, prefix, library='')
+        places = self.run_find(prefix).stdout.splitlines()[0]
+        self.assertEqual(eval(places), [
+            in_package, in_target, os.path.join(prefix, 'lib', 'libfactor_curves.so'),
+            '/usr/local/lib/libfactor_curves.so', '/usr/lib/libfactor_curves.so'])
+
+    def test_variable(self):
+        self.put_library('python', 'factor_curves')
+        elsewhere = self.put_library('elsewhere')
+        self.assert_found(elsewhere, library=elsewhere)
+        self.assert_found(elsewhere, library='elsewhere/libfactor_curves.so')
+
+    def test_a_bad_one_is_passed_over(self):
+        prefix = os.path.join(self.folder, 'prefix')
+        good = self.put_library('prefix', 'lib')
+        bad = self.put_library('python', 'factor_curves')
+        with open(bad, 'wb') as file:
+            file.write(b'no library')
+        self.assert_found(good, prefix)
+
+    def test_none(self):
+        self.put_library('python', 'factor_curves')         # not tried
+        import _ctypes
+        for named, words in [('none.so', 'No such file'), (self.folder, ''),
+                             (os.path.join(ROOT, 'VERSION'), ''),
+                             (_ctypes.__file__, 'curve_check')]:
+            done = self.run_find(library=named)
+            self.assertEqual(done.returncode, 1)
+            error = done.stderr[done.stderr.index('factor_curves.LibraryNotFound: '):]
+            self.assertIn(os.path.join(self.folder, named), error)
+            self.assertIn(words, error)
+            self.assertIn('FACTOR_CURVES_LIBRARY', error)
+            self.assertIn('`make`', error)
+        self.assertTrue(issubclass(fc.LibraryNotFound, OSError))
+
+
+if __name__ == '__main__':
+    unittest.main()
