@@ -9,7 +9,7 @@ use Prim.Native.Nat.{ℕ, _+_, _-_, _≤_}
 use native.Mathlib.Omega.{arith}
 use borrow.Rule.Slice.PartMut.{midOf, postOf, putMid}
 use lib.ListN.{length, take, drop, length-drop, drop-of-length-le}
-use lib.Seq.{length-take-le, take-all, take-length, drop-drop, take-add, take-at, drop-at, drop-append-add}
+use lib.Seq.{length-take-le, take-all, take-length, drop-drop, take-add, take-at, drop-append-add}
 use Rattle.desk.specs.Inner.{copied}
 
 module _ (at : ℕ) (dst : List ℕ) where

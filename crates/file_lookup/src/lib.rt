@@ -22,8 +22,8 @@ fn outside(bytes: &[u8], n: usize, area: u32) -> bool
     area_of(bytes, n - 1) < area
 }
 
-// From a point that is not above the area, the last of every step-th point before `end` that is not. All of them are looked at, so
-// that no branch depends on the area.
+// From a point that is not above the area, the last of every step-th point before `end` that is not. All of them are looked at,
+// so that no branch depends on the area.
 fn last_not_above(bytes: &[u8], n: usize, from: usize, step: usize, end: usize, area: u32) -> usize
     requires { ⌜ CurvePoints n (length (now bytes)) × Strides n from step end × Begins (now bytes) n from area ⌝ }
     ensures { λ r. ⌜ LastOf (now (bytes .entry)) n r step end area ⌝ }

@@ -48,8 +48,8 @@ fn raised(t: u64, u: u64, h: u64, left: u64, d: u64, a: u64, b: u64) -> u64
     if b * h < 0x1_0000_0000 {
         return tangent + w * w / (divisor * h);
     }
-    // w w may pass 64 bits. From the leading bits the sum is at most 1 too low, which changes the last two digits alone unless they
-    // are 99.
+    // w w may pass 64 bits. From the leading bits the sum is at most 1 too low, which changes the last two digits alone unless
+    // they are 99.
     let x = w / 32;
     let least = tangent + x * x / (divisor * h / 1024 + 1);
     if least % 100 != 99 {

@@ -1,10 +1,9 @@
 -- `desk::copy` meets its contract. The invariant of both loops: the first `at` entries are copied.
 -- Assumes nothing.
-use mathlib.Core.Path.{_≡_, refl, sym, _∙_, ap}
+use mathlib.Core.Path.{_≡_, refl, _∙_, ap}
 use mathlib.Core.List.{List, _++_}
 use Prim.Native.Nat.{ℕ, _+_, _-_, _≤_}
 use native.Mathlib.Omega.{arith}
-use borrow.Author.Needs.{needs}
 use borrow.Rule.Slice.PartMut.{midOf, putMid}
 use lib.ListN.{length, take, drop, length-append, length-drop}
 use lib.Seq.{length-take-le}
@@ -13,7 +12,7 @@ use Rattle.desk.proofs.Blocks.{put-copied, drop-later, copied-more}
 use Rattle.desk.proofs.copy.Statement.{statement}
 use Rattle.desk.proofs.copy.Tie as tie
 
--- found is what dst was
+-- the first `at` entries of dst are those of src, the others as found
 record CopiedTo (src found : List ℕ) (n : ℕ) (dst : List ℕ) (at : ℕ) : Type 0 where
   pub size : n ≡ length src
   pub room : n ≤ length found
@@ -29,7 +28,7 @@ module _ {src found dst : List ℕ} {n at : ℕ} (k : CopiedTo src found n dst a
       let a = length-take-le at src here in
       rw (k .is, length-append (take at src) (drop at found), a, length-drop at found) (omega (arith, k .room, k .inner))
 
-  -- n more
+  -- m entries more
   next : (m : ℕ) {after : List ℕ} → at + m ≤ n → after ≡ copied at m src dst → CopiedTo src found n after (at + m)
   next m h e =
       record {
@@ -138,7 +137,8 @@ same-length c =
 pub copy-spec : {M : Type 1} → statement M
 copy-spec =
     tie.close
-    (tie.spec Inv-loop μ-loop Inv-loop2 μ-loop2 loop-holds (λ c. omega arith) copy-48-requires (λ c. omega arith) (λ c. omega arith)
-    loop-again loop2-holds (λ c. omega arith) copy-24-requires (λ c. omega arith) (λ c. omega arith) loop2-again (λ c. omega arith)
-    (λ c. omega arith) (λ c. omega arith) (λ c. omega (arith, length-is (both (c .before)))) (λ c. omega (arith, length-is (both (c .before)))) (λ c. omega arith)
-    (λ c κs. rest-fits (both (c .before .before))) same-length returns)
+    (tie.spec Inv-loop μ-loop Inv-loop2 μ-loop2 loop-holds (λ c. omega arith) copy-48-requires (λ c. omega arith)
+    (λ c. omega arith) loop-again loop2-holds (λ c. omega arith) copy-24-requires (λ c. omega arith) (λ c. omega arith)
+    loop2-again (λ c. omega arith) (λ c. omega arith) (λ c. omega arith) (λ c. omega (arith, length-is (both (c .before))))
+    (λ c. omega (arith, length-is (both (c .before)))) (λ c. omega arith) (λ c κs. rest-fits (both (c .before .before)))
+    same-length returns)

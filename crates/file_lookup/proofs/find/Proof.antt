@@ -1,5 +1,5 @@
--- `file_lookup::find` meets its contract: the last of every eighth point, and then of those up to the next such one or to the last
--- but one of all.
+-- `file_lookup::find` meets its contract: the last of every eighth point, then of those before the next such one or before the
+-- last of all.
 -- Assumes nothing.
 use mathlib.Core.Path.{_≡_}
 use mathlib.Core.Logic.{_⊎_, inl, inr, ⊎-elim}
@@ -13,7 +13,8 @@ use Rattle.file_lookup.proofs.find.Statement.{statement}
 use Rattle.file_lookup.proofs.find.Tie as tie
 
 -- where the second search ends
-strides : (c : tie.Joined1) → (let s = c .before .before .before in Strides (s .args .n) (c .before .last-not-above .result) 1 (c .if1 .end))
+strides : (c : tie.Joined1) →
+    (let s = c .before .before .before in Strides (s .args .n) (c .before .last-not-above .result) 1 (c .if1 .end))
 strides c =
     let l = c .before .last-not-above .ensures in
     ⊎-elim (λ w. record { some = omega arith; few = omega arith; before = omega arith; inner = omega arith })

@@ -1,5 +1,5 @@
--- `file_lookup::last_not_above` meets its contract. The loop's invariant: `last` is such a point, and a step after it is beyond the
--- area read, or is the next to be looked at.
+-- `file_lookup::last_not_above` meets its contract. The loop's invariant: `last` is such a point, and a step after it is beyond
+-- the area read, or is the next to be looked at.
 -- Assumes nothing.
 use mathlib.Core.Path.{_≡_, refl}
 use mathlib.Core.List.{List}

@@ -26,7 +26,9 @@ mul-least c =
     record { fits = product-size 32 32 (omega arith) (omega arith) }
 
 add-least-2 : tie.Need-add-least-2
-add-least-2 c = omega (arith, least-near (c .before .before .pre) (omega arith) (omega arith), raised-size (c .before .before .pre))
+add-least-2 c =
+    let k = c .before .before .pre in
+    omega (arith, least-near k (omega arith) (omega arith), raised-size k)
 
 returns-3 : tie.Need-returns-3
 returns-3 c = omega (arith, least-near (c .before .before .before .pre) (omega arith) (omega arith))
@@ -49,6 +51,7 @@ raised-spec =
     tie.close
     (tie.spec (search needs) (search needs) (search needs) (omega (arith, tangent-size)) (omega (arith, tangent-size))
     (omega (arith, divisor-size)) (omega (arith, excess-size)) (omega (arith, divisor-size)) (omega (arith, divisor-size))
-    (omega (arith, w-most-size)) mul-result (omega (arith, denominator-size)) div-result (λ c. omega (arith, raised-size (c .before .before .pre))) (λ c. refl)
+    (omega (arith, w-most-size)) mul-result (omega (arith, denominator-size)) div-result
+    (λ c. omega (arith, raised-size (c .before .before .pre))) (λ c. refl)
     mul-least (omega (arith, denominator-size)) (omega (arith, denominator-size)) (search needs)
     add-least-2 returns-3 mul-div-requires (omega (arith, h-positive)) add-result-2 returns-4)
