@@ -9,15 +9,19 @@ INSTALL ?= install
 version := $(shell cat VERSION)
 major := $(firstword $(subst ., ,$(version)))
 lib = target/lib/libfactor_curves
+exported = desk export_check export_read export_pair export_sheet export_open
 objects = target/lib/objects
 program = target/bin/ratesheet
 pages = ratesheet factor-curves
 to = $(DESTDIR)$(PREFIX)
 
-# $(call proved,FILE,COMMAND): rt proves only what has changed. What it prints is shown if it fails.
-define proved
-@[ -e $(1) ] || echo "make: proving what $(1) is made of; from nothing this takes a minute or two" >&2
-@mkdir -p target; { $(2); } >target/make.log 2>&1 || { cat target/make.log >&2; exit 1; }
+# All that a proof may depend on.
+proved := crates.txt $(shell find crates -name '*.rt' -o -name '*.antt')
+
+# $(call prove,COMMAND): what it prints is shown if it fails.
+define prove
+@echo "make: proving what $@ is made of; from nothing this takes a minute or two" >&2
+@mkdir -p target; { $(1); } >target/make.log 2>&1 || { cat target/make.log >&2; exit 1; }
 endef
 
 # $(call need,TOOL,WHERE IT COMES FROM)
@@ -28,26 +32,32 @@ need = @command -v $(1) >/dev/null || { echo "make: $(1) is not on the path: $(2
 
 all: lib program ## the library and the program; what `make` alone does
 
-lib: need-rt need-cc ## target/lib/libfactor_curves.a and .so, for C and Python
-	$(call proved,$(lib).a,rt staticlib desk && rt staticlib exports)
-	@rm -rf $(objects) && mkdir -p $(objects)
-	@cd $(objects) && $(AR) x ../../staticlib/libdesk.a && $(AR) x ../../staticlib/libexports.a
-	@$(CC) $(CFLAGS) -fPIC -Iinclude -c c/refusal_words.c -o $(objects)/refusal_words.o
-	@rm -f $(lib).a && $(AR) rcs $(lib).a $(objects)/*.o
-	@$(CC) $(CFLAGS) -shared -Wl,-soname,libfactor_curves.so.$(major) -Wl,-z,noexecstack -o $(lib).so $(objects)/*.o
-	@ln -sf libfactor_curves.so $(lib).so.$(major)
+lib: $(lib).a $(lib).so ## target/lib/libfactor_curves.a and .so, for C and Python
 	@echo $(lib).a $(lib).so
 
-program: need-rt ## target/bin/ratesheet, the sheet of a curve file (man/ratesheet.1)
-	$(call proved,$(program),rt check ratesheet)
+$(lib).a: $(proved) c/refusal_words.c include/factor_curves.h | need-rt need-cc
+	$(call prove,for name in $(exported); do rt staticlib $$name || exit 1; done)
+	@rm -rf $(objects) $@ && mkdir -p $(objects)
+	@cd $(objects) && for name in $(exported); do $(AR) x ../../staticlib/lib$$name.a; done
+	@$(CC) $(CFLAGS) -fPIC -Iinclude -c c/refusal_words.c -o $(objects)/refusal_words.o
+	@$(AR) rcs $@ $(objects)/*.o
+
+$(lib).so: $(lib).a
+	@$(CC) $(CFLAGS) -shared -Wl,-soname,libfactor_curves.so.$(major) -Wl,-z,noexecstack -o $@ $(objects)/*.o
+	@ln -sf libfactor_curves.so $@.$(major)
+
+program: $(program) ## target/bin/ratesheet, the sheet of a curve file (man/ratesheet.1)
 	@echo $(program)
+
+$(program): $(proved) | need-rt
+	$(call prove,rt check ratesheet)
+	@touch $@
 
 quote: need-cc lib ## target/quote, the sample quoting desk: target/quote samples/document-01.trf 550
 	@$(CC) $(CFLAGS) -Iinclude samples/quote.c $(lib).a -o target/quote
 	@echo target/quote
 
-run: need-rt ## print the sheet of samples/document-01.trf
-	$(call proved,$(program),rt check ratesheet)
+run: $(program) ## print the sheet of samples/document-01.trf
 	@$(program) <samples/document-01.trf
 
 test: need-rt need-cc need-python3 ## the whole gate: outside tests, proofs, must-fail edits, programs (.ci/run)

@@ -1,4 +1,4 @@
--- `exports::curve_pair` meets its contract: row 11, then what Pair promises.
+-- `export_pair::curve_pair` meets its contract: row 11, then what Pair promises.
 -- Assumes nothing.
 use mathlib.Core.Path.{_≡_, refl, sym, _∙_, ap, subst}
 use mathlib.Core.List.{List, [], _∷_}
@@ -14,10 +14,10 @@ use Rattle.model.specs.Answer.{Answer, gives, refused, row, _then_}
 use Rattle.model.proofs.Numbered.{Numbered}
 use Rattle.pair.specs.Pair.{Factors}
 use Rattle.pair.specs.Calls.{factors-answer}
 use Rattle.exports.specs.Exports.{pair-entries, c-number, c-pair-answer, c-pair-list}
 use Rattle.exports.proofs.Numbers.{c-refused, c-given, in-pair}
-use Rattle.exports.proofs.curve_pair.Statement.{statement}
-use Rattle.exports.proofs.curve_pair.Tie as tie
+use Rattle.export_pair.proofs.curve_pair.Statement.{statement}
+use Rattle.export_pair.proofs.curve_pair.Tie as tie
 
 -- what curve_pair answers, at the entry
 abbrev answer : tie.Start → Answer Factors

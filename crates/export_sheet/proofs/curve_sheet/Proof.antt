@@ -1,4 +1,4 @@
--- `exports::curve_sheet` meets its contract, by what Sheet promises.
+-- `export_sheet::curve_sheet` meets its contract, by what Sheet promises.
 -- Assumes nothing.
 use mathlib.Core.Path.{_≡_, sym, _∙_, ap, subst}
 use Prim.Native.Nat.{_^_, _<_}
@@ -13,9 +13,9 @@ use Rattle.model.specs.Check.{on-lists}
 use Rattle.model.specs.Sheet.{sheet-answer}
 use Rattle.model.proofs.Numbered.{Numbered, in-sheet, in-lists}
 use Rattle.curve.specs.Calls.{filled-answer}
 use Rattle.exports.proofs.Numbers.{c-refused, c-given}
-use Rattle.exports.proofs.curve_sheet.Statement.{statement}
-use Rattle.exports.proofs.curve_sheet.Tie as tie
+use Rattle.export_sheet.proofs.curve_sheet.Statement.{statement}
+use Rattle.export_sheet.proofs.curve_sheet.Tie as tie
 
 is-refused : (c : tie.After-number) → (let k = c .before .before .before .before .before .before .before .args in
     on-lists (k .areas .now) (k .values .now) (k .slopes .now)

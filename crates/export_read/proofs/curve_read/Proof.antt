@@ -1,4 +1,4 @@
--- `exports::curve_read` meets its contract, by what Read promises.
+-- `export_read::curve_read` meets its contract, by what Read promises.
 -- Assumes nothing.
 use mathlib.Core.Path.{_≡_, sym, _∙_, ap, subst}
 use native.Mathlib.Omega.{arith}
@@ -12,9 +12,9 @@ use Rattle.model.specs.Check.{on-lists}
 use Rattle.model.specs.Read.{read-answer}
 use Rattle.model.proofs.Numbered.{Numbered, in-reading, in-lists}
 use Rattle.curve.specs.Calls.{reading-answer}
 use Rattle.exports.proofs.Numbers.{c-refused, c-given}
-use Rattle.exports.proofs.curve_read.Statement.{statement}
-use Rattle.exports.proofs.curve_read.Tie as tie
+use Rattle.export_read.proofs.curve_read.Statement.{statement}
+use Rattle.export_read.proofs.curve_read.Tie as tie
 
 is-refused : (c : tie.After-number) → (let k = c .before .before .before .before .before .args in
     on-lists (k .areas .now) (k .values .now) (k .slopes .now) (λ ps. read-answer ps (k .shape) (k .area))

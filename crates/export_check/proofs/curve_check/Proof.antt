@@ -1,4 +1,4 @@
--- `exports::curve_check` meets its contract, by what Check promises.
+-- `export_check::curve_check` meets its contract, by what Check promises.
 -- Assumes nothing.
 use mathlib.Core.Path.{_≡_, sym, _∙_, ap, subst}
 use Prim.Native.Nat.{_^_, _<_}
@@ -11,9 +11,9 @@ use Rattle.model.specs.Answer.{refused}
 use Rattle.model.specs.Check.{check-answer, on-lists}
 use Rattle.model.proofs.Numbered.{Numbered, in-check, in-lists}
 use Rattle.curve.specs.Calls.{checked-answer}
 use Rattle.exports.proofs.Numbers.{c-refused, c-given}
-use Rattle.exports.proofs.curve_check.Statement.{statement}
-use Rattle.exports.proofs.curve_check.Tie as tie
+use Rattle.export_check.proofs.curve_check.Statement.{statement}
+use Rattle.export_check.proofs.curve_check.Tie as tie
 
 is-refused : (c : tie.After-number) → (let k = c .before .before .before .before .before .args in
     on-lists (k .areas .now) (k .values .now) (k .slopes .now) (λ ps. check-answer ps (k .shape))

@@ -1,4 +1,4 @@
--- `exports::curve_open` meets its contract, by what Open promises.
+-- `export_open::curve_open` meets its contract, by what Open promises.
 -- Assumes nothing.
 use mathlib.Core.Path.{_≡_, sym, _∙_, ap, subst}
 use Prim.Native.Nat.{ℕ, _+_, _*_, _^_, _<_}
@@ -11,10 +11,10 @@ use Rattle.model.specs.Answer.{refused}
 use Rattle.model.proofs.Numbered.{Numbered}
 use Rattle.file.specs.Open.{open-answer}
 use Rattle.file.specs.Calls.{opened-answer}
 use Rattle.exports.specs.Exports.{c-shape-and-count}
 use Rattle.exports.proofs.Numbers.{c-refused, c-given, in-open}
-use Rattle.exports.proofs.curve_open.Statement.{statement}
-use Rattle.exports.proofs.curve_open.Tie as tie
+use Rattle.export_open.proofs.curve_open.Statement.{statement}
+use Rattle.export_open.proofs.curve_open.Tie as tie
 
 -- the place after the call of Open
 abbrev opened : tie.After-slopes → tie.After-open
