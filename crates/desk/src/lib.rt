@@ -5,7 +5,7 @@ ghost use lib.IntN.{pos, negℤ, _-ℤ_};
 ghost use mathlib.Core.List.{_++_};
 ghost use lib.ListN.{length, take, drop};
 ghost use Rattle.desk.specs.Desk.{desk-answer, desk-number, desk-scratch};
-ghost use Rattle.desk.specs.Inner.{Fits, copied};
+ghost use Rattle.desk.specs.Inner.{Fits, copied, CopiedTo};
 use layout::HEAD_SIZE;
 use layout::RECORD_SIZE;
 
@@ -38,11 +38,10 @@ fn copy_24(src: &[u8], at: usize, dst: &mut [u8])
     bytes::copy(&block, &mut dst[at..]);
 }
 
-// Copies all of src to the start of dst: by blocks of four records, then of two, then the rest.
-fn copy(src: &[u8], dst: &mut [u8])
+// Copies from the start on by blocks of 48 bytes, four records, and gives how many bytes it has copied.
+fn copy_blocks(src: &[u8], dst: &mut [u8]) -> usize
     requires { ⌜ length (now src) ≤ length (now dst) ⌝ }
-    ensures { λ _. ⌜ now (dst .exit)
-        ≡ take (length (now (src .entry))) (now (src .entry)) ++ drop (length (now (src .entry))) (now (dst .entry)) ⌝ }
+    ensures { λ r. ⌜ CopiedTo (now (src .entry)) (now (dst .entry)) (now (dst .exit)) r ⌝ }
 {
     let n = src.len();
     let mut at: usize = 0;
@@ -50,6 +49,17 @@ fn copy(src: &[u8], dst: &mut [u8])
         copy_48(src, at, dst);
         at += 48;
     }
+    at
+}
+
+// Copies all of src to the start of dst: what is left after blocks of four records by blocks of two, then the rest.
+fn copy(src: &[u8], dst: &mut [u8])
+    requires { ⌜ length (now src) ≤ length (now dst) ⌝ }
+    ensures { λ _. ⌜ now (dst .exit)
+        ≡ take (length (now (src .entry))) (now (src .entry)) ++ drop (length (now (src .entry))) (now (dst .entry)) ⌝ }
+{
+    let n = src.len();
+    let mut at = copy_blocks(src, dst);
     while n - at >= 24 {
         copy_24(src, at, dst);
         at += 24;
