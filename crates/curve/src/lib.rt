@@ -42,7 +42,7 @@ pub fn read(areas: &[u32], values: &[u32], slopes: &[i32], shape: u32, area: u32
     if lookup::outside(areas, area) {
         return Reading::Refused(7, 0);
     }
-    let i = lookup::find(areas, 0, area);
+    let i = lookup::search(areas, area);
     Reading::Factor(lookup::factor_at(areas, values, slopes, shape, i, area))
 }
 

@@ -3,10 +3,9 @@ ghost use mathlib.Core.Path.{_≡_};
 ghost use lib.ListN.{length};
 ghost use Rattle.model.specs.Answer.{gives};
 ghost use Rattle.model.specs.Read.{outside as lies-outside, reading};
-ghost use Rattle.model.specs.Inner.{fault-answer, read-rows, areas-of, Taken, Readable};
+ghost use Rattle.model.specs.Inner.{fault-answer, read-rows, areas-of, Reached, Taken, Strides, LastOf, Readable};
 ghost use Rattle.layout.specs.Inner.{first-points, Holds};
 ghost use Rattle.records.specs.Inner.{CurvePoints};
-ghost use Rattle.file_lookup.specs.Inner.{Begins, Strides, LastOf};
 use layout::area_of;
 use layout::record_at;
 use rows::Fault;
@@ -25,8 +24,9 @@ fn outside(bytes: &[u8], n: usize, area: u32) -> bool
 // From a point that is not above the area, the last of every step-th point before `end` that is not. All of them are looked at,
 // so that no branch depends on the area.
 fn last_not_above(bytes: &[u8], n: usize, from: usize, step: usize, end: usize, area: u32) -> usize
-    requires { ⌜ CurvePoints n (length (now bytes)) × Strides n from step end × Begins (now bytes) n from area ⌝ }
-    ensures { λ r. ⌜ LastOf (now (bytes .entry)) n r step end area ⌝ }
+    requires { ⌜ CurvePoints n (length (now bytes)) × Strides n from step end
+        × Reached (areas-of (first-points (now bytes) n)) from area ⌝ }
+    ensures { λ r. ⌜ LastOf (areas-of (first-points (now (bytes .entry)) n)) r step end area ⌝ }
 {
     let mut last = from;
     let mut i = from + step;
@@ -41,7 +41,7 @@ fn last_not_above(bytes: &[u8], n: usize, from: usize, step: usize, end: usize, 
 
 // The index of the left point of the segment that the area takes: among every eighth point, then among those from there on.
 fn find(bytes: &[u8], n: usize, area: u32) -> usize
-    requires { ⌜ CurvePoints n (length (now bytes)) × Begins (now bytes) n 0 area ⌝ }
+    requires { ⌜ CurvePoints n (length (now bytes)) × Reached (areas-of (first-points (now bytes) n)) 0 area ⌝ }
     ensures { λ r. ⌜ Taken (areas-of (first-points (now (bytes .entry)) n)) r area ⌝ }
 {
     let from = last_not_above(bytes, n, 0, 8, n - 1, area);

@@ -1,11 +1,11 @@
 // The segment that an area takes, of points in three lists.
 ghost use mathlib.Core.Path.{_≡_};
 ghost use mathlib.Core.List.{List};
-ghost use Prim.Native.Nat.{_<_};
+ghost use Prim.Native.Nat.{_≤_, _<_};
 ghost use lib.ListN.{length};
-ghost use Rattle.model.specs.Points.{Point, points};
+ghost use Rattle.model.specs.Points.{points-most, Point, points};
 ghost use Rattle.model.specs.Read.{outside as lies-outside, reading};
-ghost use Rattle.model.specs.Inner.{Alike, areas-of, Reached, Taken, Readable};
+ghost use Rattle.model.specs.Inner.{Alike, areas-of, Reached, Taken, Strides, LastOf, Readable};
 ghost use Rattle.lookup.specs.Inner.{TakesResult};
 
 // Row 7, of whatever points have these areas.
@@ -40,6 +40,36 @@ pub fn find(areas: &[u32], from: usize, area: u32) -> usize
         i += 1;
     }
     i
+}
+
+// From an area that is not above the area read, the last of every step-th before `end` that is not. All of them are looked at, so
+// that no branch depends on the area read.
+fn last_not_above(areas: &[u32], from: usize, step: usize, end: usize, area: u32) -> usize
+    requires { ⌜ Strides (length (now areas)) from step end × Reached (now areas) from area ⌝ }
+    ensures { λ r. ⌜ LastOf (now (areas .entry)) r step end area ⌝ }
+{
+    let mut last = from;
+    let mut i = from + step;
+    while i < end {
+        if areas[i] <= area {
+            last = i;
+        }
+        i += step;
+    }
+    last
+}
+
+// The same index as `find` from 0: among every eighth point, then among those from there on.
+pub fn search(areas: &[u32], area: u32) -> usize
+    requires { ⌜ (length (now areas) ≤ points-most) × Reached (now areas) 0 area ⌝ }
+    ensures { λ r. ⌜ Taken (now (areas .entry)) r area ⌝ }
+{
+    let from = last_not_above(areas, 0, 8, areas.len() - 1, area);
+    let mut end = areas.len() - 1;
+    if from + 8 < end {
+        end = from + 8;
+    }
+    last_not_above(areas, from, 1, end, area)
 }
 
 // The factor at an area that takes the segment at i.

@@ -13,6 +13,7 @@ pub mod Lists
 pub mod Indexed
 pub mod Accepted
 pub mod Outside
+pub mod Search
 pub mod Laws
 pub mod Answers
 pub mod Filling

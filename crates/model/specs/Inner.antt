@@ -6,6 +6,7 @@
 --   Limits             what rows 3 to 5 leave of a point; Neighbours, of two; Good, and row 6 too
 --   Inside             an area is read in a segment
 --   Reached, Taken     the segment that an area takes, by its index; Readable, on an accepted curve
+--   Strides, LastOf    a search for that index in steps, and what it finds
 --   Filling            a list that is filled from the front
 -- Assumes nothing.
 use mathlib.Core.Path.{_≡_}
@@ -18,7 +19,7 @@ use lib.IntN.{pos, negℤ}
 use lib.ListN.{length, getD, drop}
 use lib.Signed.{_≤ℤ_}
 use Rattle.model.specs.Answer.{Answer, gives, row, _then_}
-use Rattle.model.specs.Points.{area-most, gap-most, value-most, slope-most, Point, Segment, Shape}
+use Rattle.model.specs.Points.{points-most, area-most, gap-most, value-most, slope-most, Point, Segment, Shape}
 use Rattle.model.specs.Shape.{has-shape}
 use Rattle.model.specs.Check.{curve-rows}
 use Rattle.model.specs.Read.{outside}
@@ -91,6 +92,20 @@ pub record Reached (areas : List ℕ) (i x : ℕ) : Type 0 where
 pub record Taken (areas : List ℕ) (i x : ℕ) : Type 0 where
   pub reached : Reached areas i x
   pub high : (x < getD areas (suc i) 0) ⊎ (suc (suc i) ≡ length areas)
+
+-- from an index before `end` in steps of 1 to 8, all before the last of the n areas of a curve
+pub record Strides (n from step end : ℕ) : Type 0 where
+  pub some : 0 < step
+  pub few : step ≤ 8
+  pub before : from < end
+  pub inner : end < n
+  pub most : n ≤ points-most
+
+-- the area at an index before `end` is not above the area read, and a step further is one that is, or `end`
+pub record LastOf (areas : List ℕ) (i step end x : ℕ) : Type 0 where
+  pub reached : Reached areas i x
+  pub before : i < end
+  pub high : (x < getD areas (i + step) 0) ⊎ (end ≤ i + step)
 
 -- an area of an accepted curve, and the index of the segment that it takes
 pub record Readable (ps : List Point) (code i x : ℕ) : Type 0 where

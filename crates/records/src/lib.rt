@@ -3,27 +3,13 @@ ghost use mathlib.Core.Path.{_≡_};
 ghost use mathlib.Core.Bool.{true, false};
 ghost use mathlib.Core.List.{map, _++_};
 ghost use lib.ListN.{length, drop};
-ghost use Rattle.model.specs.Points.{shape-of};
 ghost use Rattle.model.specs.Check.{bad-code, curve-rows};
-ghost use Rattle.model.specs.Inner.{Accepted, fault-answer, Limits};
-ghost use Rattle.point.specs.Inner.{point-of};
+ghost use Rattle.model.specs.Inner.{Accepted, fault-answer};
 ghost use Rattle.layout.specs.Inner.{first-points, Holds};
-ghost use Rattle.records.specs.Inner.{Follows, CurvePoints, Room};
+ghost use Rattle.records.specs.Inner.{CurvePoints, Room};
 use layout::record_at;
-use point::Point;
 use rows::Fault;
 use rows::POINTS_MOST;
-
-// Rows 3 to 6 of the second of two points and of the segment between them.
-fn follows(shape: u32, p: Point, q: Point) -> bool
-    requires { ⌜ Limits (point-of p) ⌝ }
-    ensures { λ r. ⌜ (r ≡ true → Follows (shape-of shape) (point-of p) (point-of q)) ⌝ }
-{
-    if point::point_fault(false, p.area, q) != 0 {
-        return false;
-    }
-    shape::has_shape(shape, p, q)
-}
 
 // Rows 3 to 6 in one pass. Where it finds a fault it does not say which.
 fn all_pass(bytes: &[u8], n: usize, shape: u32) -> bool
@@ -37,7 +23,7 @@ fn all_pass(bytes: &[u8], n: usize, shape: u32) -> bool
     let mut left: usize = 0;
     while left < last {
         let right = left + 1;
-        if !follows(shape, record_at(bytes, left), record_at(bytes, right)) {
+        if !rows::follows(shape, record_at(bytes, left), record_at(bytes, right)) {
             return false;
         }
         left = right;

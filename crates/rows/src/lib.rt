@@ -1,11 +1,14 @@
 // Rows 1 to 6 of the refusal table, of points in three lists.
 ghost use mathlib.Core.Path.{_≡_};
+ghost use mathlib.Core.Bool.{true, false};
 ghost use mathlib.Core.Option.{none};
 ghost use lib.ListN.{length};
 ghost use Rattle.model.specs.Points.{points, segments, shape-of};
 ghost use Rattle.model.specs.Check.{lengths-differ, bad-count, bad-code, point-rows, segment-rows, curve-rows, on-lists};
-ghost use Rattle.model.specs.Inner.{fault-answer};
-ghost use Rattle.rows.specs.Inner.{Lengths, Limited};
+ghost use Rattle.model.specs.Inner.{Accepted, fault-answer, Limits};
+ghost use Rattle.point.specs.Inner.{point-of};
+ghost use Rattle.rows.specs.Inner.{Lengths, Limited, Follows};
+use point::Point;
 
 // A curve has 2 to 64 points.
 pub const POINTS_LEAST: usize = 2;
@@ -46,6 +49,40 @@ pub fn bad_code(shape: u32) -> bool
         return false;
     }
     shape != 2
+}
+
+// Rows 3 to 6 of the second of two points and of the segment between them.
+pub fn follows(shape: u32, p: Point, q: Point) -> bool
+    requires { ⌜ Limits (point-of p) ⌝ }
+    ensures { λ r. ⌜ (r ≡ true → Follows (shape-of shape) (point-of p) (point-of q)) ⌝ }
+{
+    if point::point_fault(false, p.area, q) != 0 {
+        return false;
+    }
+    shape::has_shape(shape, p, q)
+}
+
+// Rows 3 to 6 in one pass. Where it finds a fault it does not say which.
+fn all_pass(areas: &[u32], values: &[u32], slopes: &[i32], shape: u32) -> bool
+    requires { ⌜ Lengths (length (now areas)) (length (now values)) (length (now slopes)) × (bad-code shape ≡ false) ⌝ }
+    ensures { λ r. ⌜ (r ≡ true → Accepted (points (now (areas .entry)) (now (values .entry)) (now (slopes .entry))) shape) ⌝ }
+{
+    let mut p = point::point_at(areas, values, slopes, 0);
+    if point::point_fault(true, 0, p) != 0 {
+        return false;
+    }
+    let last = areas.len() - 1;
+    let mut left: usize = 0;
+    while left < last {
+        let right = left + 1;
+        let q = point::point_at(areas, values, slopes, right);
+        if !follows(shape, p, q) {
+            return false;
+        }
+        p = q;
+        left = right;
+    }
+    true
 }
 
 // Rows 3, 4 and 5: the first bad point.
@@ -118,6 +155,12 @@ pub fn curve_fault(areas: &[u32], values: &[u32], slopes: &[i32], shape: u32) ->
     if bad_code(shape) {
         return Fault {
             number: 2,
+            place: 0,
+        };
+    }
+    if all_pass(areas, values, slopes, shape) {
+        return Fault {
+            number: 0,
             place: 0,
         };
     }

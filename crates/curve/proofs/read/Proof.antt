@@ -53,19 +53,19 @@ returns-2 c =
 within : (c : tie.Else2) → outside (ps (c .before .before)) (start (c .before .before) .args .area) ≡ false
 within c = sym (c .before .outside .ensures _ (lists-accepted (c .before .before) .areas-are)) ∙ c .if2 .left
 
-find-requires : tie.Need-find-requires
-find-requires c κs =
+search-requires : tie.Need-search-requires
+search-requires c κs =
     let b = c .before .before in
     let k = lists-accepted b in
-    record { inner = omega arith; low = not-before (ps b) (k .areas-are) (omega arith) _ (within c) }
+    (omega arith, record { inner = omega arith; low = not-before (ps b) (k .areas-are) (omega arith) _ (within c) })
 
 -- the area takes the segment found
-readable : (c : tie.After-find) →
+readable : (c : tie.After-search) →
     (let b = c .before .before .before in
-    Readable (ps b) (start b .args .shape) (c .find .result) (start b .args .area))
+    Readable (ps b) (start b .args .shape) (c .search .result) (start b .args .area))
 readable c =
     let k = lists-accepted (c .before .before .before) in
-    record { accepted = k .accepted; within = within (c .before); taken = rw (k .areas-are) (c .find .ensures) }
+    record { accepted = k .accepted; within = within (c .before); taken = rw (k .areas-are) (c .search .ensures) }
 
 factor-at-requires : tie.Need-factor-at-requires
 factor-at-requires c κs = (lists-accepted (c .before .before .before) .alike, readable c)
@@ -86,5 +86,5 @@ returns-3 c =
 pub read-spec : {M : Type 1} → statement M
 read-spec =
     tie.close
-    (tie.spec (search needs) returns (λ c κs. omega (arith, lists-accepted c)) returns-2 find-requires factor-at-requires
+    (tie.spec (search needs) returns (λ c κs. omega (arith, lists-accepted c)) returns-2 search-requires factor-at-requires
     returns-3)

@@ -9,7 +9,7 @@ use Rattle.model.specs.Read.{reading}
 use Rattle.model.proofs.Answers.{Given, given-of-rows}
 use Rattle.layout.specs.Inner.{first-points}
 use Rattle.records.specs.Inner.{CurvePoints}
-use Rattle.file_lookup.proofs.Placed.{curve-points, begins-first}
+use Rattle.file_lookup.proofs.Placed.{curve-points, reached-first}
 use Rattle.file_lookup.proofs.factor.Statement.{statement}
 use Rattle.file_lookup.proofs.factor.Tie as tie
 
@@ -26,7 +26,7 @@ module _ (c : tie.Start) where
 find-requires : tie.Need-find-requires
 find-requires c κs =
     let k = counted (c .before) in
-    (k, begins-first _ _ _ (k .least) (given (c .before) .within))
+    (k, reached-first _ _ _ (k .least) (given (c .before) .within))
 
 factor-at-requires : tie.Need-factor-at-requires
 factor-at-requires c κs =

@@ -1,6 +1,7 @@
--- `rows::curve_fault` meets its contract: the rows in their order, each by the function that tries it.
+-- `rows::curve_fault` meets its contract: rows 3 to 6 in one pass; where that finds a fault, the rows in their order, each by the
+-- function that tries it.
 -- Assumes nothing.
-use mathlib.Core.Path.{_≡_, sym, _∙_}
+use mathlib.Core.Path.{_≡_, refl, sym, _∙_}
 use mathlib.Core.Bool.{false}
 use mathlib.Core.List.{List}
 use mathlib.Core.Option.{none}
@@ -77,34 +78,43 @@ module _ (c : tie.Else3) where
   after-code =
       rw (after-lengths alike-at, count-passed (c .before .before), sym (c .before .bad-code .ensures) ∙ c .if3 .left)
 
-points-fault-requires : tie.Need-points-fault-requires
-points-fault-requires c κs = lengths c
-
--- the points' fault is known
-after-points : (c : tie.After-points-fault) →
-    (let f = alike-at (c .before) in
-    all-rows f
-    ≡ (fault-answer (c .points-fault .result .number) (c .points-fault .result .place)
-    then segment-rows 0 (shape-of (start f .args .shape)) (segments (ps f))))
-after-points c = rw (after-code (c .before), sym (c .points-fault .ensures))
+all-pass-requires : tie.Need-all-pass-requires
+all-pass-requires c κs = (lengths c, sym (c .before .bad-code .ensures) ∙ c .if3 .left)
 
 returns-4 : tie.Need-returns-4
 returns-4 c =
+    let b = c .before in
+    no-fault 0 refl ∙ sym (after-lengths (alike-at (b .before)) ∙ b .all-pass .ensures (c .if4 .taken) .none-applies)
+
+-- a point or a segment is refused
+abbrev some-row : tie.Else4 → tie.Else3
+some-row c = c .before .before
+
+-- the points' fault is known
+after-points : (c : tie.After-points-fault) →
+    (let f = alike-at (some-row (c .before)) in
+    all-rows f
+    ≡ (fault-answer (c .points-fault .result .number) (c .points-fault .result .place)
+    then segment-rows 0 (shape-of (start f .args .shape)) (segments (ps f))))
+after-points c = rw (after-code (some-row (c .before)), sym (c .points-fault .ensures))
+
+returns-5 : tie.Need-returns-5
+returns-5 c =
     let p = c .before .before in
-    rw (after-points p, fault-then (p .points-fault .result .place) _ (c .if4 .taken))
+    rw (after-points p, fault-then (p .points-fault .result .place) _ (c .if5 .taken))
 
 segments-fault-requires : tie.Need-segments-fault-requires
 segments-fault-requires c κs =
     let p = c .before .before in
-    record { lengths = lengths (p .before); points-pass = sym (p .points-fault .ensures) ∙ no-fault _ (c .if4 .left) }
+    record { lengths = lengths (some-row (p .before)); points-pass = sym (p .points-fault .ensures) ∙ no-fault _ (c .if5 .left) }
 
-returns-5 : tie.Need-returns-5
-returns-5 c =
+returns-6 : tie.Need-returns-6
+returns-6 c =
     let p = c .before .before .before in
-    rw (after-points p, passes (p .points-fault .result .place) _ (c .before .if4 .left)) (c .segments-fault .ensures)
+    rw (after-points p, passes (p .points-fault .result .place) _ (c .before .if5 .left)) (c .segments-fault .ensures)
 
 pub curve-fault-spec : {M : Type 1} → statement M
 curve-fault-spec =
     tie.close
-    (tie.spec (search needs) returns (search needs) returns-2 (search needs) returns-3 points-fault-requires returns-4
-    segments-fault-requires returns-5)
+    (tie.spec (search needs) returns (search needs) returns-2 (search needs) returns-3 all-pass-requires returns-4
+    (λ c κs. lengths (some-row c)) returns-5 segments-fault-requires returns-6)

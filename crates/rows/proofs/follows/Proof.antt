@@ -1,4 +1,4 @@
--- `records::follows` meets its contract.
+-- `rows::follows` meets its contract.
 -- Assumes nothing.
 use mathlib.Core.Path.{_≡_, sym, _∙_}
 use mathlib.Core.Bool.{true≢false}
@@ -9,9 +9,9 @@ use Rattle.model.specs.Answer.{gives}
 use Rattle.model.specs.Check.{point-rows}
 use Rattle.model.proofs.Rows.{passed, neighbours}
 use Rattle.point.specs.Inner.{earlier, point-of}
 use Rattle.rows.proofs.Faults.{no-fault}
-use Rattle.records.proofs.follows.Statement.{statement}
-use Rattle.records.proofs.follows.Tie as tie
+use Rattle.rows.proofs.follows.Statement.{statement}
+use Rattle.rows.proofs.follows.Tie as tie
 
 point-passes : (c : tie.Else1) (i : ℕ) →
     (let k = c .before .before .args in point-rows i (some (k .p .area)) (point-of (k .q) ∷ []) ≡ gives tt)
