@@ -1,4 +1,4 @@
--- `lookup::search` meets its contract: the last of every eighth area, then of those up to the next such one or to the last of all.
+-- `lookup::search` meets its contract: the last of every eighth area, then of those up to the next such one or to the last.
 -- Assumes nothing.
 use mathlib.Core.Path.{refl}
 use mathlib.Core.Logic.{⊎-elim}
