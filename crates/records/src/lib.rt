@@ -61,7 +61,7 @@ fn listed_fault(bytes: &[u8], n: usize, shape: u32) -> Fault
     let mut values = [0u32; POINTS_MOST];
     let mut slopes = [0i32; POINTS_MOST];
     decode(bytes, n, &mut areas, &mut values, &mut slopes);
-    rows::curve_fault(&areas[..n], &values[..n], &slopes[..n], shape)
+    rows::first_fault(&areas[..n], &values[..n], &slopes[..n], shape)
 }
 
 // Rows 1 to 6 of the file's first n points.

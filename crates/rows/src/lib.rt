@@ -3,6 +3,7 @@ ghost use mathlib.Core.Path.{_≡_};
 ghost use mathlib.Core.Bool.{true, false};
 ghost use mathlib.Core.Option.{none};
 ghost use lib.ListN.{length};
+ghost use Rattle.model.specs.Answer.{gives};
 ghost use Rattle.model.specs.Points.{points, segments, shape-of};
 ghost use Rattle.model.specs.Check.{lengths-differ, bad-count, bad-code, point-rows, segment-rows, curve-rows, on-lists};
 ghost use Rattle.model.specs.Inner.{Accepted, fault-answer, Limits};
@@ -135,8 +136,8 @@ fn segments_fault(areas: &[u32], values: &[u32], slopes: &[i32], shape: u32) -> 
     }
 }
 
-// Rows 1 to 6.
-pub fn curve_fault(areas: &[u32], values: &[u32], slopes: &[i32], shape: u32) -> Fault
+// Rows 1 to 6, one after the other.
+pub fn first_fault(areas: &[u32], values: &[u32], slopes: &[i32], shape: u32) -> Fault
     ensures { λ r. ⌜ fault-answer (r .number) (r .place)
         ≡ on-lists (now (areas .entry)) (now (values .entry)) (now (slopes .entry)) (λ ps. curve-rows ps shape) ⌝ }
 {
@@ -158,15 +159,40 @@ pub fn curve_fault(areas: &[u32], values: &[u32], slopes: &[i32], shape: u32) ->
             place: 0,
         };
     }
-    if all_pass(areas, values, slopes, shape) {
-        return Fault {
-            number: 0,
-            place: 0,
-        };
-    }
     let fault = points_fault(areas, values, slopes);
     if fault.number != 0 {
         return fault;
     }
     segments_fault(areas, values, slopes, shape)
+}
+
+// Rows 1 to 6, 3 to 6 in one pass. Where it says false, it does not say which row refuses.
+fn accepted(areas: &[u32], values: &[u32], slopes: &[i32], shape: u32) -> bool
+    ensures { λ r. ⌜ (r ≡ true →
+        on-lists (now (areas .entry)) (now (values .entry)) (now (slopes .entry)) (λ ps. curve-rows ps shape) ≡ gives tt) ⌝ }
+{
+    if lengths_differ(areas.len(), values.len(), slopes.len()) {
+        return false;
+    }
+    if bad_count(areas.len()) {
+        return false;
+    }
+    if bad_code(shape) {
+        return false;
+    }
+    all_pass(areas, values, slopes, shape)
+}
+
+// Rows 1 to 6: an accepted curve is passed over once.
+pub fn curve_fault(areas: &[u32], values: &[u32], slopes: &[i32], shape: u32) -> Fault
+    ensures { λ r. ⌜ fault-answer (r .number) (r .place)
+        ≡ on-lists (now (areas .entry)) (now (values .entry)) (now (slopes .entry)) (λ ps. curve-rows ps shape) ⌝ }
+{
+    if accepted(areas, values, slopes, shape) {
+        return Fault {
+            number: 0,
+            place: 0,
+        };
+    }
+    first_fault(areas, values, slopes, shape)
 }

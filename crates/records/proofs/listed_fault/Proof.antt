@@ -33,7 +33,7 @@ module _ (c : tie.After-decode) where
 returns : tie.Need-returns
 returns c =
     let d = decoded (c .before .before .before) in
-    rw (areas-are d, values-are d, slopes-are d, on-lists-of-is (ps d)) at (c .curve-fault .ensures)
+    rw (areas-are d, values-are d, slopes-are d, on-lists-of-is (ps d)) at (c .first-fault .ensures)
 
 pub listed-fault-spec : {M : Type 1} → statement M
 listed-fault-spec =
