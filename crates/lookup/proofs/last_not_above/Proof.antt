@@ -1,5 +1,5 @@
--- `lookup::last_not_above` meets its contract. The invariant: `last` is such an index, and a step after it is above the area read,
--- or is the next to be looked at.
+-- `lookup::last_not_above` meets its contract. The invariant: `last` is such an index, and a step after it is above the area
+-- read, or is the next to be looked at.
 -- Assumes nothing.
 use mathlib.Core.Logic.{⊎-elim}
 use Prim.Native.Nat.{_-_}
