@@ -20,7 +20,7 @@ proved := crates.txt $(shell find crates -name '*.rt' -o -name '*.antt')
 
 # $(call prove,COMMAND): what it prints is shown if it fails.
 define prove
-@echo "make: proving what $@ is made of; from nothing this takes a minute or two" >&2
+@echo "make: proving what $@ is made of; from nothing this takes about two minutes" >&2
 @mkdir -p target; { $(1); } >target/make.log 2>&1 || { cat target/make.log >&2; exit 1; }
 endef
 
