@@ -20,50 +20,63 @@ proved := crates.txt $(shell find crates -name '*.rt' -o -name '*.antt')
 
 # $(call prove,COMMAND): what it prints is shown if it fails.
 define prove
+$(call need,rt,it comes with the Rattle kit)
 @echo "make: proving what $@ is made of; from nothing this takes about two minutes" >&2
 @mkdir -p target; { $(1); } >target/make.log 2>&1 || { cat target/make.log >&2; exit 1; }
 endef
 
 # $(call need,TOOL,WHERE IT COMES FROM)
 need = @command -v $(1) >/dev/null || { echo "make: $(1) is not on the path: $(2)" >&2; exit 1; }
+need-cc = $(call need,$(firstword $(CC)),a C compiler is needed; CC names one)
+need-python3 = $(call need,python3,the outside tests and the benchmark are written in Python 3)
 
 .NOTPARALLEL:
-.PHONY: all lib program quote run test bench install uninstall version clean help need-rt need-cc need-python3
+.DELETE_ON_ERROR:
+.PHONY: all lib program quote run test bench install uninstall version clean help
 
 all: lib program ## the library and the program; what `make` alone does
 
 lib: $(lib).a $(lib).so ## target/lib/libfactor_curves.a and .so, for C and Python
 	@echo $(lib).a $(lib).so
 
-$(lib).a: $(proved) c/refusal_words.c include/factor_curves.h | need-rt need-cc
+$(lib).a: $(proved) c/refusal_words.c include/factor_curves.h
+	$(call need-cc)
 	$(call prove,for name in $(exported); do rt staticlib $$name || exit 1; done)
 	@rm -rf $(objects) $@ && mkdir -p $(objects)
-	@cd $(objects) && for name in $(exported); do $(AR) x ../../staticlib/lib$$name.a; done
+	@cd $(objects) && for name in $(exported); do $(AR) x ../../staticlib/lib$$name.a || exit 1; done
 	@$(CC) $(CFLAGS) -fPIC -Iinclude -c c/refusal_words.c -o $(objects)/refusal_words.o
 	@$(AR) rcs $@ $(objects)/*.o
 
 $(lib).so: $(lib).a
-	@$(CC) $(CFLAGS) -shared -Wl,-soname,libfactor_curves.so.$(major) -Wl,-z,noexecstack -o $@ $(objects)/*.o
+	@$(CC) $(CFLAGS) -shared -Wl,-soname,libfactor_curves.so.$(major) -Wl,-z,noexecstack -o $@ \
+	  -Wl,--whole-archive $(lib).a -Wl,--no-whole-archive
 	@ln -sf libfactor_curves.so $@.$(major)
 
 program: $(program) ## target/bin/ratesheet, the sheet of a curve file (man/ratesheet.1)
 	@echo $(program)
 
-$(program): $(proved) | need-rt
+# rt links a program only when it proves it anew, so a program that is gone takes its stamp along.
+$(program): $(proved)
+	@[ -x $@ ] || rm -f target/stamp/ratesheet
 	$(call prove,rt check ratesheet)
-	@touch $@
+	@test -x $@ && touch $@
 
-quote: need-cc lib ## target/quote, the sample quoting desk: target/quote samples/document-01.trf 550
+quote: lib ## target/quote, the sample quoting desk: target/quote samples/document-01.trf 550
+	$(call need-cc)
 	@$(CC) $(CFLAGS) -Iinclude samples/quote.c $(lib).a -o target/quote
 	@echo target/quote
 
 run: $(program) ## print the sheet of samples/document-01.trf
 	@$(program) <samples/document-01.trf
 
-test: need-rt need-cc need-python3 ## the whole gate: outside tests, proofs, must-fail edits, programs (.ci/run)
+test: ## the whole gate: outside tests, proofs, must-fail edits, programs (.ci/run); it removes target/lib
+	$(call need,rt,it comes with the Rattle kit)
+	$(call need-cc)
+	$(call need-python3)
 	.ci/run
 
-bench: need-rt need-cc need-python3 ## times against a plain C version (docs/BENCHMARKS.md)
+bench: lib ## times against a plain C version (docs/BENCHMARKS.md)
+	$(call need-python3)
 	bench/run
 
 install: all ## library, headers, pkg-config file, program and man pages, below PREFIX (/usr/local)
@@ -78,7 +91,7 @@ install: all ## library, headers, pkg-config file, program and man pages, below 
 	$(INSTALL) -m 755 $(program) $(to)/bin
 	$(INSTALL) -m 644 $(pages:%=man/%.1) $(to)/share/man/man1
 
-uninstall: ## remove what `make install` with the same PREFIX and DESTDIR installed
+uninstall: ## remove what `make install` of this version with the same PREFIX and DESTDIR installed
 	rm -f $(to)/include/factor_curves.h $(to)/include/desk.h $(to)/bin/ratesheet $(to)/lib/pkgconfig/factor_curves.pc
 	rm -f $(to)/lib/libfactor_curves.a $(to)/lib/libfactor_curves.so $(to)/lib/libfactor_curves.so.$(major)
 	rm -f $(to)/lib/libfactor_curves.so.$(version) $(pages:%=$(to)/share/man/man1/%.1)
@@ -86,19 +99,10 @@ uninstall: ## remove what `make install` with the same PREFIX and DESTDIR instal
 version: ## write the number in VERSION into the header, the Python package and the program
 	sed -i 's|\(#define FACTOR_CURVES_VERSION "\)[^"]*|\1$(version)|' include/factor_curves.h
 	sed -i 's|^\(__version__ = "\)[^"]*|\1$(version)|' python/factor_curves/__init__.py
-	sed -i 's|\(b"ratesheet \)[0-9.]*|\1$(version)|' crates/ratesheet/src/main.rt
+	sed -i 's|\(b"ratesheet \)[^\\]*|\1$(version)|' crates/ratesheet/src/main.rt
 
 clean: ## remove target/, with all that was built
 	rm -rf target
 
 help: ## this list
 	@awk -F ':.*## ' '/^[a-z]+:.*## / { printf "make %-9s %s\n", $$1, $$2 }' Makefile
-
-need-rt:
-	$(call need,rt,it comes with the Rattle kit)
-
-need-cc:
-	$(call need,$(firstword $(CC)),a C compiler is needed; CC names one)
-
-need-python3:
-	$(call need,python3,the outside tests are written in Python 3)

@@ -71,7 +71,8 @@ extern "C" {
  * What the caller owes, and nothing else:
  *   - each pointer is good for its length, scratch also for writing; where
  *     the length is 0 it may be null;
- *   - the two do not overlap, and nothing else writes there during the call.
+ *   - the two do not overlap; during the call nothing else writes the file,
+ *     or reads or writes the scratch.
  * What the bytes hold is free.
  *
  * Returns the factor in ten-thousandths (10889 is 1.0889), from -200,000 to

@@ -5,6 +5,9 @@
  * factor_curves)). C99 or later, and C++. The desk reading has a header of
  * its own, desk.h, and is in the same library.
  *
+ *     #include <stdio.h>
+ *     #include "factor_curves.h"
+ *
  *     const uint32_t areas[] = {500, 600}, values[] = {10000, 14000};
  *     const int32_t slopes[] = {0, 10000};
  *     int64_t answer = curve_read(areas, 2, values, 2, slopes, 2,

@@ -10,6 +10,7 @@ thread sanitizer. Nor may the client pass on streams that leave something out.
 
 import multiprocessing.pool
 import os
+import shlex
 import subprocess
 import sys
 
@@ -17,7 +18,7 @@ import wrong_edits
 
 HERE = os.path.dirname(os.path.abspath(__file__))
 ROOT = os.path.join(HERE, '..')
-CC = os.environ.get('CC', 'cc')
+CC = shlex.split(os.environ.get('CC', 'cc'))
 CALLS = ['desk_reading', 'curve_check', 'curve_read', 'curve_pair',
          'curve_sheet', 'curve_open']
 FLAGS = ['-std=c99', '-I' + os.path.join(ROOT, 'include'),
@@ -38,7 +39,7 @@ class Test:
         for part in self.parts:
             made = os.path.join(folder, '%s-%s.o' % (self.name, part))
             source = os.path.join(HERE, part + '.c')
-            subprocess.run([CC, *self.flags, '-c', source, '-o', made],
+            subprocess.run([*CC, *self.flags, '-c', source, '-o', made],
                            check=True)
             self.objects.append(made)
 
@@ -47,7 +48,7 @@ class Test:
         program = os.path.join(folder, name)
         with open(program + '.c', 'w', encoding='ascii') as file:
             file.write(text)
-        subprocess.run([CC, *self.flags, program + '.c', *self.objects,
+        subprocess.run([*CC, *self.flags, program + '.c', *self.objects,
                         '-o', program], check=True)
         with open(cases, 'rb') as stream:
             try:

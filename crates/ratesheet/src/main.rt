@@ -49,8 +49,9 @@ fn print_help() {
         factor in steps of 25 tenths of a square metre, from the first point's area up to the last point's.\n\
         A file that is refused gives one line instead, such as: refused 6 at 0.\n\
         \n\
-        The exit status is always 0. What cannot be read or written is said on standard error. The command\n\
-        factor-curves sheet FILE has an exit status that tells. The manual is ratesheet(1).\n\
+        The exit status is 0 unless a signal ends it. What cannot be read or written is said on standard\n\
+        error. The command factor-curves sheet FILE has an exit status that tells. The manual is\n\
+        ratesheet(1).\n\
         \n\
         \x20 --help     print this text\n\
         \x20 --version  print the version\n",
