@@ -2,8 +2,9 @@
 -- all.
 -- Assumes nothing.
 use mathlib.Core.Logic.{⊎-elim}
+use Prim.Native.Nat.{_-_}
 use borrow.Author.Needs.{needs}
-use Rattle.model.specs.Inner.{areas-of}
+use Rattle.model.specs.Inner.{areas-of, LastOf}
 use Rattle.model.proofs.Search.{Near, near-next, near-last, taken-of}
 use Rattle.layout.specs.Inner.{first-points}
 use Rattle.file_lookup.proofs.Placed.{areas-size}
@@ -17,7 +18,9 @@ near : (c : tie.Joined1) →
 near c =
     let s = c .before .before .before in
     let size = areas-size (s .args .bytes .now) (s .args .n) in
-    let l = c .before .last-not-above .ensures in
+    let areas = areas-of (first-points (s .args .bytes .now) (s .args .n)) in
+    let l : LastOf areas (c .before .last-not-above .result) 8 (s .args .n - 1) (s .args .area) =
+    c .before .last-not-above .ensures in
     let most = s .pre .0 .most in
     ⊎-elim (λ w. rw (w .1) (near-next size most l (w .0 .taken))) (λ w. rw (w .1) (near-last size most l)) (c .if1 .came)
 
