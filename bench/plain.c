@@ -12,7 +12,7 @@ typedef struct {
     int32_t slope;
 } point;
 
-/* A refusal of the five calls; the desk reading gives its number alone. */
+/* A refusal of the curve calls; the desk reading gives its number alone. */
 static int64_t refused(int number, size_t place)
 {
     return -((INT64_C(1) << 32) * number + (int64_t)place);
@@ -27,6 +27,14 @@ static uint32_t load32(const uint8_t *p)
 {
     return (uint32_t)p[0] | (uint32_t)p[1] << 8 | (uint32_t)p[2] << 16 |
            (uint32_t)p[3] << 24;
+}
+
+static inline void store32(uint8_t *p, uint32_t x)
+{
+    p[0] = (uint8_t)x;
+    p[1] = (uint8_t)(x >> 8);
+    p[2] = (uint8_t)(x >> 16);
+    p[3] = (uint8_t)(x >> 24);
 }
 
 static inline point load_point(const uint8_t *record)
@@ -367,4 +375,29 @@ int64_t plain_curve_sheet(const uint32_t *areas, size_t areas_len,
         return refused(7, (areas[areas_len - 1] - start) / step + 1);
     fill_sheet(c, shape, start, step, out, out_len);
     return (int64_t)out_len;
+}
+
+int64_t plain_curve_write(const uint32_t *areas, size_t areas_len,
+                          const uint32_t *values, size_t values_len,
+                          const int32_t *slopes, size_t slopes_len,
+                          uint32_t shape, uint8_t *out, size_t out_len)
+{
+    lists c = {areas, values, slopes, areas_len};
+    int64_t fault = lists_fault(c, values_len, slopes_len, shape);
+    if (fault)
+        return fault;
+    size_t length = 7 + 12 * c.count;
+    if (out_len < length)
+        return refused(12, 0);
+    memcpy(out, "TRF\1\0", 5);
+    out[5] = (uint8_t)shape;
+    out[6] = (uint8_t)c.count;
+    for (size_t i = 0; i < c.count; i++) {
+        uint8_t *record = out + 7 + 12 * i;
+        point p = point_at(c, i);
+        store32(record, p.area);
+        store32(record + 4, p.value);
+        store32(record + 8, (uint32_t)p.slope);
+    }
+    return (int64_t)length;
 }

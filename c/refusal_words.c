@@ -28,6 +28,8 @@ const char *curve_refusal_words(int number)
         return "the file's length does not fit its number of points";
     case CURVE_REFUSED_ROOM:
         return "a lent list or the scratch is too short";
+    case CURVE_REFUSED_BUFFER:
+        return "the buffer is too short for the curve file";
     default:
         return "unknown refusal";
     }

@@ -61,6 +61,7 @@ extern "C" {
 #define CURVE_REFUSED_VALUE 4    /* a point's value; the place is the point */
 #define CURVE_REFUSED_SLOPE 5    /* a point's slope; the place is the point */
 #define CURVE_REFUSED_SEGMENT 6  /* no shape; the place is the left point */
+#define CURVE_REFUSED_BUFFER 12  /* a file does not fit into the buffer */
 #define CURVE_REFUSED_SHEET 8    /* step 0, no entries or more than 1,024 */
 #define CURVE_REFUSED_OUTSIDE 7  /* an area outside the curve; the place is 0,
                                     curve_pair: 1 for the plan area,
@@ -82,7 +83,7 @@ extern "C" {
 const char *curve_refusal_words(int number);
 
 /*
- * What a caller of the five calls owes, and nothing else:
+ * What a caller of the six calls owes, and nothing else:
  *   - a pointer is good for its length, which counts entries (bytes for a
  *     file); where the length is 0 it may be null;
  *   - a list that a call writes (it is not const) overlaps no other one of
@@ -133,6 +134,17 @@ int64_t curve_sheet(const uint32_t *areas, size_t areas_len,
 int64_t curve_open(const uint8_t *bytes, size_t bytes_len, uint32_t *areas,
                    size_t areas_len, uint32_t *values, size_t values_len,
                    int32_t *slopes, size_t slopes_len);
+
+/*
+ * The length of the curve's file, 7 + 12 * count, which is then in the first
+ * bytes of out; later bytes keep what they held. A shorter out is refused 12;
+ * CURVE_FILE_MAX bytes are enough for any curve. The file opens as the same
+ * curve, and no other file does.
+ */
+int64_t curve_write(const uint32_t *areas, size_t areas_len,
+                    const uint32_t *values, size_t values_len,
+                    const int32_t *slopes, size_t slopes_len, uint32_t shape,
+                    uint8_t *out, size_t out_len);
 
 #ifdef __cplusplus
 }
