@@ -1,0 +1,3 @@
+-- Laws of the file of a curve that other crates cite.
+pub mod Pieces
+pub mod Records

@@ -1,0 +1,3 @@
+-- The file of a curve; then what inner contracts cite.
+pub mod File
+pub mod Inner
