@@ -4,6 +4,7 @@ ghost use Prim.Native.Nat.{_≤_};
 ghost use lib.IntN.{pos, negℤ, _-ℤ_};
 ghost use mathlib.Core.List.{_++_};
 ghost use lib.ListN.{length, take, drop};
+ghost use Rattle.model.specs.Inner.{number-most};
 ghost use Rattle.desk.specs.Desk.{desk-answer, desk-number, desk-scratch};
 ghost use Rattle.desk.specs.Inner.{Fits, copied, CopiedTo};
 use layout::HEAD_SIZE;
@@ -11,7 +12,7 @@ use layout::RECORD_SIZE;
 
 // What the desk gives for a refusal's number.
 fn refusal(number: u32) -> i32
-    requires { ⌜ number ≤ 11 ⌝ }
+    requires { ⌜ number ≤ number-most ⌝ }
     ensures { λ r. ⌜ r ≡ negℤ (pos 1000000) -ℤ pos number ⌝ }
 {
     -1000000 - (number as i32)

@@ -2,8 +2,9 @@
 ghost use mathlib.Core.Path.{_≡_};
 ghost use mathlib.Core.List.{map};
 ghost use lib.ListN.{length};
+ghost use Rattle.model.specs.Answer.{filled};
 ghost use Rattle.layout.specs.Layout.{points-of};
-ghost use Rattle.file.specs.Open.{open-answer, open-list};
+ghost use Rattle.file.specs.Open.{open-answer};
 ghost use Rattle.exports.specs.Exports.{c-number, c-shape-and-count};
 use exports::refusal;
 use file::Opened;
@@ -19,15 +20,15 @@ pub extern "C" fn curve_open(
         ≡ c-number c-shape-and-count (open-answer (now (bytes .entry))
         (length (now (areas .entry))) (length (now (values .entry))) (length (now (slopes .entry)))) ⌝ }
     ensures areas { λ _. ⌜ now (areas .exit)
-        ≡ open-list (open-answer (now (bytes .entry))
+        ≡ filled (open-answer (now (bytes .entry))
         (length (now (areas .entry))) (length (now (values .entry))) (length (now (slopes .entry))))
         (map (λ p. p .area) (points-of (now (bytes .entry)))) (now (areas .entry)) ⌝ }
     ensures values { λ _. ⌜ now (values .exit)
-        ≡ open-list (open-answer (now (bytes .entry))
+        ≡ filled (open-answer (now (bytes .entry))
         (length (now (areas .entry))) (length (now (values .entry))) (length (now (slopes .entry))))
         (map (λ p. p .value) (points-of (now (bytes .entry)))) (now (values .entry)) ⌝ }
     ensures slopes { λ _. ⌜ now (slopes .exit)
-        ≡ open-list (open-answer (now (bytes .entry))
+        ≡ filled (open-answer (now (bytes .entry))
         (length (now (areas .entry))) (length (now (values .entry))) (length (now (slopes .entry))))
         (map (λ p. p .slope) (points-of (now (bytes .entry)))) (now (slopes .entry)) ⌝ }
 {

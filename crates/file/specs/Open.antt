@@ -1,11 +1,10 @@
--- Document 01: row 11, what Open answers, and what the lent lists hold after it.
+-- Document 01: row 11, and what Open answers.
 -- Assumes nothing.
 use Prim.Native.Nat.{ℕ}
 use mathlib.Core.Bool.{Bool, _||_}
-use mathlib.Core.List.{List, _++_}
+use mathlib.Core.List.{List}
 use lib.Dec.{ltb}
-use lib.ListN.{length, drop}
-use Rattle.model.specs.Answer.{Answer, gives, refused, row, _then_}
+use Rattle.model.specs.Answer.{Answer, gives, row, _then_}
 use Rattle.model.specs.Check.{curve-rows}
 use Rattle.layout.specs.Layout.{shape-code, count, points-of}
 use Rattle.layout.specs.Head.{head-rows}
@@ -25,8 +24,3 @@ open-answer bytes areas values slopes =
     head-rows bytes then row (short-list (count bytes) areas values slopes) 11 0
     then curve-rows (points-of bytes) (shape-code bytes)
     then gives (record { shape = shape-code bytes; count = count bytes })
-
--- a lent list after the call, by the answer: the file's list, and the entries after it as found; or all as found
-unfoldable pub open-list : {A : Type 0} → Answer ShapeAndCount → List A → List A → List A
-open-list (gives head) list found = list ++ drop (length list) found
-open-list (refused number place) list found = found

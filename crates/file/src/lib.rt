@@ -2,8 +2,9 @@
 ghost use mathlib.Core.Path.{_≡_};
 ghost use mathlib.Core.List.{map};
 ghost use lib.ListN.{length};
+ghost use Rattle.model.specs.Answer.{filled};
 ghost use Rattle.layout.specs.Layout.{points-of};
-ghost use Rattle.file.specs.Open.{short-list, open-answer, open-list};
+ghost use Rattle.file.specs.Open.{short-list, open-answer};
 ghost use Rattle.file.specs.Calls.{opened-answer};
 
 // Row 11.
@@ -30,11 +31,11 @@ pub fn open(bytes: &[u8], areas: &mut [u32], values: &mut [u32], slopes: &mut [i
         ≡ open-answer (now (bytes .entry))
         (length (now (areas .entry))) (length (now (values .entry))) (length (now (slopes .entry))) ⌝ }
     ensures areas { λ r. ⌜ now (areas .exit)
-        ≡ open-list (opened-answer r) (map (λ p. p .area) (points-of (now (bytes .entry)))) (now (areas .entry)) ⌝ }
+        ≡ filled (opened-answer r) (map (λ p. p .area) (points-of (now (bytes .entry)))) (now (areas .entry)) ⌝ }
     ensures values { λ r. ⌜ now (values .exit)
-        ≡ open-list (opened-answer r) (map (λ p. p .value) (points-of (now (bytes .entry)))) (now (values .entry)) ⌝ }
+        ≡ filled (opened-answer r) (map (λ p. p .value) (points-of (now (bytes .entry)))) (now (values .entry)) ⌝ }
     ensures slopes { λ r. ⌜ now (slopes .exit)
-        ≡ open-list (opened-answer r) (map (λ p. p .slope) (points-of (now (bytes .entry)))) (now (slopes .entry)) ⌝ }
+        ≡ filled (opened-answer r) (map (λ p. p .slope) (points-of (now (bytes .entry)))) (now (slopes .entry)) ⌝ }
 {
     let fault = layout::head_fault(bytes);
     if fault != 0 {

@@ -1,4 +1,4 @@
--- The numbers of refusals are 1 to 11, their places at most 1,024.
+-- The numbers of refusals are 1 to 12, their places at most 1,024.
 --   Numbered             an answer's refusal, if it is one, has such a number and place
 --   in-row, in-then      so have a row's, and those of rows one after the other
 --   in-curve             rows 1 to 6
@@ -21,25 +21,26 @@ use Rattle.model.specs.Answer.{Answer, gives, refused, row, _then_}
 use Rattle.model.specs.Points.{Point, points, Segment, segments, Shape, shape-of}
 use Rattle.model.specs.Check.{bad-count, point-rows, segment-rows, curve-rows, check-answer, on-lists}
 use Rattle.model.specs.Read.{read-answer}
+use Rattle.model.specs.Inner.{number-most}
 use Rattle.model.specs.Sheet.{entries-most, bad-sheet, entry-rows, sheet-answer}
 use Rattle.model.proofs.Rows.{count-of-row-1, row-left}
 use Rattle.model.proofs.Indexed.{segments-length}
 
 pub record Tabled (number place : ℕ) : Type 0 where
   pub least : 1 ≤ number
-  pub most : number ≤ 11
+  pub most : number ≤ number-most
   pub near : place ≤ entries-most
 
 abbrev pub Numbered : {A : Type 0} → Answer A → Type 0
 Numbered (gives x) = Unit {0}
 Numbered (refused number place) = Tabled number place
 
-pub in-row : (b : Bool) (number place : ℕ) → T (leb 1 number && leb number 11) → place ≤ entries-most →
+pub in-row : (b : Bool) (number place : ℕ) → T (leb 1 number && leb number number-most) → place ≤ entries-most →
     Numbered (row b number place)
 unfolding row
 in-row true number place t h =
-    let both = and-yes (leb 1 number) (leb number 11) t in
-    record { least = leb→le 1 number (both .0); most = leb→le number 11 (both .1); near = h }
+    let both = and-yes (leb 1 number) (leb number number-most) t in
+    record { least = leb→le 1 number (both .0); most = leb→le number number-most (both .1); near = h }
 in-row false number place t h = tt
 
 pub in-then : {A : Type 0} (first : Answer (Unit {0})) (rest : Answer A) → Numbered first → (first ≡ gives tt → Numbered rest) →

@@ -2,6 +2,8 @@
 -- Assumes nothing.
 use Prim.Native.Nat.{ℕ}
 use mathlib.Core.Bool.{Bool, true, false}
+use mathlib.Core.List.{List, _++_}
+use lib.ListN.{length, drop}
 
 pub data Answer (A : Type 0) : Type 0 where
   gives : A → Answer A
@@ -17,3 +19,8 @@ infixr 3 _then_
 unfoldable pub _then_ : {A : Type 0} → Answer (Unit {0}) → Answer A → Answer A
 gives u then a = a
 refused number place then a = refused number place
+
+-- a lent list after a call, by the answer: what the call writes, and the entries after it as found; or all as found
+unfoldable pub filled : {A B : Type 0} → Answer A → List B → List B → List B
+filled (gives x) written found = written ++ drop (length written) found
+filled (refused number place) written found = found

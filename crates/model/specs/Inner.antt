@@ -1,4 +1,5 @@
 -- What contracts of inner functions cite. Nothing here need be believed: the calls' contracts cite document 01's definitions.
+--   number-most        the largest number of a refusal
 --   fault-answer       a fault's number and place, as an answer
 --   read-rows          rows 1 to 7; Accepted, rows 1 to 6 refuse nothing
 --   Alike              three lists are equally long
@@ -24,6 +25,9 @@ use Rattle.model.specs.Shape.{has-shape}
 use Rattle.model.specs.Check.{curve-rows}
 use Rattle.model.specs.Read.{outside}
 use Rattle.model.specs.Sheet.{tabulate}
+
+abbrev pub number-most : ℕ
+number-most = 12
 
 -- the number 0 is no fault
 unfoldable pub fault-answer : ℕ → ℕ → Answer (Unit {0})

@@ -6,7 +6,7 @@ use lib.Dec.{lit<}
 use lib.IntN.{pos}
 use Rattle.exact.specs.Fraction.{_over_, whole, _+ℚ_, _-ℚ_, _*ℚ_, _/ℚ_, leℚ, ltℚ, eqℚ}
 use Rattle.exact.specs.Rounding.{floorDiv, floor, round}
-use Rattle.model.specs.Answer.{row, _then_}
+use Rattle.model.specs.Answer.{row, _then_, filled}
 use Rattle.model.specs.Points.{gradient, points, segments, shape-of}
 use Rattle.model.specs.Interpolant.{chord, p, q, P, Q, rational, r-rising, r-convex}
 use Rattle.model.specs.Interpolant.{rising-curve, convex-curve, curve, interpolant}
@@ -19,7 +19,7 @@ use Rattle.model.specs.Laws.{Curve}
 use Rattle.layout.specs.Layout.{twos-complement, little-endian, record-at, points-of}
 use Rattle.layout.specs.Head.{wrong-mark, bad-head, bad-size, head-rows}
 use Rattle.pair.specs.Pair.{factors, pair-answer}
-use Rattle.file.specs.Open.{short-list, open-answer, open-list}
+use Rattle.file.specs.Open.{short-list, open-answer}
 use Rattle.desk.specs.Desk.{desk-answer, desk-number, point-records, desk-scratch}
 use Rattle.promises.specs.FactorRead.{FileOf, FactorRead, by-read, by-pair-form, by-pair-plan, by-sheet, by-desk}
 use Rattle.promises.specs.Example.{records, file, one-point, FileExample}
@@ -39,7 +39,7 @@ unfolding _over_ whole _+ℚ_ _-ℚ_ _*ℚ_ _/ℚ_ leℚ ltℚ eqℚ floorDiv fl
     lengths-differ bad-count bad-code bad-area bad-value bad-slope point-rows segment-rows curve-rows on-lists
     taken value-in outside exact-value reading read-answer bad-sheet entry-rows tabulate sheet-answer sheet-list
     twos-complement little-endian record-at wrong-mark bad-head bad-size head-rows factors pair-answer
-    short-list open-answer open-list desk-answer desk-number point-records desk-scratch
+    short-list open-answer filled desk-answer desk-number point-records desk-scratch
     records file one-point
 example =
     let c : Curve = record { points = points-of file; code = 2; accepted = refl } in

@@ -4,9 +4,9 @@ use Prim.Native.Nat.{ℕ}
 use mathlib.Core.Path.{_≡_}
 use mathlib.Core.List.{List, [], _∷_, _++_, map}
 use lib.IntN.{pos, negℤ}
-use Rattle.model.specs.Answer.{gives, refused}
+use Rattle.model.specs.Answer.{gives, refused, filled}
 use Rattle.layout.specs.Layout.{points-of}
-use Rattle.file.specs.Open.{open-answer, open-list}
+use Rattle.file.specs.Open.{open-answer}
 use Rattle.desk.specs.Desk.{desk-answer, desk-number, desk-scratch}
 
 -- the two point records, and the file
@@ -26,9 +26,9 @@ abbrev pub FileExample : Type 0
 FileExample =
     -- Open, with lists of three entries, two and two
     (open-answer file 3 2 2 ≡ gives (record { shape = 2; count = 2 }))
-    × (open-list (open-answer file 3 2 2) (map (λ p. p .area) (points-of file)) (7 ∷ 8 ∷ 9 ∷ []) ≡ 500 ∷ 600 ∷ 9 ∷ [])
-    × (open-list (open-answer file 3 2 2) (map (λ p. p .value) (points-of file)) (7 ∷ 8 ∷ []) ≡ 10000 ∷ 14000 ∷ [])
-    × (open-list (open-answer file 3 2 2) (map (λ p. p .slope) (points-of file)) (pos 7 ∷ pos 8 ∷ []) ≡ pos 0 ∷ pos 10000 ∷ [])
+    × (filled (open-answer file 3 2 2) (map (λ p. p .area) (points-of file)) (7 ∷ 8 ∷ 9 ∷ []) ≡ 500 ∷ 600 ∷ 9 ∷ [])
+    × (filled (open-answer file 3 2 2) (map (λ p. p .value) (points-of file)) (7 ∷ 8 ∷ []) ≡ 10000 ∷ 14000 ∷ [])
+    × (filled (open-answer file 3 2 2) (map (λ p. p .slope) (points-of file)) (pos 7 ∷ pos 8 ∷ []) ≡ pos 0 ∷ pos 10000 ∷ [])
     -- the desk at 550, with a scratch of 25 bytes, and of 23
     × (desk-number (desk-answer file 550 25) ≡ pos 10800) × (desk-number (desk-answer file 550 23) ≡ negℤ (pos 1000011))
     × (desk-scratch (desk-answer file 550 25) file (5 ∷ records) ≡ records ++ 0 ∷ [])

@@ -8,7 +8,7 @@ use Prim.Native.Nat.{ℕ}
 use native.Mathlib.Omega.{arith}
 use borrow.Author.Needs.{needs}
 use lib.ListN.{length, drop}
-use Rattle.model.specs.Answer.{Answer, gives, row, _then_}
+use Rattle.model.specs.Answer.{Answer, gives, row, _then_, filled}
 use Rattle.model.specs.Points.{Point}
 use Rattle.model.specs.Check.{curve-rows}
 use Rattle.rows.proofs.Faults.{a-fault, no-fault}
@@ -17,7 +17,7 @@ use Rattle.layout.specs.Inner.{first-points}
 use Rattle.layout.specs.Head.{head-rows}
 use Rattle.layout.proofs.Heads.{size-of-passed}
 use Rattle.layout.proofs.Points.{size-of-field}
-use Rattle.file.specs.Open.{short-list, open-answer, open-list}
+use Rattle.file.specs.Open.{short-list, open-answer}
 use Rattle.file.specs.Calls.{opened-answer}
 use Rattle.file.proofs.Room.{room-of-row-11}
 use Rattle.file.proofs.open.Statement.{statement}
@@ -37,7 +37,7 @@ abbrev written : tie.After-slopes → tie.After-decode
 written c = c .before .before .before .before .before
 
 returns : tie.Need-returns
-unfolding open-answer open-list opened-answer row _then_
+unfolding open-answer filled opened-answer row _then_
 returns c = (rw (sym (c .before .head-fault .ensures) ∙ a-fault 0 (c .if1 .taken)), (refl, (refl, refl)))
 
 module _ (c : tie.Else1) where
@@ -54,7 +54,7 @@ module _ (c : tie.Else1) where
   size = size-of-passed bytes head-passed
 
 returns-2 : tie.Need-returns-2
-unfolding open-answer open-list opened-answer row _then_
+unfolding open-answer filled opened-answer row _then_
 returns-2 c =
     let short = sym (c .before .short-list .ensures) ∙ c .if2 .taken in
     (rw (head-passed (c .before .before .before), short) refl, (refl, (refl, refl)))
@@ -82,7 +82,7 @@ module _ (c : tie.Else2) where
   tried e = rw (head-passed (headed c), long, e)
 
 returns-3 : tie.Need-returns-3
-unfolding open-list opened-answer _then_
+unfolding filled opened-answer _then_
 returns-3 c =
     let f = c .before .before .curve-fault in
     (sym (tried (c .before .before .before .before) (sym (f .ensures) ∙ a-fault _ (c .if3 .taken))), (refl, (refl, refl)))
@@ -99,7 +99,7 @@ after-list : {A : Type 0} (bytes : List ℕ) (n : ℕ) (field : Point → A) (fo
 after-list bytes n field found = rw (size-of-field bytes n field)
 
 returns-4 : tie.Need-returns-4
-unfolding open-list opened-answer _then_
+unfolding filled opened-answer _then_
 returns-4 c =
     let e = written c .decode .ensures in
     let a = accepted (written c) in
