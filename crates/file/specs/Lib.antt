@@ -1,3 +1,4 @@
--- Open, in document 01's order.
+-- Open and Write, in the documents' order.
 pub mod Open
+pub mod Write
 pub mod Calls

@@ -3,9 +3,15 @@ ghost use mathlib.Core.Path.{_≡_};
 ghost use mathlib.Core.List.{map};
 ghost use lib.ListN.{length};
 ghost use Rattle.model.specs.Answer.{filled};
+ghost use Rattle.model.specs.Points.{points};
+ghost use Rattle.model.specs.Check.{on-lists};
 ghost use Rattle.layout.specs.Layout.{points-of};
+ghost use Rattle.encoding.specs.File.{file-bytes};
 ghost use Rattle.file.specs.Open.{short-list, open-answer};
-ghost use Rattle.file.specs.Calls.{opened-answer};
+ghost use Rattle.file.specs.Write.{write-answer};
+ghost use Rattle.file.specs.Calls.{opened-answer, written-answer};
+use layout::HEAD_SIZE;
+use layout::RECORD_SIZE;
 
 // Row 11.
 fn short_list(n: usize, areas: usize, values: usize, slopes: usize) -> bool
@@ -52,4 +58,30 @@ pub fn open(bytes: &[u8], areas: &mut [u32], values: &mut [u32], slopes: &mut [i
     }
     records::decode(bytes, n, areas, values, slopes);
     Opened::Curve(shape, n as u32)
+}
+
+// What Write answers: the length of the file, or a refusal's number and place.
+pub enum Written {
+    Length(u32),
+    Refused(u32, u32),
+}
+
+pub fn write(areas: &[u32], values: &[u32], slopes: &[i32], shape: u32, out: &mut [u8]) -> Written
+    ensures answer { λ r. ⌜ written-answer r
+        ≡ on-lists (now (areas .entry)) (now (values .entry)) (now (slopes .entry))
+        (λ ps. write-answer ps shape (length (now (out .entry)))) ⌝ }
+    ensures out { λ r. ⌜ now (out .exit)
+        ≡ filled (written-answer r)
+        (file-bytes (points (now (areas .entry)) (now (values .entry)) (now (slopes .entry))) shape) (now (out .entry)) ⌝ }
+{
+    let fault = rows::curve_fault(areas, values, slopes, shape);
+    if fault.number != 0 {
+        return Written::Refused(fault.number, fault.place);
+    }
+    let size = HEAD_SIZE + RECORD_SIZE * areas.len();
+    if out.len() < size {
+        return Written::Refused(12, 0);
+    }
+    encoding::encode(areas, values, slopes, shape, out);
+    Written::Length(size as u32)
 }

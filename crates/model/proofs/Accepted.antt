@@ -1,5 +1,5 @@
 -- An accepted curve, as a chain of segments that each have their shape.
---   count-of       2 to 64 points
+--   count-of       2 to 64 points; code-of, a code of one byte; limits-of, each point keeps its limits
 --   neighbours-of-rows    points that pass rows 1 and 3 to 5 are a chain; good-of-rows, and row 6 too
 --   chained-of     the points of an accepted curve are a chain of good segments
 --   value-is       the exact value at an area is that of the segment where a walk from the left stops
@@ -25,7 +25,7 @@ use Rattle.model.specs.Read.{value-in, outside, exact-value, reading}
 use Rattle.model.specs.Inner.{Accepted, between, segment-at, areas-of, Limits, Neighbours, Good, Inside, Taken, Readable}
 use Rattle.model.proofs.Walk.{Chain, end, link, taken-is-stop, good-ordered}
 use Rattle.model.proofs.Indexed.{Chained, chained, stop-in, stop-at, stop-in-inside}
-use Rattle.model.proofs.Rows.{then-first, then-rest, row-passed, count-of-row-1, passed, neighbours}
+use Rattle.model.proofs.Rows.{then-first, then-rest, row-passed, count-of-row-1, code-of-row-2, passed, neighbours}
 
 neighbour-chain : (i : ℕ) (p : Point) (ps : List Point) → Limits p → point-rows i (some (p .area)) ps ≡ gives tt →
     Chain Neighbours p ps
@@ -59,6 +59,12 @@ module _ {ps : List Point} {code : ℕ} (k : Accepted ps code) where
   pub count-of : (points-least ≤ length ps) × (length ps ≤ points-most)
   unfolding curve-rows
   count-of = count-of-row-1 (length ps) (row-passed (bad-count (length ps)) 1 0 _ (k .none-applies))
+
+  pub code-of : code ≤ 255
+  unfolding curve-rows
+  code-of =
+      let after-1 = then-rest (row (bad-count (length ps)) 1 0) _ (k .none-applies) in
+      code-of-row-2 code (row-passed (bad-code code) 2 0 _ after-1)
 
   pub chained-of : Chained (Good (shape-of code)) ps
   unfolding curve-rows

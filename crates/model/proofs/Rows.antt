@@ -4,25 +4,26 @@
 --   row-passed                a row before a result does not apply; row-left, nor one that refuses nothing
 --   row-refused               where it refuses, it does so by its own number
 --   alike-of-row-1            the three lists are equally long
---   count-of-row-1            2 to 64 points
+--   count-of-row-1            2 to 64 points; code-of-row-2, a code of one byte
 --   Passed, passed            rows 3 to 5 at one point, and the rows of the points after it
 --   neighbours                two points that pass rows 3 to 5
 -- Assumes nothing.
 use mathlib.Core.Path.{_≡_, refl, sym}
-use mathlib.Core.Bool.{Bool, true, false, not, _||_}
+use mathlib.Core.Bool.{Bool, true, false, not, _||_, true≢false}
 use mathlib.Core.List.{List, _∷_}
+use mathlib.Core.Logic.{inl, inr}
 use mathlib.Core.Option.{Option, none, some}
 use Prim.Native.Nat.{ℕ, suc, _+_, _≤_, _<_}
 use native.Mathlib.Omega.{arith}
-use borrow.Author.Tests.{eqb-true, leb-false, ltb-false, not-false}
+use borrow.Author.Tests.{eqb-true, ne-eqb, leb-false, ltb-false, not-false}
 use lib.Dec.{eqb, leb, ltb}
 use lib.IntN.{pos, negℤ}
 use lib.Signed.{ltZ}
 use Rattle.model.specs.Answer.{Answer, gives, refused, row, _then_}
 use Rattle.model.specs.Points.{points-least, points-most, area-most, gap-most, value-most, slope-most, Point}
-use Rattle.model.specs.Check.{lengths-differ, bad-count, bad-area, bad-value, bad-slope, point-rows}
+use Rattle.model.specs.Check.{lengths-differ, bad-count, bad-code, bad-area, bad-value, bad-slope, point-rows}
 use Rattle.model.specs.Inner.{Alike, between, Limits, Neighbours}
-use Rattle.exact.proofs.Tests.{or-left, or-right, ≤-of-ltZ-false}
+use Rattle.exact.proofs.Tests.{compare, or-left, or-right, ≤-of-ltZ-false}
 
 -- ---- answers
 
@@ -74,6 +75,15 @@ pub count-of-row-1 : (n : ℕ) → bad-count n ≡ false → (points-least ≤ n
 unfolding bad-count
 count-of-row-1 n e =
     (ltb-false n points-least (or-left _ (ltb points-most n) e), ltb-false points-most n (or-right (ltb n points-least) _ e))
+
+pub code-of-row-2 : (code : ℕ) → bad-code code ≡ false → code ≤ 255
+unfolding bad-code
+code-of-row-2 code e =
+    elim (compare code 255) [
+      | inl (h, t) ↦ h
+      | inr (h, t) ↦
+          absurd (true≢false (rw (ne-eqb code 1 (λ (k : code ≡ 1). omega arith), ne-eqb code 2 (λ (k : code ≡ 2). omega arith)) at e))
+    ]
 
 -- ---- rows 3 to 5
 

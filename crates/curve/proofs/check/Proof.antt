@@ -10,7 +10,7 @@ use Rattle.model.specs.Points.{segments}
 use Rattle.model.specs.Check.{check-answer}
 use Rattle.model.proofs.Indexed.{segments-length}
 use Rattle.curve.specs.Calls.{checked-answer}
-use Rattle.curve.proofs.Curve.{Accepts, accepts, curve-refused, on-points}
+use Rattle.rows.proofs.Lists.{Accepts, accepts, curve-refused, on-points}
 use Rattle.curve.proofs.check.Statement.{statement}
 use Rattle.curve.proofs.check.Tie as tie
 

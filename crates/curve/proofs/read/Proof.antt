@@ -17,7 +17,7 @@ use Rattle.model.specs.Inner.{Readable}
 use Rattle.model.proofs.Outside.{not-before}
 use Rattle.model.proofs.Laws.{factors-are-ranged}
 use Rattle.curve.specs.Calls.{reading-answer, InRange}
-use Rattle.curve.proofs.Curve.{Accepts, accepts, curve-refused, on-points}
+use Rattle.rows.proofs.Lists.{Accepts, accepts, curve-refused, on-points}
 use Rattle.curve.proofs.read.Statement.{statement}
 use Rattle.curve.proofs.read.Tie as tie
 

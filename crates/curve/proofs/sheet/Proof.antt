@@ -16,7 +16,7 @@ use Rattle.model.specs.Sheet.{entries-most, bad-sheet, entry-rows, sheet-answer
 use Rattle.exact.proofs.Tests.{or-left, or-right}
 use Rattle.model.proofs.SheetRows.{rows-inside}
 use Rattle.curve.specs.Calls.{filled-answer}
-use Rattle.curve.proofs.Curve.{Accepts, accepts, curve-refused, on-points}
+use Rattle.rows.proofs.Lists.{Accepts, accepts, curve-refused, on-points}
 use Rattle.curve.proofs.sheet.Statement.{statement}
 use Rattle.curve.proofs.sheet.Tie as tie
 

@@ -1,2 +1,0 @@
--- Laws of the calls on three lists.
-pub mod Curve
