@@ -10,6 +10,7 @@ use Rattle.model.specs.Check.{check-answer, on-lists}
 use Rattle.model.specs.Read.{read-answer}
 use Rattle.model.specs.Sheet.{sheet-answer}
 use Rattle.file.specs.Open.{open-answer}
+use Rattle.file.specs.Write.{write-answer}
 use Rattle.exports.specs.Exports.{word, c-number, pair-entries, c-pair-answer, c-shape-and-count}
 
 -- a result is at least −200,000; a refusal is at most −2^32, and its size over 2^32 is the number, the remainder the place
@@ -20,7 +21,7 @@ Apart result (refused number place) =
     × (natAbs (c-number result (refused number place)) / word ≡ number)
     × (natAbs (c-number result (refused number place)) % word ≡ place)
 
--- so it is for each of the five calls, whatever they are given
+-- so it is for each of the six calls, whatever they are given
 pub record ResultsAndRefusalsApart : Type 0 where
   pub check : (areas values : List ℕ) (slopes : List ℤ) (code : ℕ) →
       Apart pos (on-lists areas values slopes (λ ps. check-answer ps code))
@@ -32,3 +33,5 @@ pub record ResultsAndRefusalsApart : Type 0 where
       Apart pos (on-lists areas values slopes (λ ps. sheet-answer ps code start step entries))
   pub opened : (bytes : List ℕ) (areas values slopes : ℕ) →
       Apart c-shape-and-count (open-answer bytes areas values slopes)
+  pub written : (areas values : List ℕ) (slopes : List ℤ) (code buffer : ℕ) →
+      Apart pos (on-lists areas values slopes (λ ps. write-answer ps code buffer))
