@@ -8,21 +8,21 @@
 use mathlib.Core.Path.{_≡_, _∙_, ap, subst⁻¹}
 use mathlib.Core.Bool.{false, not}
 use mathlib.Core.List.{List, [], _∷_}
-use mathlib.Core.Option.{none, some}
-use Prim.Native.Nat.{ℕ, suc, _≤_}
+use mathlib.Core.Option.{Option, none, some}
+use Prim.Native.Nat.{ℕ, zero, suc, _≤_, _<_}
 use native.Mathlib.Nat.{le-trans}
 use native.Mathlib.Omega.{arith}
 use borrow.Author.Tests.{not-false}
 use lib.Dec.{T}
 use lib.ListN.{length}
 use Rattle.exact.specs.Rounding.{round}
-use Rattle.model.specs.Answer.{gives, row}
+use Rattle.model.specs.Answer.{gives, row, _then_}
 use Rattle.model.specs.Points.{points-least, points-most, area-most, Point, Segment, segments, Shape, shape-of}
 use Rattle.model.specs.Interpolant.{interpolant}
 use Rattle.model.specs.Shape.{has-shape}
 use Rattle.model.specs.Check.{bad-count, bad-code, point-rows, segment-rows, curve-rows}
 use Rattle.model.specs.Read.{value-in, outside, exact-value, reading}
-use Rattle.model.specs.Inner.{Accepted, between, segment-at, areas-of, Limits, Neighbours, Good, Inside, Taken, Readable}
+use Rattle.model.specs.Inner.{Accepted, between, point-at, segment-at, areas-of, Limits, Neighbours, Good, Inside, Taken, Readable}
 use Rattle.model.proofs.Walk.{Chain, end, link, taken-is-stop, good-ordered}
 use Rattle.model.proofs.Indexed.{Chained, chained, stop-in, stop-at, stop-in-inside}
 use Rattle.model.proofs.Rows.{then-first, then-rest, row-passed, count-of-row-1, code-of-row-2, passed, neighbours}
@@ -43,6 +43,13 @@ good-chain shape i (link {p = p} {q = q} n c) e =
     link (record { ends = n; shaped = subst⁻¹ T (not-false (has-shape shape (between p q)) shaped) tt })
     (good-chain shape (suc i) c (then-rest (row (not (has-shape shape (between p q))) 6 i) _ e))
 
+-- rows 3 to 5, point by point
+limited : (i : ℕ) (before : Option ℕ) (ps : List Point) → point-rows i before ps ≡ gives tt → (j : ℕ) → j < length ps →
+    Limits (point-at ps j)
+limited i before [] e j h = absurd (omega arith)
+limited i before (p ∷ ps) e zero h = passed i before p ps e .limits
+limited i before (p ∷ ps) e (suc j) h = limited (suc i) (some (p .area)) ps (passed i before p ps e .later) j (omega arith)
+
 -- rows 1 and 3 to 5, then 6, as facts
 pub neighbours-of-rows : (ps : List Point) → points-least ≤ length ps → point-rows 0 none ps ≡ gives tt → Chained Neighbours ps
 neighbours-of-rows [] h e = absurd (omega arith)
@@ -60,17 +67,21 @@ module _ {ps : List Point} {code : ℕ} (k : Accepted ps code) where
   unfolding curve-rows
   count-of = count-of-row-1 (length ps) (row-passed (bad-count (length ps)) 1 0 _ (k .none-applies))
 
-  pub code-of : code ≤ 255
+  after-1 : (row (bad-code code) 2 0 then point-rows 0 none ps then segment-rows 0 (shape-of code) (segments ps)) ≡ gives tt
   unfolding curve-rows
-  code-of =
-      let after-1 = then-rest (row (bad-count (length ps)) 1 0) _ (k .none-applies) in
-      code-of-row-2 code (row-passed (bad-code code) 2 0 _ after-1)
+  after-1 = then-rest (row (bad-count (length ps)) 1 0) _ (k .none-applies)
+
+  after-2 : (point-rows 0 none ps then segment-rows 0 (shape-of code) (segments ps)) ≡ gives tt
+  after-2 = then-rest (row (bad-code code) 2 0) _ after-1
+
+  pub code-of : code ≤ 255
+  code-of = code-of-row-2 code (row-passed (bad-code code) 2 0 _ after-1)
+
+  pub limits-of : (i : ℕ) → i < length ps → Limits (point-at ps i)
+  limits-of = limited 0 none ps (then-first (point-rows 0 none ps) _ after-2)
 
   pub chained-of : Chained (Good (shape-of code)) ps
-  unfolding curve-rows
   chained-of =
-      let after-1 = then-rest (row (bad-count (length ps)) 1 0) _ (k .none-applies) in
-      let after-2 = then-rest (row (bad-code code) 2 0) _ after-1 in
       good-of-rows (shape-of code) (neighbours-of-rows ps (count-of .0) (then-first (point-rows 0 none ps) _ after-2))
       (then-rest (point-rows 0 none ps) _ after-2)
 

@@ -1,18 +1,17 @@
 -- `layout::bad_head` meets its contract: the number of the first 4 bytes says what each of them is.
 -- Assumes nothing.
 use mathlib.Core.Path.{_≡_, refl, sym}
-use mathlib.Core.Bool.{Bool, true, false, not, _||_}
+use mathlib.Core.Bool.{Bool, true, false, not}
 use mathlib.Core.List.{List}
 use Prim.Native.Nat.{ℕ, zero, suc, _+_, _*_}
 use native.Mathlib.Omega.{arith}
 use borrow.Author.Needs.{needs}
-use borrow.Author.Tests.{lt-ltb, le-ltb, eq-eqb, ne-eqb, eqb-true, not-false}
-use lib.Dec.{eqb, ltb}
-use lib.ListN.{length}
-use Rattle.exact.proofs.Tests.{or-left, or-right}
-use Rattle.layout.specs.Layout.{head-size, byte, version}
+use borrow.Author.Tests.{lt-ltb, le-ltb, eq-eqb, ne-eqb}
+use lib.Dec.{eqb}
+use Rattle.layout.specs.Layout.{byte}
 use Rattle.layout.specs.Head.{bad-head, wrong-mark}
 use Rattle.layout.proofs.Numbers.{two-bytes}
+use Rattle.layout.proofs.Heads.{marked}
 use Rattle.layout.proofs.bad_head.Statement.{statement}
 use Rattle.layout.proofs.bad_head.Tie as tie
 
@@ -28,23 +27,8 @@ module _ (bytes : List ℕ) where
   abbrev first-word : ℕ
   first-word = byte bytes 0 + 256 * byte bytes 1 + 65536 * byte bytes 2 + 16777216 * byte bytes 3
 
-  abbrev other : ℕ → ℕ → Bool
-  other at b = not (eqb (byte bytes at) b)
-
-  abbrev other-version : Bool
-  other-version = not (eqb (version bytes) 1)
-
   word-of-good : bad-head bytes ≡ false → first-word ≡ mark-and-1
-  unfolding bad-head wrong-mark
-  word-of-good e =
-      let short = ltb (length bytes) head-size in
-      let mark = or-right short (wrong-mark bytes) (or-left (short || wrong-mark bytes) other-version e) in
-      let letters = or-left (other 0 84 || other 1 82) (other 2 70) mark in
-      let t = eqb-true (byte bytes 0) 84 (not-false _ (or-left (other 0 84) (other 1 82) letters)) in
-      let r = eqb-true (byte bytes 1) 82 (not-false _ (or-right (other 0 84) (other 1 82) letters)) in
-      let f = eqb-true (byte bytes 2) 70 (not-false _ (or-right (other 0 84 || other 1 82) (other 2 70) mark)) in
-      let v = eqb-true (version bytes) 1 (not-false _ (or-right (short || wrong-mark bytes) other-version e)) in
-      omega (arith, t, r, f, v, two-bytes bytes 3)
+  word-of-good e = let m = marked bytes e in omega (arith, m .t, m .r, m .f, m .first-version, two-bytes bytes 3)
 
 upper-byte : (b : ℕ) → not (eqb b 0) ≡ not (eqb (1 + 256 * b) 1)
 upper-byte zero = refl
