@@ -2,3 +2,4 @@
 pub mod Open
 pub mod Write
 pub mod Calls
+pub mod Laws
