@@ -277,6 +277,7 @@ WRITE_ROWS = CHECKED + REFUSED_FAULT + WRITE_LENGTH + WRITE_ROOM
 WRITE_MARK = '    memcpy(out, "TRF\\1\\0", 5);\n'
 WRITE_SHAPE = '    out[5] = (uint8_t)shape;\n'
 WRITE_COUNT = '    out[6] = (uint8_t)c.count;\n'
+STORE = '    memcpy(p, &x, 4);\n'
 WRITE_LOOP = 'for (size_t i = 0; i < c.count; i++) {'
 WRITE_RECORD = 'out + 7 + 12 * i;'
 WRITE_SLOPE = '(uint32_t)p.slope);'
@@ -365,19 +366,16 @@ WRITE_BYTES = [
      'store32(record, p.value);\n        store32(record + 4, p.area);'),
     ('store32(record + 4, p.value);\n        store32(record + 8, (uint32_t)',
      'store32(record + 8, p.value);\n        store32(record + 4, (uint32_t)'),
-    # the order of a field's bytes
-    ('(x >> 8);\n    p[2] = (uint8_t)(x >> 16);',
-     '(x >> 16);\n    p[2] = (uint8_t)(x >> 8);'),
-    ('static inline void store32(uint8_t *p, uint32_t x)\n{\n',
-     'static inline void store32(uint8_t *p, uint32_t x)\n{\n'
-     '    x = __builtin_bswap32(x);\n'),
-    ('static inline void store32(uint8_t *p, uint32_t x)\n{\n',
-     'static inline void store32(uint8_t *p, uint32_t x)\n{\n'
-     '    x = x >> 16 | x << 16;\n'),
-    ('    p[3] = (uint8_t)(x >> 24);', ''),
-    ('    p[3] = (uint8_t)(x >> 24);', '    p[3] = 0;'),
-    ('    p[2] = (uint8_t)(x >> 16);', ''),
-    ('    p[1] = (uint8_t)(x >> 8);', ''),
+    # the order of a field's bytes, and bytes not written
+    (STORE, 'x = (x & 0xFF0000FF) | (x >> 8 & 0xFF00) | (x & 0xFF00) << 8;\n'
+     + STORE),
+    (STORE, 'x = __builtin_bswap32(x);\n' + STORE),
+    (STORE, 'x = x >> 16 | x << 16;\n' + STORE),
+    (STORE, 'memcpy(p, &x, 3);'),
+    (STORE, 'memcpy(p, &x, 2);'),
+    (STORE, 'memcpy(p + 1, (uint8_t *)&x + 1, 3);'),
+    (STORE, 'p[0] = (uint8_t)x;\n    memcpy(p + 2, (uint8_t *)&x + 2, 2);'),
+    (STORE, 'x &= 0xFFFFFF;\n' + STORE),
     # fields cut
     ('store32(record, p.area);', 'store32(record, (uint8_t)p.area);'),
     ('store32(record, p.area);', 'store32(record, p.area & 0x3FFF);'),
