@@ -7,7 +7,9 @@
  * that ends early, with fewer than LEAST cases, or with fewer than a
  * thirtieth of that for a call, or if a call never gave a result or one of
  * the refusal numbers that it can give. Each case is run with its lists at
- * the start and at the end of pages, against pages that trap.
+ * the start and at the end of pages, against pages that trap. What was written
+ * is opened again and must be the lists that went in; what was opened is
+ * written again and must be the file that went in.
  *
  *     heap    each list is a block of its own, for a memory checker
  *     some    not every call and refusal is asked for

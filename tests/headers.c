@@ -78,8 +78,9 @@ static void words(void)
     for (int n = 1; n <= 12; n++) {
         expect("words", strlen(curve_refusal_words(n)) > 10);
         expect("known", strcmp(curve_refusal_words(n), unknown) != 0);
-        expect("a desk's words", n == 8 || (strcmp(desk_reason(n), unknown) &&
-                                            strlen(desk_reason(n)) > 10));
+        expect("a desk's words", n == 8 || n == 12 ||
+                                     (strcmp(desk_reason(n), unknown) &&
+                                      strlen(desk_reason(n)) > 10));
         for (int m = 1; m < n; m++)
             expect("its own words", strcmp(curve_refusal_words(n),
                                            curve_refusal_words(m)) != 0);
