@@ -31,6 +31,7 @@ typedef struct {
     __typeof__(curve_pair) *pair;
     __typeof__(curve_check) *check;
     __typeof__(curve_open) *open;
+    __typeof__(curve_write) *write;
     __typeof__(curve_sheet) *sheet;
 } version;
 
@@ -43,12 +44,14 @@ DECLARE(curve_read)
 DECLARE(curve_pair)
 DECLARE(curve_check)
 DECLARE(curve_open)
+DECLARE(curve_write)
 DECLARE(curve_sheet)
 __typeof__(steffen_sheet) steffen_sheet WEAK;
 
 #define ALL(prefix)                                                            \
     {prefix##desk_reading, prefix##curve_read, prefix##curve_pair,             \
-     prefix##curve_check,  prefix##curve_open, prefix##curve_sheet}
+     prefix##curve_check,  prefix##curve_open, prefix##curve_write,            \
+     prefix##curve_sheet}
 static const version versions[VERSIONS] = {ALL(), ALL(plain_), ALL(native_)};
 
 /* ---- inputs ---- */
@@ -121,6 +124,7 @@ typedef struct {
     uint8_t scratch[DESK_SCRATCH_MAX];
     uint32_t areas[CURVE_POINTS_MAX], values[CURVE_POINTS_MAX];
     int32_t slopes[CURVE_POINTS_MAX];
+    uint8_t file[CURVE_FILE_MAX];
     int32_t sheet[ENTRIES];
 } output;
 
@@ -160,6 +164,11 @@ static inline int64_t one_open(const version *v, int i, output *to)
     const curve *c = &curves[i % CURVES];
     return v->open(c->file, c->file_len, to->areas, CURVE_POINTS_MAX,
                    to->values, CURVE_POINTS_MAX, to->slopes, CURVE_POINTS_MAX);
+}
+
+static inline int64_t one_write(const version *v, int i, output *to)
+{
+    return v->write(LISTS(&curves[i % CURVES]), to->file, CURVE_FILE_MAX);
 }
 
 /* From the first area on, as far as whole steps go. */
@@ -224,6 +233,7 @@ BATCH(read)
 BATCH(pair)
 BATCH(check)
 BATCH(open)
+BATCH(write)
 
 /* Nanoseconds for one entry, which do not depend much on the points. */
 static double sheet_batch(const version *v, int loops)
@@ -384,6 +394,7 @@ int main(int argc, char **argv)
         CALL("pair", curve_pair, pair, CALLS, 1),
         CALL("check", curve_check, check, CALLS, 1),
         CALL("open", curve_open, open, CALLS, 1),
+        CALL("write", curve_write, write, CALLS, 1),
     };
     size_t count = sizeof calls / sizeof *calls;
     if (argc != 2)

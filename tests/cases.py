@@ -15,9 +15,9 @@ The stream, little-endian: the number of kinds (1 byte), each kind's name
     the lists               in the call's order: as they go in, or as they are
                             after the call if they are lent to be written
 
-Before the call byte i of a list that is lent to be written is fill + 31 * i,
-modulo 256. After the last case comes kind 255 with the number of cases as its
-first number.
+Before the call byte i of a list that is lent to be written is 1 more than
+fill + 31 * i modulo 255, so never 0. After the last case comes kind 255 with
+the number of cases as its first number.
 """
 
 import argparse
@@ -32,15 +32,16 @@ import list_kinds
 
 SEED = 'factor curves 2'
 CHUNK = 500                     # cases that one random generator makes
-CALLS = ['desk', 'check', 'read', 'pair', 'sheet', 'open']
+CALLS = ['desk', 'check', 'read', 'pair', 'sheet', 'open', 'write']
+LIMITS = [(0, 20000), (0, 200000), (-10000, -1, 0, 1, 10000)]
 HEAD = struct.Struct('<BBB3I4Iq')
-PERIODS = [bytes((fill + 31 * i) & 255 for i in range(256))
+PERIODS = [bytes(1 + (fill + 31 * i) % 255 for i in range(255))
            for fill in range(256)]
 
 
 def found(fill, size):
     """The bytes of a list before the call, if it is lent to be written."""
-    return (PERIODS[fill] * (size // 256 + 1))[:size]
+    return (PERIODS[fill] * (size // 255 + 1))[:size]
 
 
 def numbers(letter, data):
@@ -93,8 +94,14 @@ def open_file(fill, data, lengths):
     return answer, [], [data] + points_packed(after)
 
 
-FUNCTIONS = [desk, check, read, pair, sheet, open_file]
-WIDTHS = [(1, 1), (4, 4, 4), (4, 4, 4), (4,) * 4, (4,) * 4, (1, 4, 4, 4)]
+def write(fill, lists, shape, length):
+    answer, after = ref.curve_write(*lists, shape, found(fill, length))
+    return answer, [shape], points_packed(lists) + [after]
+
+
+FUNCTIONS = [desk, check, read, pair, sheet, open_file, write]
+WIDTHS = [(1, 1), (4, 4, 4), (4, 4, 4), (4,) * 4, (4,) * 4, (1, 4, 4, 4),
+          (4, 4, 4, 1)]
 
 
 def expected(fill, call, arguments):
@@ -127,19 +134,64 @@ def curve_of(call, arguments):
     return arguments[1], len(arguments[0][0])
 
 
+def limits_of(call, arguments):
+    """The limits that the points of an accepted curve have."""
+    count = curve_of(call, arguments)[1]
+    lists = ref.file_lists(arguments[0]) if call == 'open' else arguments[0]
+    for field, limits in enumerate(LIMITS):
+        for limit in set(limits).intersection(lists[field]):
+            yield call, 'limit', count, field, limit
+
+
+def noted_of_write(arguments, number, place):
+    """What a case of Write shows of its buffer."""
+    lists, _, length = arguments
+    count = len(lists[0])
+    room = length - 7 - 12 * count              # beyond the file
+    if number in ('ok', 12):
+        yield 'room', count, max(-2, min(room, 2))
+    else:
+        yield 'short' if room < 0 else 'enough', number, place
+    if length == 0:
+        yield 'no bytes', number
+
+
 def noted(call, arguments, answer):
     """What this case shows: a refusal, or an accepted curve."""
     number, result = outcome(call, answer)
+    if call == 'write':
+        yield from noted_of_write(arguments, number, result)
     if number != 'ok':
         yield call, number, result
         return
     yield (call, 'ok') + curve_of(call, arguments)
     if call == 'sheet':
         yield 'entries', result
+    if call in ('open', 'write'):
+        yield from limits_of(call, arguments)
+
+
+def wanted_of_files():
+    """What Open and Write must have shown of limits, Write of its buffer."""
+    for call in ('open', 'write'):
+        for field, limits in enumerate(LIMITS):
+            for limit in limits:
+                yield call, 'limit', 2, field, limit
+                yield call, 'limit', 64, field, limit
+    for count in range(2, 65):
+        for room in (-1, 0, 1, 2):
+            yield 'room', count, room
+    for number, places in ((1, 1), (2, 1), (3, 64), (4, 64), (5, 64), (6, 63)):
+        yield 'no bytes', number
+        for place in range(places):
+            yield 'short', number, place
+            yield 'enough', number, place
+    yield 'no bytes', 12
 
 
 def wanted():
     """All that a whole run must have seen."""
+    yield from wanted_of_files()
     for call in CALLS:
         for count in range(2, 65):
             yield call, 'ok', 1, count
@@ -154,7 +206,7 @@ def wanted():
         for number in (9, 10, 11):
             yield call, number, 0
     yield from [('desk', 7, 0), ('read', 7, 0), ('pair', 7, 0), ('pair', 7, 1),
-                ('pair', 11, 0), ('sheet', 8, 0)]
+                ('pair', 11, 0), ('sheet', 8, 0), ('write', 12, 0)]
     for place in range(list_kinds.ENTRIES_MAX):
         yield 'sheet', 7, place
     for entries in (1, 2, 1023, 1024):

@@ -7,7 +7,9 @@
  * that ends early, with fewer than LEAST cases, or with fewer than a
  * thirtieth of that for a call, or if a call never gave a result or one of
  * the refusal numbers that it can give. Each case is run with its lists at
- * the start and at the end of pages, against pages that trap.
+ * the start and at the end of pages, against pages that trap. What was written
+ * is opened again and must be the lists that went in; what was opened is
+ * written again and must be the file that went in.
  *
  *     heap    each list is a block of its own, for a memory checker
  *     some    not every call and refusal is asked for
@@ -23,7 +25,7 @@
 #include "factor_curves.h"
 #include "lend.h"
 
-enum { NUMBER_MAX = 11, SHOWN = 5, ENTRIES_SHOWN = 70 };
+enum { NUMBER_MAX = 12, SHOWN = 5, ENTRIES_SHOWN = 70 };
 
 static unsigned long ran[KINDS_MAX], failures, below_zero, filled;
 static unsigned long called[CALLS], refusals[CALLS][NUMBER_MAX + 1];
@@ -126,6 +128,45 @@ static int desk_agrees(const test_case *c, const uint8_t *file, int64_t desk)
     return desk == other;
 }
 
+/* The bytes that were written open as the lists that went in. */
+static int opens_again(const test_case *c, uint8_t *const list[], size_t length)
+{
+    uint32_t areas[CURVE_COUNT_MAX], values[CURVE_COUNT_MAX];
+    int32_t slopes[CURVE_COUNT_MAX];
+    int64_t opened = curve_open(list[3], length, areas, CURVE_COUNT_MAX,
+                                values, CURVE_COUNT_MAX, slopes,
+                                CURVE_COUNT_MAX);
+    return !CURVE_IS_REFUSED(opened) && CURVE_SHAPE(opened) == c->number[0] &&
+           CURVE_COUNT(opened) == c->length[0] &&
+           memcmp(areas, list[0], c->size[0]) == 0 &&
+           memcmp(values, list[1], c->size[1]) == 0 &&
+           memcmp(slopes, list[2], c->size[2]) == 0;
+}
+
+/* The points that were opened are written as the bytes that went in. */
+static int writes_again(const test_case *c, uint8_t *const list[],
+                        int64_t opened)
+{
+    uint8_t file[CURVE_FILE_MAX];
+    size_t count = CURVE_COUNT(opened);
+    fill_list(file, sizeof file, c->fill);
+    return curve_write((const uint32_t *)list[1], count,
+                       (const uint32_t *)list[2], count,
+                       (const int32_t *)list[3], count, CURVE_SHAPE(opened),
+                       file, sizeof file) == c->length[0] &&
+           memcmp(file, list[0], c->size[0]) == 0;
+}
+
+/* There and back, where the result is the expected one. */
+static int comes_back(const test_case *c, uint8_t *const list[], int64_t got)
+{
+    if (got != c->wanted || CURVE_IS_REFUSED(got))
+        return 1;
+    if (c->call == WRITE)
+        return opens_again(c, list, (size_t)got);
+    return c->call != OPEN || writes_again(c, list, got);
+}
+
 static void run_case(const test_case *c, int where)
 {
     uint8_t *list[LISTS];
@@ -136,6 +177,8 @@ static void run_case(const test_case *c, int where)
         show(c, got, "entries beside a list were changed", -1);
     if (c->call == DESK && !desk_agrees(c, list[0], got))
         show(c, got, "Open and Read say something else", -1);
+    if (!comes_back(c, list, got))
+        show(c, got, "not the same after Write and Open", -1);
     give_back(where, list);
 }
 
@@ -165,9 +208,10 @@ static void run_all(test_case *c)
 static int can_give(int call, int number)
 {
     static const char *const numbers[CALLS] = {
-        [DESK] = "111111110111", [CHECK] = "111111100000",
-        [READ] = "111111110000", [PAIR] = "111111110001",
-        [SHEET] = "111111111000", [OPEN] = "111111100111"};
+        [DESK] = "1111111101110", [CHECK] = "1111111000000",
+        [READ] = "1111111100000", [PAIR] = "1111111100010",
+        [SHEET] = "1111111110000", [OPEN] = "1111111001110",
+        [WRITE] = "1111111000001"};
     return numbers[call][number] == '1';
 }
 

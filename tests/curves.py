@@ -228,6 +228,42 @@ def limit_curve(rng):
     return limit_convex(rng), CONVEX
 
 
+def convex_through(rng, slopes, gap):
+    """A convex curve of these slopes, each above the one before.
+
+    A gap of 101 or more has room for a chord between any two of them.
+    """
+    rises = []
+    for left, right in zip(slopes, slopes[1:]):
+        least, most = gap * left // 100 + 1, (gap * right - 1) // 100
+        rises.append(rng.choice([least, most, rng.randint(least, most)]))
+    heights = running(0, rises)
+    low, high = min(heights), max(heights)
+    start = rng.choice([0, VALUE_MAX - (high - low)]) - low
+    areas = running(rng.choice([0, AREA_MAX - gap * len(rises)]),
+                    [gap] * len(rises))
+    return list(zip(areas, running(start, rises), slopes))
+
+
+def limit_file(rng):
+    """(points, shape) of 2 or 64 points with fields at their limits."""
+    count = rng.choice([2, POINTS_MAX])
+    if rng.random() < 0.5:
+        gap = rng.choice([1, GAP_MAX]) if count == 2 else AREA_MAX // 63
+        rise = rng.choice([1, VALUE_MAX // (count - 1)])
+        areas = [AREA_MAX - gap * i for i in range(count)][::-1]
+        values = [VALUE_MAX - rise * i for i in range(count)][::-1]
+        slopes = [rng.choice([0, 1, SLOPE_MAX]) for _ in range(count)]
+        return list(zip(areas, values, slopes)), RISING
+    slopes = [-SLOPE_MAX, -1, 0, 1, SLOPE_MAX]
+    if count == 2:
+        gap = rng.choice([101, GAP_MAX, rng.randint(101, GAP_MAX)])
+        return convex_through(rng, sorted(rng.sample(slopes, 2)), gap), CONVEX
+    slopes += rng.sample(range(2, 3000), 30)
+    slopes += [-slope for slope in rng.sample(range(2, 3000), 29)]
+    return convex_through(rng, sorted(slopes), 101), CONVEX
+
+
 def dipping_curve(rng):
     """Two low points, the curve falling from the left and to the right."""
     gap = rng.choice([2, 3, 5, rng.randint(2, GAP_MAX), GAP_MAX])

@@ -259,6 +259,31 @@ def open_file(data, lengths):
     return ('ok', shape, count, list(zip(areas, values, slopes)))
 
 
+def file_of(areas, values, slopes, shape):
+    """The bytes of an accepted curve's file."""
+    data = b'TRF' + (1).to_bytes(2, 'little') + bytes([shape, len(areas)])
+    for point in range(len(areas)):
+        data += areas[point].to_bytes(4, 'little')
+        data += values[point].to_bytes(4, 'little')
+        data += slopes[point].to_bytes(4, 'little', signed=True)
+    return data
+
+
+def write(areas, values, slopes, shape, buffer):
+    """Document 02, item 1: rows 1 to 6, then 12.
+
+    Result: the length written, and the buffer after the call: the file,
+    and after it the bytes as found. After a refusal all bytes are.
+    """
+    checked = check(areas, values, slopes, shape)
+    if checked[0] == 'refused':
+        return checked
+    if len(buffer) < 7 + 12 * len(areas):
+        return refused(12, 0)
+    data = file_of(areas, values, slopes, shape)
+    return ('ok', len(data), data + buffer[len(data):])
+
+
 def desk(data, area, scratch):
     """Rows 9, 10, 11, 1 to 6, then 7.
 
@@ -329,6 +354,13 @@ def curve_open(data, areas, values, slopes):
             [point[0] for point in points] + areas[count:],
             [point[1] for point in points] + values[count:],
             [point[2] for point in points] + slopes[count:])
+
+
+def curve_write(areas, values, slopes, shape, out):
+    answer = write(areas, values, slopes, shape, out)
+    if answer[0] == 'refused':
+        return number_of(answer), out
+    return number_of(answer), answer[2]
 
 
 # ---- Document 01, The curve file: the program ----

@@ -1,6 +1,7 @@
 """Document 01's examples as cases for client.c, to standard output.
 
-The expected answers are those that document 01 states. If exact_fractions.py
+The expected answers are those that document 01 states, and document 02 of the
+file that is written. If exact_fractions.py
 gives another, it is said and the exit status is 1.
 """
 
@@ -50,6 +51,7 @@ def passes(points, shape):
     yield 'check', (lists, shape), count - 1, None
     yield ('open', (data, (count,) * 3), 256 * shape + count,
            [list(fields) for fields in lists])
+    yield 'write', (lists, shape, len(data)), len(data), [data]
 
 
 def not_accepted(points, shape, number, place):
@@ -58,6 +60,8 @@ def not_accepted(points, shape, number, place):
     answer = refusal(number, place)
     yield 'check', (lists, shape), answer, None
     yield 'open', (data, (len(points),) * 3), answer, None
+    yield 'write', (lists, shape, len(data)), answer, None
+    yield 'write', (lists, shape, 0), answer, None
     yield from refused(points, shape, points[0][0], number, place)
 
 
@@ -74,6 +78,10 @@ def file_31_bytes():
         yield 'desk', (data, area, 24), factor, [data[7:]]
     yield ('sheet', (curves.lists(STEEP), 2, 500, 25, 5), 5,
            [[factor for _, factor in printed]])
+    steep = curves.lists(STEEP)
+    yield 'write', (steep, 2, 31), 31, [data]
+    yield 'write', (steep, 2, 33), 31, [data + cases.found(FILL, 33)[31:]]
+    yield 'write', (steep, 2, 30), refusal(12, 0), None
 
 
 def sheet_entries():
@@ -116,7 +124,7 @@ def written(call, arguments, after):
     """The lists that are lent to be written, after the call, as bytes."""
     if call in ('check', 'read'):
         return []
-    if call == 'desk':
+    if call in ('desk', 'write'):
         return after or [cases.found(FILL, arguments[-1])]
     if after is None:
         lengths = arguments[-1] if call == 'open' else arguments[-1:]

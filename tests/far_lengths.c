@@ -1,7 +1,7 @@
 /*
  * Lengths that 32 bits cannot hold. A list of 2^32 entries and more is good
  * memory here, of which only the first page can be written; nothing beyond it
- * may change. Expected answers are those of document 01's rows.
+ * may change. Expected answers are those of the documents' rows.
  *
  * Exit status: 0 as expected, 1 a difference, 3 no such memory to be had.
  */
@@ -55,6 +55,7 @@ static void read_far_lists(void)
     uint32_t *v = far_list(values, sizeof values);
     int32_t *s = far_list(slopes, sizeof slopes);
     int32_t out[] = {7, 7, 7};
+    uint8_t buffer[31] = {7};
     size_t n = FAR + 2;
     expect("check", curve_check(a, 2, v, 2, s, 2, 2), 1);
     expect("areas", curve_check(a, n, v, 2, s, 2, 2), REFUSED(1));
@@ -70,6 +71,9 @@ static void read_far_lists(void)
     expect("sheet", curve_sheet(a, n, v, n, s, n, 2, 550, 1, out, 3),
            REFUSED(1));
     expect("out as found", out[0] == 7 && out[1] == 7 && out[2] == 7, 1);
+    expect("write", curve_write(a, n, v, n, s, n, 2, buffer, 31), REFUSED(1));
+    expect("write", curve_write(a, 2, v, n, s, 2, 2, buffer, 31), REFUSED(1));
+    expect("buffer as found", buffer[0] == 7 && buffer[6] == 0, 1);
 }
 
 static void write_far_lists(void)
@@ -108,6 +112,22 @@ static void open_far_lists(void)
     expect("records", memcmp(scratch, file + 7, 24), 0);
 }
 
+static void write_far_buffer(void)
+{
+    static const uint8_t found[32] = {7, [31] = 7};
+    uint8_t *out = far_list(found, sizeof found);
+    expect("write, no shape", curve_write(areas, 2, values, 2, slopes, 2, 3,
+                                          out, FAR + 4), REFUSED(2));
+    expect("no byte written", memcmp(out, found, sizeof found), 0);
+    for (size_t more = 0; more < 32; more += 4) {
+        memcpy(out, found, sizeof found);
+        expect("write", curve_write(areas, 2, values, 2, slopes, 2, 2, out,
+                                    FAR + more), 31);
+        expect("file", memcmp(out, file, sizeof file), 0);
+        expect("byte after the file", out[31], 7);
+    }
+}
+
 int main(void)
 {
     if (sizeof(size_t) < 8)
@@ -115,6 +135,7 @@ int main(void)
     read_far_lists();
     write_far_lists();
     open_far_lists();
+    write_far_buffer();
     printf("%d tests, %d failures\n", tests, failures);
     return failures > 0 || tests == 0;
 }

@@ -1,4 +1,7 @@
-/* What the headers define: sizes, numbers, answers taken apart, words. */
+/*
+ * What the headers define: sizes, numbers, answers taken apart, words, calls.
+ * Good C99 and C++.
+ */
 #include <stdio.h>
 #include <string.h>
 
@@ -23,31 +26,33 @@ static void sizes(void)
     expect("entries", CURVE_ENTRIES_MAX == 1024);
     expect("count", CURVE_COUNT_MAX == 255 && DESK_COUNT_MAX == 255);
     expect("shapes", CURVE_RISING == 1 && CURVE_CONVEX == 2);
-    expect("file", DESK_FILE_MAX == 7 + 12 * 64);
+    expect("file", CURVE_FILE_MAX == 7 + 12 * 64 &&
+                       DESK_FILE_MAX == 7 + 12 * 64);
     expect("scratch", DESK_SCRATCH_MAX == 12 * 64);
     expect("any scratch", DESK_SCRATCH_ENOUGH == 12 * 255);
 }
 
-/* Document 01, Refusals and their places. */
+/* Document 01, Refusals and their places; document 02, item 1: number 12. */
 static void numbers(void)
 {
     static const int curve[] = {
         CURVE_REFUSED_COUNT, CURVE_REFUSED_SHAPE, CURVE_REFUSED_AREA,
         CURVE_REFUSED_VALUE, CURVE_REFUSED_SLOPE, CURVE_REFUSED_SEGMENT,
         CURVE_REFUSED_OUTSIDE, CURVE_REFUSED_SHEET, CURVE_REFUSED_MARK,
-        CURVE_REFUSED_LENGTH, CURVE_REFUSED_ROOM};
+        CURVE_REFUSED_LENGTH, CURVE_REFUSED_ROOM, CURVE_REFUSED_BUFFER};
     static const int desk[] = {
         DESK_REFUSED_COUNT, DESK_REFUSED_SHAPE, DESK_REFUSED_AREA,
         DESK_REFUSED_VALUE, DESK_REFUSED_SLOPE, DESK_REFUSED_SEGMENT,
         DESK_REFUSED_OUTSIDE, 8, DESK_REFUSED_MARK, DESK_REFUSED_LENGTH,
         DESK_REFUSED_SCRATCH};
-    for (int i = 0; i < 11; i++)
-        expect("a refusal's number", curve[i] == i + 1 && desk[i] == i + 1);
+    for (int i = 0; i < 12; i++)
+        expect("a refusal's number",
+               curve[i] == i + 1 && (i == 11 || desk[i] == i + 1));
 }
 
 static void answers(void)
 {
-    for (int number = 1; number <= 11; number++) {
+    for (int number = 1; number <= 12; number++) {
         const uint32_t places[] = {0, 1, 63, 1023, UINT32_MAX};
         for (int i = 0; i < 5; i++) {
             int64_t answer = -((int64_t)number * 4294967296 + places[i]);
@@ -70,18 +75,48 @@ static void answers(void)
 static void words(void)
 {
     const char *unknown = curve_refusal_words(0);
-    for (int n = 1; n <= 11; n++) {
+    for (int n = 1; n <= 12; n++) {
         expect("words", strlen(curve_refusal_words(n)) > 10);
         expect("known", strcmp(curve_refusal_words(n), unknown) != 0);
-        expect("a desk's words", n == 8 || (strcmp(desk_reason(n), unknown) &&
-                                            strlen(desk_reason(n)) > 10));
+        expect("a desk's words", n == 8 || n == 12 ||
+                                     (strcmp(desk_reason(n), unknown) &&
+                                      strlen(desk_reason(n)) > 10));
         for (int m = 1; m < n; m++)
             expect("its own words", strcmp(curve_refusal_words(n),
                                            curve_refusal_words(m)) != 0);
     }
-    const int others[] = {-1, 12, 256 + 1, 2147483647, -2147483647 - 1};
+    const int others[] = {-1, 13, 256 + 1, 2147483647, -2147483647 - 1};
     for (int i = 0; i < 5; i++)
         expect("unknown", strcmp(curve_refusal_words(others[i]), unknown) == 0);
+}
+
+#define THREE_LISTS                                                            \
+    const uint32_t *, size_t, const uint32_t *, size_t, const int32_t *, size_t
+
+/* What the calls take and give; document 01's K3 by each of them. */
+static void calls(void)
+{
+    int64_t (*check)(THREE_LISTS, uint32_t) = curve_check;
+    int64_t (*read)(THREE_LISTS, uint32_t, uint32_t) = curve_read;
+    int64_t (*pair)(THREE_LISTS, uint32_t, uint32_t, uint32_t, int32_t *,
+                    size_t) = curve_pair;
+    int64_t (*sheet)(THREE_LISTS, uint32_t, uint32_t, uint32_t, int32_t *,
+                     size_t) = curve_sheet;
+    int64_t (*write)(THREE_LISTS, uint32_t, uint8_t *, size_t) = curve_write;
+    int64_t (*open)(const uint8_t *, size_t, uint32_t *, size_t, uint32_t *,
+                    size_t, int32_t *, size_t) = curve_open;
+    int32_t (*desk)(const uint8_t *, size_t, uint32_t, uint8_t *, size_t) =
+        desk_reading;
+    uint32_t a[] = {500, 600}, v[] = {10000, 14000};
+    int32_t s[] = {0, 10000}, out[3];
+    uint8_t file[CURVE_FILE_MAX], scratch[DESK_SCRATCH_MAX];
+    expect("check", check(a, 2, v, 2, s, 2, CURVE_CONVEX) == 1);
+    expect("read", read(a, 2, v, 2, s, 2, CURVE_CONVEX, 550) == 10800);
+    expect("pair", pair(a, 2, v, 2, s, 2, CURVE_CONVEX, 550, 550, out, 3) == 3);
+    expect("sheet", sheet(a, 2, v, 2, s, 2, CURVE_CONVEX, 550, 1, out, 3) == 3);
+    expect("write", write(a, 2, v, 2, s, 2, CURVE_CONVEX, file, 775) == 31);
+    expect("open", open(file, 31, a, 2, v, 2, s, 2) == 256 * CURVE_CONVEX + 2);
+    expect("desk", desk(file, 31, 550, scratch, 24) == 10800);
 }
 
 int main(void)
@@ -90,6 +125,7 @@ int main(void)
     numbers();
     answers();
     words();
+    calls();
     printf("%d tests, %d failures\n", tests, failures);
     return failures > 0 || tests == 0;
 }

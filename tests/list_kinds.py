@@ -9,6 +9,7 @@ is given by its length:
     'pair', lists, shape, form area, plan area, length of out
     'sheet', lists, shape, start, step, length of out
     'open', file, lengths of the three lists
+    'write', lists, shape, length of out
 """
 
 import curves
@@ -58,10 +59,17 @@ def open_lengths(rng, data):
     return tuple(lengths)
 
 
+def write_room(rng, count):
+    """The length of Write's buffer, mostly enough; below 2^16."""
+    need = 7 + 12 * min(count, 2**12)
+    return need + rng.choice([0, 0, 0, 0, 1, 12, rng.randint(2, 99), -1,
+                              -rng.randint(1, need), -need])
+
+
 def further(rng, data, area):
     """Another call than the desk's, on the file or on its points."""
     call = rng.choice(['read', 'read', 'read', 'pair', 'pair', 'sheet',
-                       'sheet', 'open', 'open', 'check'])
+                       'sheet', 'open', 'open', 'check', 'write'])
     if call == 'open' or ref.file_fault(data) is not None:
         return 'open', data, open_lengths(rng, data)
     return list_case(rng, call, ref.file_lists(data), data[5], area)
@@ -77,12 +85,14 @@ def list_case(rng, call, lists, shape, area):
         both = [area, other_area(rng, areas, area)]
         rng.shuffle(both)
         return call, lists, shape, *both, pair_room(rng)
+    if call == 'write':
+        return call, lists, shape, write_room(rng, len(areas))
     return call, lists, shape, *small_sheet(rng, areas, area)
 
 
 def list_calls(rng, lists, shape, area):
     """Each of the calls on lists."""
-    for call in ('check', 'read', 'pair', 'sheet'):
+    for call in ('check', 'read', 'pair', 'sheet', 'write'):
         yield list_case(rng, call, lists, shape, area)
 
 
@@ -95,6 +105,7 @@ def all_calls(rng, points, shape, area):
     yield 'sheet', lists, shape, area, 1, 1
     yield 'open', data, (data[6], data[6] + rng.randrange(3), data[6])
     yield 'desk', data, area, 12 * data[6]
+    yield 'write', lists, shape, len(data) + rng.randrange(2)
 
 
 # ---- lists: lengths, shape codes, places ----
@@ -134,8 +145,11 @@ def all_lengths(rng):
     for count in range(71):
         for shape in (1, 2):
             area = rng.randint(0, 3 * max(1, count - 1))
-            yield from all_calls(rng, simple_points(count, shape), shape,
-                                 area)
+            points = simple_points(count, shape)
+            yield from all_calls(rng, points, shape, area)
+            for room in (-1, 0, 1, 2):
+                yield ('write', curves.lists(points), shape,
+                       7 + 12 * count + room)
 
 
 def far_lengths(rng):
@@ -195,8 +209,9 @@ def fault_at(number, place):
 def each_place(rng):
     for number in (3, 4, 5, 6):
         for place in range(63 if number == 6 else 64):
-            yield from all_calls(rng, fault_at(number, place), 1,
-                                 rng.randint(0, 3 * 63))
+            points = fault_at(number, place)
+            yield from all_calls(rng, points, 1, rng.randint(0, 3 * 63))
+            yield 'write', curves.lists(points), 1, rng.randrange(775)
 
 
 # ---- Pair ----
@@ -332,13 +347,52 @@ def far_open_lists(rng):
         yield 'open', many, (length, 255, length)
 
 
+# ---- Write ----
+
+def write_rooms(rng):
+    """Buffers around the file's length, of curves with faults too."""
+    points, shape = any_curve(rng)
+    lists = curves.lists(rng.choice([
+        points, points, points, points, points[:1],
+        curves.past_limit(rng, points),
+        curves.shapeless_points(rng, points)]))
+    if rng.random() < 0.1:
+        lists = resized(rng, lists)
+    code = rng.choice([shape, shape, shape, shape, shape, 0, 256 + shape])
+    need = 7 + 12 * len(lists[0])
+    for length in (need - 1, need, need + 1, need + 12, max(0, need - 12), 0,
+                   6, rng.randrange(need), need + rng.randint(2, 3000)):
+        yield 'write', lists, code, length
+
+
+def far_rooms(rng):
+    """Buffers as long as a byte or two bytes cannot say."""
+    for count in (2, 64):
+        lists = curves.lists(simple_points(count, 2))
+        need = 7 + 12 * count
+        for length in (255, 256, 256 + need, 2**16 - 1, 2**16, 2**16 + 1,
+                       2**16 + need - 1, 2**16 + need):
+            yield 'write', lists, rng.choice([2, 2, 2, 3]), length
+
+
+def limit_files(rng):
+    """2 and 64 points with fields at the limits, written and opened."""
+    points, shape = curves.limit_file(rng)
+    lists, data = curves.lists(points), curve_file(points, shape)
+    count = len(points)
+    for more in (0, 1, -1, rng.randint(2, 99)):
+        yield 'write', lists, shape, len(data) + more
+    yield 'open', data, (count,) * 3
+    yield 'open', data, open_lengths(rng, data)
+
+
 # Kind, its name, and at least how many cases.
 KINDS = [
-    (unequal, 'lists of unequal lengths', 16000),
+    (unequal, 'lists of unequal lengths', 20000),
     (all_lengths, 'lists of 0 to 70 points', 500),
     (far_lengths, 'lists of more points', 60),
-    (same_lists, 'one list for several', 4000),
-    (codes, 'shape codes beyond a byte', 8000),
+    (same_lists, 'one list for several', 5000),
+    (codes, 'shape codes beyond a byte', 10000),
     (each_place, 'each refusal at each place', 500),
     (pair_rooms, 'pair: out short, exact, longer', 8000),
     (pair_areas, 'pair: areas inside and outside', 8000),
@@ -349,4 +403,7 @@ KINDS = [
     (whole_sheets, 'sheet: up to 1,024 entries', 500),
     (open_lists, 'open: lists short, exact, longer', 12000),
     (far_open_lists, 'open: long lists', 20),
+    (write_rooms, 'write: out short, exact, longer', 12000),
+    (far_rooms, 'write: long out', 10),
+    (limit_files, 'write, open: fields at the limits', 6000),
 ]

@@ -11,7 +11,8 @@
 
 const char *const call_names[CALLS] = {"desk_reading", "curve_check",
                                        "curve_read",   "curve_pair",
-                                       "curve_sheet",  "curve_open"};
+                                       "curve_sheet",  "curve_open",
+                                       "curve_write"};
 
 const list_form forms[CALLS][LISTS] = {
     [DESK] = {FILE_BYTES, {1, 1}},
@@ -20,6 +21,7 @@ const list_form forms[CALLS][LISTS] = {
     [PAIR] = {POINT_LISTS, {4, 1}},
     [SHEET] = {POINT_LISTS, {4, 1}},
     [OPEN] = {FILE_BYTES, {4, 1}, {4, 1}, {4, 1}},
+    [WRITE] = {POINT_LISTS, {1, 1}},
 };
 
 char names[KINDS_MAX][256];
@@ -104,7 +106,7 @@ int take_case(test_case *c)
 void fill_list(uint8_t *list, size_t size, uint8_t fill)
 {
     for (size_t i = 0; i < size; i++)
-        list[i] = (uint8_t)(fill + 31 * i);
+        list[i] = (uint8_t)(1 + (fill + 31 * i) % 255);
 }
 
 #define THREE_LISTS (const uint32_t *)list[0], c->length[0],                  \
@@ -128,9 +130,11 @@ int64_t invoke(const test_case *c, uint8_t *const list[LISTS])
     case SHEET:
         return curve_sheet(THREE_LISTS, number[0], number[1], number[2],
                            (int32_t *)list[3], c->length[3]);
-    default:
+    case OPEN:
         return curve_open(list[0], c->length[0], (uint32_t *)list[1],
                           c->length[1], (uint32_t *)list[2], c->length[2],
                           (int32_t *)list[3], c->length[3]);
+    default:
+        return curve_write(THREE_LISTS, number[0], list[3], c->length[3]);
     }
 }

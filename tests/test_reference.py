@@ -1,4 +1,4 @@
-"""Self-check of exact_fractions.py. Expected values are document 01's.
+"""Self-check of exact_fractions.py. Expected values are the documents'.
 
 Run: python3 test_reference.py
 """
@@ -43,6 +43,10 @@ def pair(points, shape, form, plan):
 
 def sheet(points, shape, start, step, entries_count):
     return ref.sheet(*lists(points), shape, start, step, entries_count)
+
+
+def write(points, shape, buffer):
+    return ref.write(*lists(points), shape, buffer)
 
 
 def refused(number, place):
@@ -302,6 +306,78 @@ def test_open():
            refused(1, 0))
 
 
+# Two files by hand: -900 is 0xFFFFFC7C, 20,000 is 0x4E20, 200,000 is 0x30D40,
+# 10,000 is 0x2710 and -10,000 is 0xFFFFD8F0.
+FALLING = [(100, 12000, -900), (300, 11000, -200)]
+FILE_FALLING = bytes.fromhex('54 52 46 01 00 02 02'
+                             '64 00 00 00 E0 2E 00 00 7C FC FF FF'
+                             '2C 01 00 00 F8 2A 00 00 38 FF FF FF')
+HIGH = [(18000, 200000, -10000), (19000, 150000, 1), (20000, 200000, 10000)]
+FILE_HIGH = bytes.fromhex('54 52 46 01 00 02 03'
+                          '50 46 00 00 40 0D 03 00 F0 D8 FF FF'
+                          '38 4A 00 00 F0 49 02 00 01 00 00 00'
+                          '20 4E 00 00 40 0D 03 00 10 27 00 00')
+FILES = [(STEEP, 2, FILE_31), (FALLING, 2, FILE_FALLING), (HIGH, 2, FILE_HIGH)]
+
+
+def test_write():
+    """Document 02, item 1: the file, and the buffer around it."""
+    for points, shape, data in FILES:
+        size = len(data)
+        after = bytes(range(200, 203))
+        expect('exact', write(points, shape, b'\xff' * size),
+               ('ok', size, data))
+        expect('longer', write(points, shape, b'\xff' * size + after),
+               ('ok', size, data + after))
+        for short in (size - 1, size - 12, 7, 6, 0):
+            expect('%d bytes' % short, write(points, shape, bytes(short)),
+                   refused(12, 0))
+    expect('rising', write(STEEP, 1, bytes(31)),
+           ('ok', 31, FILE_31[:5] + b'\1' + FILE_31[6:]))
+    size = 7 + 12 * 64
+    expect('64 points, a byte short', write(flat(64), 1, bytes(size - 1)),
+           refused(12, 0))
+    full = write(flat(64), 1, bytes(size))
+    expect('64 points', full[:2], ('ok', 775))
+    expect('64 points, the head', full[2][:7], b'TRF\1\0\1\x40')
+    expect('64 points, the last', full[2][-12:].hex(' '),
+           '3f 00 00 00 05 00 00 00 00 00 00 00')
+
+
+def test_write_refusals():
+    """Document 02, item 1: 1 to 6 with their places, before 12."""
+    start = (0, 5, 0)
+    bad = [
+        (flat(65), 1, 1, 0),
+        (flat(1), 1, 1, 0),
+        ([], 1, 1, 0),
+        (flat(2), 3, 2, 0),
+        (flat(2), 258, 2, 0),
+        ([start, (1, 5, 0), (20001, 5, 0)], 1, 3, 2),
+        ([start, (1, 200001, 0)], 1, 4, 1),
+        ([(0, 5, -10001), (1, 5, 0)], 2, 5, 0),
+        (flat(3) + [(3, 4, 0)], 1, 6, 2),
+    ]
+    for points, shape, number, place in bad:
+        for length in (0, 6, 30, 31, 900):
+            expect('write, %d in %d bytes' % (number, length),
+                   write(points, shape, bytes(length)), refused(number, place))
+    expect('write, unequal lists', ref.write([0, 1], [5, 5], [0], 1, bytes(9)),
+           refused(1, 0))
+
+
+def test_write_and_open():
+    """Document 02, item 1: it opens as the points and shape that went in."""
+    curves = [(points, shape) for points, shape, _ in FILES]
+    curves += [(flat(64, 317), 1), (K5, 1), (K6, 2), (K7, 2), (K8, 2)]
+    for points, shape in curves:
+        count = len(points)
+        data = write(points, shape, b'\xff' * 900)[2][:7 + 12 * count]
+        expect('write, then open', ref.open_file(data, (count,) * 3),
+               ('ok', shape, count, points))
+        expect('as the tests write it', data, curve_file(points, shape))
+
+
 def bad_files():
     """Files for each of rows 2 to 6, with the number and the place."""
     start = (0, 5, 0)
@@ -394,6 +470,22 @@ def test_c_open():
     expect('open, no shape', ref.curve_open(curve_file(K9, 2), [7, 7], [8, 8],
                                             [9, 9]),
            (-6 * 2**32, [7, 7], [8, 8], [9, 9]))
+
+
+def test_c_write():
+    """include/factor_curves.h: the answer of Write, and its bytes."""
+    steep = lists(STEEP)
+    expect('write', ref.curve_write(*steep, 2, b'\xee' * 33),
+           (31, FILE_31 + b'\xee\xee'))
+    expect('write, 30 bytes', ref.curve_write(*steep, 2, b'\xee' * 30),
+           (-12 * 2**32, b'\xee' * 30))
+    expect('write, no bytes', ref.curve_write(*steep, 2, b''),
+           (-12 * 2**32, b''))
+    expect('write, right point',
+           ref.curve_write(*lists(flat(2, 2001)), 1, b'\xee'),
+           (-3 * 2**32 - 1, b'\xee'))
+    expect('write, no shape', ref.curve_write(*lists(K9), 2, b'\xee' * 40),
+           (-6 * 2**32, b'\xee' * 40))
 
 
 def test_curve_file():

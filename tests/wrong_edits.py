@@ -44,8 +44,8 @@ POINTS = [
 FILES = [
     ('bytes_len < 7 ', 'bytes_len < 8 '),
     ('bytes_len < 7 || ', ''),
-    ('"TRF\\1\\0", 5', '"TRF\\1\\0", 4'),
-    ('"TRF\\1\\0", 5', '"TRG\\1\\0", 5'),
+    ('memcmp(bytes, "TRF\\1\\0", 5', 'memcmp(bytes, "TRF\\1\\0", 4'),
+    ('memcmp(bytes, "TRF\\1\\0", 5', 'memcmp(bytes, "TRG\\1\\0", 5'),
     ('bytes_len != 7 + 12', 'bytes_len < 7 + 12'),
     ('bytes_len != 7 + 12', '(uint8_t)bytes_len != 7 + 12'),
     ('(uint32_t)p[3] << 24', '0'),
@@ -268,6 +268,134 @@ OPEN = [
     ('refused(6, shapeless) : 0;\n}\n\n/* Rows 9', 'refused(6, 0) : 0;\n}\n\n/* Rows 9'),
 ]
 
+WRITE_LENGTH = '    size_t length = 7 + 12 * c.count;\n'
+WRITE_ROOM = '''\
+    if (out_len < length)
+        return refused(12, 0);
+'''
+WRITE_ROWS = CHECKED + REFUSED_FAULT + WRITE_LENGTH + WRITE_ROOM
+WRITE_MARK = '    memcpy(out, "TRF\\1\\0", 5);\n'
+WRITE_SHAPE = '    out[5] = (uint8_t)shape;\n'
+WRITE_COUNT = '    out[6] = (uint8_t)c.count;\n'
+STORE = '    memcpy(p, &x, 4);\n'
+WRITE_LOOP = 'for (size_t i = 0; i < c.count; i++) {'
+WRITE_RECORD = 'out + 7 + 12 * i;'
+WRITE_SLOPE = '(uint32_t)p.slope);'
+WRITE_RESULT = '    return (int64_t)length;'
+
+
+def row_12_before(number):
+    """Row 12 before this row of rows 1 to 6 and those after it."""
+    return (CHECKED + '    if (fault && -fault >> 32 < %d)\n' % number
+            + '        return fault;\n' + WRITE_LENGTH + WRITE_ROOM
+            + REFUSED_FAULT)
+
+
+WRITE_ORDER = [
+    # row 12 before another, or not tried; rows 1 to 6 not tried
+    *[(WRITE_ROWS, row_12_before(number)) for number in range(1, 7)],
+    (WRITE_LENGTH + WRITE_ROOM, WRITE_LENGTH),
+    (WRITE_ROWS, WRITE_ROWS.replace('shape);', 'shape) * 0;')),
+    (WRITE_ROWS, WRITE_ROWS.replace('(fault)', '(fault && -fault >> 32 != 6)')),
+    (WRITE_ROWS, WRITE_ROWS.replace('shape);', '(uint8_t)shape);')),
+    # the length that is needed
+    ('out_len < length', 'out_len <= length'),
+    ('out_len < length', 'out_len + 1 < length'),
+    ('out_len < length', 'out_len != length'),
+    ('out_len < length', 'out_len < 775'),
+    ('out_len < length', 'out_len < 7'),
+    ('out_len < length', '(uint8_t)out_len < length'),
+    ('out_len < length', '(uint16_t)out_len < length'),
+    ('length = 7 + 12 * c.count', 'length = 7 + 12 * (c.count - 1)'),
+    ('length = 7 + 12 * c.count', 'length = (uint8_t)(7 + 12 * c.count)'),
+    # number and place
+    ('refused(12, 0)', 'refused(11, 0)'),
+    ('refused(12, 0)', 'refused(12, 1)'),
+    ('refused(12, 0)', 'refused(12, out_len)'),
+    # writing before a refusal, and on one
+    (WRITE_ROOM, '    if (out_len)\n        out[0] = 84;\n' + WRITE_ROOM),
+    (WRITE_ROOM, WRITE_ROOM.replace(
+        'return', 'return memset(out, 0, out_len),')),
+    (WRITE_ROWS, WRITE_ROWS.replace(
+        'return fault', 'return out_len ? out[out_len - 1] = 0, fault : fault')),
+    # touching a buffer without bytes, or a byte beside it
+    (WRITE_ROWS, '    *(volatile uint8_t *)out = *(volatile uint8_t *)out;\n'
+     + WRITE_ROWS),
+    (WRITE_RESULT, '    out[out_len] = 0;\n' + WRITE_RESULT),
+    (WRITE_RESULT, '    out[-1] = 0;\n' + WRITE_RESULT),
+    # writing what is to be read, if only what it holds
+    (WRITE_RESULT, '    *(volatile int32_t *)slopes = slopes[0];\n'
+     + WRITE_RESULT),
+    # bytes after the file
+    (WRITE_RESULT, '''\
+    if (out_len > length)
+        out[length] = 0;
+''' + WRITE_RESULT),
+    (WRITE_RESULT, '    memset(out + length, 0, out_len - length);\n'
+     + WRITE_RESULT),
+    # the result
+    (WRITE_RESULT, '    return (int64_t)out_len;'),
+    (WRITE_RESULT, '    return (int64_t)length - 1;'),
+    (WRITE_RESULT, '    return 256 * shape + (int64_t)c.count;'),
+]
+
+WRITE_BYTES = [
+    # the mark, the version, shape and count
+    (WRITE_MARK, WRITE_MARK.replace('TRF', 'TRG')),
+    (WRITE_MARK, WRITE_MARK.replace('TRF', 'FRT')),
+    (WRITE_MARK, WRITE_MARK.replace('\\1\\0', '\\0\\1')),
+    (WRITE_MARK, WRITE_MARK.replace('\\1', '\\2')),
+    (WRITE_MARK, WRITE_MARK.replace('5', '4')),
+    (WRITE_MARK, WRITE_MARK.replace('5', '3')),
+    (WRITE_SHAPE, '    out[5] = 2;\n'),
+    (WRITE_SHAPE, ''),
+    (WRITE_COUNT, '    out[6] = (uint8_t)(c.count - 1);\n'),
+    (WRITE_COUNT, '    out[6] = (uint8_t)length;\n'),
+    (WRITE_COUNT, ''),
+    (WRITE_SHAPE + WRITE_COUNT, '''\
+    out[6] = (uint8_t)shape;
+    out[5] = (uint8_t)c.count;
+'''),
+    # which points, and where
+    (WRITE_LOOP, 'for (size_t i = 0; i + 1 < c.count; i++) {'),
+    (WRITE_LOOP, 'for (size_t i = 1; i < c.count; i++) {'),
+    (WRITE_RECORD, 'out + 7 + 12 * (c.count - 1 - i);'),
+    (WRITE_RECORD, 'out + 6 + 12 * i;'),
+    # fields exchanged
+    ('store32(record, p.area);\n        store32(record + 4, p.value);',
+     'store32(record, p.value);\n        store32(record + 4, p.area);'),
+    ('store32(record + 4, p.value);\n        store32(record + 8, (uint32_t)',
+     'store32(record + 8, p.value);\n        store32(record + 4, (uint32_t)'),
+    # the order of a field's bytes, and bytes not written
+    (STORE, 'x = (x & 0xFF0000FF) | (x >> 8 & 0xFF00) | (x & 0xFF00) << 8;\n'
+     + STORE),
+    (STORE, 'x = __builtin_bswap32(x);\n' + STORE),
+    (STORE, 'x = x >> 16 | x << 16;\n' + STORE),
+    (STORE, 'memcpy(p, &x, 3);'),
+    (STORE, 'memcpy(p, &x, 2);'),
+    (STORE, 'memcpy(p + 1, (uint8_t *)&x + 1, 3);'),
+    (STORE, 'p[0] = (uint8_t)x;\n    memcpy(p + 2, (uint8_t *)&x + 2, 2);'),
+    (STORE, 'x &= 0xFFFFFF;\n' + STORE),
+    # fields cut
+    ('store32(record, p.area);', 'store32(record, (uint8_t)p.area);'),
+    ('store32(record, p.area);', 'store32(record, p.area & 0x3FFF);'),
+    ('store32(record + 4, p.value);',
+     'store32(record + 4, (uint16_t)p.value);'),
+    ('store32(record + 4, p.value);',
+     'store32(record + 4, p.value & 0x1FFFF);'),
+    # slopes below 0
+    (WRITE_SLOPE, '(uint16_t)p.slope);'),
+    (WRITE_SLOPE, '(uint32_t)p.slope & 0xFFFFFF);'),
+    (WRITE_SLOPE, '(uint32_t)(int8_t)p.slope);'),
+    (WRITE_SLOPE, '(uint32_t)(p.slope < 0 ? -p.slope : p.slope));'),
+    (WRITE_SLOPE, '(uint32_t)(p.slope < 0 ? p.slope ^ INT32_MAX : p.slope));'),
+    (WRITE_SLOPE, '(uint32_t)p.slope & 0xFF00FFFF);'),
+    (WRITE_SLOPE, '(uint32_t)(p.slope < 0 ? p.slope - 1 : p.slope));'),
+    (WRITE_SLOPE, '(uint32_t)(p.slope == -1 ? 0 : p.slope));'),
+    (WRITE_SLOPE, '(uint32_t)(p.slope > -10000 ? p.slope : -9999));'),
+    (WRITE_SLOPE, '(uint32_t)(p.slope > 0 ? p.slope : 0));'),
+]
+
 # For the comparison.
 COMPARED = [
     ('of points and segments', POINTS),
@@ -278,6 +406,8 @@ COMPARED = [
     ('of curve_pair', PAIR),
     ('of curve_sheet', SHEET),
     ('of curve_open', OPEN),
+    ('of curve_write, its refusals and its buffer', WRITE_ORDER),
+    ('of curve_write, the bytes of its file', WRITE_BYTES),
 ]
 
 # Lengths cut to 32 bits.
@@ -292,6 +422,7 @@ FAR = [
     ('areas_len < count ||', '(uint32_t)areas_len < count ||'),
     ('slopes_len < count)', '(uint32_t)slopes_len < count)'),
     ('scratch_len < 12 * count', '(uint32_t)scratch_len < 12 * count'),
+    ('out_len < length', '(uint32_t)out_len < length'),
 ]
 
 # Memory that is kept between calls.
@@ -303,4 +434,6 @@ SHARED = [
     ('    uint64_t area = start + (uint64_t)step * i;\n',
      '    static volatile uint64_t area;\n'
      '    area = start + (uint64_t)step * i;\n'),
+    (WRITE_LENGTH, WRITE_LENGTH.replace('size_t length',
+                                        'static size_t length;\n    length')),
 ]
