@@ -20,8 +20,9 @@ _LIMITS = {'shape': (0, 2**32 - 1), 'area': (0, 2**32 - 1), 'value': (0, 2**32 -
 _BLANKS = ' \t'
 _SHOWN = 40             # characters of a field that a message shows at most
 
-# A line up to its comment; a comment in quotation marks is one, too.
+# A line up to its comment, or up to a quotation mark before that.
 _UNCOMMENTED = re.compile('(?:"(?![ \t]*#)[^"]*"|[^"#])*')
+_QUOTED_COMMENT = re.compile('"[ \t]*#')
 _QUOTED = re.compile('"[^"]*"')
 _CELLS = {each: re.compile('((?:"[^"]*"|[^%s"])*)(?:%s|$)' % (each, each)) for each in ';,'}
 _WORDS = re.compile('((?:"[^"]*"|[^ \t"])+)')
@@ -105,7 +106,8 @@ def _fields(line: int, text: str) -> List[Field]:
     """The fields of a line; empty ones at its end are left out."""
     rest = _UNCOMMENTED.sub('', text, count=1)
     text = text[:len(text) - len(rest)]
-    if rest.startswith('"') and not rest[1:].lstrip(_BLANKS).startswith('#'):
+    if rest.startswith('"') and (text[-1:].strip(_BLANKS + ',;')
+                                 or not _QUOTED_COMMENT.match(rest)):
         raise Mistake(line, len(text) + 1, 'a quotation mark without a second one')
     bare = _QUOTED.sub('', text)
     separator = next((each for each in ';,' if each in bare), None)
