@@ -510,6 +510,8 @@ class Making(Case):
                 ('0x10 1 0', 1, "the area is not a whole number: '0x10'"),
                 ('500 10.000 0', 5, "the value is not a whole number: '10.000'" + digits),
                 ('500,"10,000",0', 6, "the value is not a whole number: '10,000'" + digits),
+                ('500 "10,000" 0', 6, "the value is not a whole number: '10,000'" + digits),
+                ('500,"1;0",7', 6, "the value is not a whole number: '1;0'"),
                 ("500;1'234'567;0", 5, 'the value is not a whole number: "1\'234\'567"' + digits),
                 ('500 10_000 0', 5, "the value is not a whole number: '10_000'" + digits),
                 ('500 10\u00a0000 0', 5, "the value is not a whole number: '10\\xa0000'" + digits),
