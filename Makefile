@@ -77,6 +77,7 @@ samples: lib ## INTO/NAME.trf from each samples/NAME.txt of an accepted curve; I
 	$(call need-python3)
 	@for text in $(texts); do PYTHONPATH=python python3 -m factor_curves make $$text \
 	  -o $(INTO)/$$(basename $$text .txt).trf || exit 1; done
+	@echo $(texts:samples/%.txt=$(INTO)/%.trf)
 
 test: ## the whole gate: outside tests, proofs, must-fail edits, programs (.ci/run); it removes target/lib
 	$(call need,rt,it comes with the Rattle kit)

@@ -567,7 +567,7 @@ class Making(Case):
                 ('shape 2'.encode('utf-16-le'), 1, 1, 'neither `shape N` nor the area of a point:'
                  " 's\\x00h\\x00a\\x00p\\x00e\\x00'"),
                 (open_bytes(GOOD), 1, 1,
-                 'this is a curve file, not the text of a curve; show prints that')]:
+                 'this is a curve file, not a text; show prints its text')]:
             self.assert_mistake(data, line, column, message)
 
     def test_mistakes_in_an_ascii_locale(self):

@@ -84,7 +84,7 @@ def _lines(data: bytes) -> List[str]:
     if data.startswith((codecs.BOM_UTF16_LE, codecs.BOM_UTF16_BE)):
         raise Mistake(1, 1, 'the text is in UTF-16; it must be in UTF-8')
     if data.startswith(b'TRF'):
-        raise Mistake(1, 1, 'this is a curve file, not the text of a curve; show prints that')
+        raise Mistake(1, 1, 'this is a curve file, not a text; show prints its text')
     data = data[3:] if data.startswith(codecs.BOM_UTF8) else data
     try:
         return _split(data.decode('utf-8'))
