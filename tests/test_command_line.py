@@ -570,6 +570,30 @@ class Making(Case):
                  'this is a curve file, not a text; show prints its text')]:
             self.assert_mistake(data, line, column, message)
 
+    def test_damaged_texts(self):
+        """Whatever the text is, it is made, refused, or has a mistake at a place that it has."""
+        rng = random.Random('damaged texts')
+        pieces = [b'"', b'#', b',', b';', b' ', b'\n', b'\r', b'-', b'.', b'0', b'9', b'\xff',
+                  b'\x00', b'shape', b'area', '\u2212'.encode(), b'']
+        seen = set()
+        for points, shape in random_curves('damaged texts', 400):
+            text = some_text(rng, points[:4], shape)[0]
+            for _ in range(rng.choice([1, 1, 2, 5])):
+                at = rng.randrange(len(text))
+                text = text[:at] + rng.choice(pieces) + text[at + rng.randrange(3):]
+            done = self.make(text)
+            seen.add(done.status)
+            self.assertEqual(os.path.exists(self.file), done.status == 0, text)
+            if done.status == 2:
+                line, column = map(int, re.match(re.escape(self.text) + r':(\d+):(\d+): \S',
+                                                 done.err).groups())
+                lines = re.split(b'\r\n|\r|\n', text)
+                self.assertIn(line, range(1, len(lines) + 1), text)
+                self.assertIn(column, range(1, len(lines[line - 1]) + 2), text)
+            elif done.status == 1:
+                self.assertRegex(done.err, r'^refused [1-6] at \d+: ')
+        self.assertEqual(seen, {0, 1, 2})
+
     def test_mistakes_in_an_ascii_locale(self):
         with open(self.text, 'w', encoding='utf-8') as file:
             file.write('shape 2\n1 1 \u22125')
