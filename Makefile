@@ -28,11 +28,11 @@ endef
 # $(call need,TOOL,WHERE IT COMES FROM)
 need = @command -v $(1) >/dev/null || { echo "make: $(1) is not on the path: $(2)" >&2; exit 1; }
 need-cc = $(call need,$(firstword $(CC)),a C compiler is needed; CC names one)
-need-python3 = $(call need,python3,the outside tests and the benchmark are written in Python 3)
+need-python3 = $(call need,python3,factor-curves and the outside tests and the benchmark are written in Python 3)
 
 .NOTPARALLEL:
 .DELETE_ON_ERROR:
-.PHONY: all lib program quote run test bench install uninstall version clean help
+.PHONY: all lib program quote run samples test bench install uninstall version clean help
 
 all: lib program ## the library and the program; what `make` alone does
 
@@ -68,6 +68,16 @@ quote: lib ## target/quote, the sample quoting desk: target/quote samples/docume
 
 run: $(program) ## print the sheet of samples/document-01.trf
 	@$(program) <samples/document-01.trf
+
+# Texts of curves that are refused, or with a mistake, have no file.
+texts = $(filter-out samples/refused-% samples/mistake-%,$(wildcard samples/*.txt))
+INTO ?= samples
+
+samples: lib ## INTO/NAME.trf from each samples/NAME.txt of an accepted curve; INTO is samples
+	$(call need-python3)
+	@for text in $(texts); do PYTHONPATH=python python3 -m factor_curves make $$text \
+	  -o $(INTO)/$$(basename $$text .txt).trf || exit 1; done
+	@echo $(texts:samples/%.txt=$(INTO)/%.trf)
 
 test: ## the whole gate: outside tests, proofs, must-fail edits, programs (.ci/run); it removes target/lib
 	$(call need,rt,it comes with the Rattle kit)

@@ -1,10 +1,12 @@
 """Tests of samples/: the files, the quoting desk and the ratesheet program.
 
-    samples.py files             make.py writes exactly the files of samples/
+    samples.py files             the files of samples/ are the tests' own
+    samples.py made FOLDER       make samples INTO=FOLDER has written them
     samples.py quote PROGRAM     the quoting desk on the samples
     samples.py sheet PROGRAM     ratesheet on the samples and on made-up files
 
-Expected answers are exact_fractions.py's. Exit status 0: all as expected.
+Expected answers are exact_fractions.py's, expected files curve_file.py's.
+Exit status 0: all as expected.
 """
 
 import glob
@@ -13,7 +15,6 @@ import random
 import re
 import subprocess
 import sys
-import tempfile
 import time
 
 import curves
@@ -22,6 +23,25 @@ from curve_file import curve_file
 
 SAMPLES = os.path.join(os.path.dirname(os.path.abspath(__file__)), '..',
                        'samples')
+STEEP = [(500, 10000, 0), (600, 14000, 10000)]
+
+# One file for each refusal that a file can show; the engine writes none.
+REFUSED = {
+    'refused-1-one-point.trf': curve_file(STEEP[:1], 1),
+    'refused-2-shape-code.trf': curve_file(STEEP, 3),
+    # At point 2: 2,001 beyond the one before.
+    'refused-3-gap.trf': curve_file(STEEP + [(2601, 18000, 0)], 1),
+    # At point 1.
+    'refused-4-value.trf': curve_file([STEEP[0], (600, 200001, 0)], 1),
+    # At point 0.
+    'refused-5-slope.trf': curve_file([(500, 10000, -10001), STEEP[1]], 2),
+    # K9: the left slope equals the chord's, the right one does not.
+    'refused-6-no-shape.trf': curve_file([(0, 0, 100), (100, 100, 200)], 2),
+    'refused-9-mark.trf': curve_file(STEEP, 2, mark=b'TRG'),
+    # The last byte is missing.
+    'refused-10-length.trf': curve_file(STEEP, 2)[:-1],
+}
+
 failures = 0
 tests = 0
 
@@ -43,15 +63,43 @@ def sample_files():
 
 # ---- the files ----
 
+def text_file(path):
+    """The curve file of a text as the samples have it: no commas."""
+    with open(path, encoding='ascii') as file:
+        lines = [line.split('#')[0].split() for line in file]
+    (name, code), *points = [words for words in lines if words]
+    if name != 'shape':
+        raise ValueError(path)
+    return curve_file([tuple(map(int, words)) for words in points], int(code))
+
+
+def expected_files():
+    """(name, bytes) of every sample that there must be."""
+    yield from REFUSED.items()
+    for path in sorted(glob.glob(os.path.join(SAMPLES, '*.txt'))):
+        name = os.path.basename(path)[:-len('.txt')]
+        if not name.startswith(('refused-', 'mistake-')):
+            yield name + '.trf', text_file(path)
+
+
+def test_made(folder):
+    """Of what is expected, the accepted files, and nothing else."""
+    wanted = {name: data for name, data in expected_files()
+              if name not in REFUSED}
+    expect('names', sorted(os.listdir(folder)), sorted(wanted))
+    for name, data in wanted.items():
+        with open(os.path.join(folder, name), 'rb') as file:
+            expect(name, file.read(), data)
+    refused = os.path.join(SAMPLES, 'refused-6-no-shape')
+    expect('its text', text_file(refused + '.txt'),
+           REFUSED['refused-6-no-shape.trf'])
+
+
 def test_files():
-    stored = dict(sample_files())
-    with tempfile.TemporaryDirectory() as folder:
-        subprocess.run([sys.executable, os.path.join(SAMPLES, 'make.py'),
-                        folder], check=True)
-        expect('names', sorted(os.listdir(folder)), sorted(stored))
-        for name in sorted(stored):
-            with open(os.path.join(folder, name), 'rb') as file:
-                expect(name, file.read(), stored[name])
+    stored, wanted = dict(sample_files()), dict(expected_files())
+    expect('names', sorted(stored), sorted(wanted))
+    for name, data in stored.items():
+        expect(name, data, wanted.get(name))
     numbers = set()
     for name, data in stored.items():
         said = re.match(r'refused-(\d+)-', name)
@@ -156,7 +204,7 @@ def test_sheet(program):
 def main():
     what, *words = sys.argv[1:]
     words = [os.path.abspath(word) for word in words]
-    {'files': test_files, 'quote': test_quote,
+    {'files': test_files, 'made': test_made, 'quote': test_quote,
      'sheet': test_sheet}[what](*words)
     print('samples, %s: %d tests, %d failures' % (what, tests, failures))
     return 1 if failures or not tests else 0

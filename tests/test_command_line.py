@@ -2,7 +2,7 @@
 
     PYTHONPATH=python FACTOR_CURVES_LIBRARY=... python3 -m unittest tests/test_command_line.py
 
-Expected answers are exact_fractions.py's.
+Expected answers are exact_fractions.py's, expected files curve_file.py's.
 """
 
 import glob
@@ -35,16 +35,17 @@ from factor_curves import refusal_words
 SAMPLES = os.path.join(ROOT, 'samples')
 GOOD = os.path.join(SAMPLES, 'document-01.trf')
 BAD = os.path.join(SAMPLES, 'refused-6-no-shape.trf')
+TEXT = os.path.join(SAMPLES, 'document-01.txt')
 TWO = [os.path.join(SAMPLES, 'same-points-%s.trf' % shape) for shape in ('rising', 'convex')]
 COMMAND = [sys.executable, '-m', 'factor_curves']
 MATPLOTLIB = importlib.util.find_spec('matplotlib') is not None
 
 
 class Done:
-    """How a run ended: exit status, standard output and standard error."""
+    """How a run ended: exit status, standard output (data: as bytes) and standard error."""
 
-    def __init__(self, status, out, err):
-        self.status, self.out, self.err = status, out, err
+    def __init__(self, status, out, err, data=None):
+        self.status, self.out, self.err, self.data = status, out, err, data
 
     def __repr__(self):
         return 'status %r\n%s\n%s' % (self.status, self.out, self.err)
@@ -61,8 +62,8 @@ def inside(*words, data=b''):
         sys.stderr.flush()
     finally:
         sys.stdin, sys.stdout, sys.stderr = old
-    out, err = (stream.buffer.getvalue().decode('utf-8') for stream in streams[1:])
-    return Done(status, out, err)
+    out, err = (stream.buffer.getvalue() for stream in streams[1:])
+    return Done(status, out.decode('utf-8', 'backslashreplace'), err.decode('utf-8'), out)
 
 
 def environment(**changes):
@@ -132,6 +133,12 @@ class Case(unittest.TestCase):
         made = tempfile.TemporaryDirectory()
         self.addCleanup(made.cleanup)
         return made.name
+
+    def folder_with_samples(self):
+        """A folder to run the documented examples in: it has samples/."""
+        made = self.folder()
+        os.symlink(SAMPLES, os.path.join(made, 'samples'))
+        return made
 
 
 class Commands(Case):
@@ -205,16 +212,23 @@ class Commands(Case):
     def test_show(self):
         for path, areas, values, slopes, shape in accepted_samples():
             first, header, *lines = inside('show', path).out.splitlines()
-            self.assertEqual('accepted: ' + first + '\n', inside('check', path).out)
-            self.assertEqual(header.split(), ['point', 'area', 'value', 'slope', 'm2', 'factor',
-                                              'factor/m2'])
+            count = len(areas)
+            segments = '1 segment' if count == 2 else '%d segments' % (count - 1)
+            self.assertEqual(first, 'shape %d  # %s, %d points, %s'
+                             % (shape, {1: 'rising', 2: 'convex'}[shape], count, segments))
+            self.assertEqual(header.split(), ['#', 'area', 'value', 'slope', '#', 'point', 'm2',
+                                              'factor', 'factor/m2'])
             table = [line.split() for line in lines]
-            self.assertEqual([[int(word) for word in row[:4]] for row in table],
-                             [list(row) for row in zip(range(len(areas)), areas, values, slopes)])
+            self.assertEqual([[int(word) for word in row[:3]] for row in table],
+                             [list(row) for row in zip(areas, values, slopes)])
+            self.assertEqual([row[3:5] for row in table],
+                             [['#', str(index)] for index in range(count)])
             for row in table:               # the same figures, in other units
-                self.assertEqual([Fraction(row[4]) * 10, Fraction(row[5]) * 10000,
-                                  Fraction(row[6]) * 100000], [int(word) for word in row[1:4]])
+                self.assertEqual([Fraction(row[5]) * 10, Fraction(row[6]) * 10000,
+                                  Fraction(row[7]) * 100000], [int(word) for word in row[:3]])
             self.assertEqual({len(line) for line in lines + [header]}, {len(header)})
+            self.assertEqual({line.rindex('#') for line in lines + [header]},
+                             {header.rindex('#')})
 
 
 class Sheets(Case):
@@ -281,12 +295,386 @@ class Sheets(Case):
                             7, 1, ' (area 4294967795' + ends)
 
 
+def random_curves(seed, number):
+    """(points, shape) of accepted curves, both shapes, and some at the limits."""
+    rng = random.Random(seed)
+    for index in range(number):
+        if index % 5 == 4:
+            yield curves.limit_curve(rng)
+        else:
+            yield curves.some_curve(rng, 1 + index % 2), 1 + index % 2
+
+
+def text_line(rng, fields):
+    """The fields in one of the forms that a line may have, perhaps with a comment."""
+    words = [rng.choice(['%s', '%s', '"%s"', '" %s"']) % field for field in fields]
+    separator = rng.choice([' ', '\t', ' \t  ', ',', ';', ' , ', ';\t'])
+    if separator.strip():
+        words += [''] * rng.choice([0, 0, 1, 3])
+    return (rng.choice(['', ' ', '\t']) + separator.join(words)
+            + rng.choice(['', ' ', '# a, b; "c', ' # 1 2 3', '\t#']))
+
+
+def some_text(rng, points, shape):
+    """A text of the curve, the number of its shape line, and those of its points' lines."""
+    empty = ['', ' \t ', '# shape 1', '  # 1 2 3 \u00b2', ',,', ';;;', '"# a, b",,', '"",""']
+    rows = [('shape', [rng.choice(['shape', 'Shape', 'SHAPE']), shape])]
+    if rng.random() < 0.5:
+        names = rng.choice([['area', 'value', 'slope'], ['Area', 'VALUE', 'Slope']])
+        rows.insert(rng.randrange(2), ('names', names))
+    for area, value, slope in points:
+        rows.append(('point', [rng.choice(['%d', '00%d']) % area, value,
+                               rng.choice(['%d', '%+d']) % slope]))
+    lines, numbers = [], {'shape': [], 'names': [], 'point': []}
+    for kind, fields in rows:
+        lines += rng.choices(empty, k=rng.choice([0, 0, 0, 1, 3]))
+        lines.append(text_line(rng, fields))
+        numbers[kind].append(len(lines))
+    end = rng.choice(['\n', '\r\n', '\r'])
+    text = rng.choice(['', '\ufeff']) + end.join(lines) + rng.choice(['', end, end + end])
+    return text.encode(), numbers['shape'][0], numbers['point']
+
+
+class Making(Case):
+    """The command make."""
+
+    def setUp(self):
+        self.place = self.folder()
+        self.text, self.file = (os.path.join(self.place, name) for name in ('c.txt', 'c.trf'))
+
+    def make(self, text, before=None):
+        """A run on a text; the curve file has these bytes before it, or is not there."""
+        with open(self.text, 'wb') as file:
+            file.write(text if isinstance(text, bytes) else text.encode())
+        if os.path.exists(self.file):
+            os.remove(self.file)
+        if before is not None:
+            with open(self.file, 'wb') as file:
+                file.write(before)
+        return inside('make', self.text, '-o', self.file)
+
+    def assert_made(self, text, data):
+        done = self.make(text)
+        self.assertEqual((done.status, done.out, done.err), (0, '', ''), text)
+        self.assertEqual(open_bytes(self.file), data, text)
+
+    def assert_mistake(self, text, line, column, message):
+        """Also when the text is on standard input; a file is neither made nor changed."""
+        for before in (None, b'before'):
+            done = self.make(text, before)
+            self.assertEqual((done.status, done.out), (2, ''), text)
+            self.assertEqual(done.err, '%s:%d:%d: %s\n' % (self.text, line, column, message))
+            self.assert_left(before)
+        done = inside('make', '-', '-o', '-', data=open_bytes(self.text))
+        self.assertEqual((done.status, done.out), (2, ''))
+        self.assertEqual(done.err, '-:%d:%d: %s\n' % (line, column, message))
+
+    def assert_left(self, before):
+        """The curve file is as it was."""
+        self.assertEqual(os.path.exists(self.file), before is not None)
+        if before is not None:
+            self.assertEqual(open_bytes(self.file), before)
+
+    def test_samples(self):
+        for path, *_ in accepted_samples():
+            data, text = open_bytes(path), open_bytes(path[:-4] + '.txt')
+            self.assert_made(text, data)
+            done = inside('make', '-', '-o', '-', data=text)
+            self.assertEqual((done.status, done.data, done.err), (0, data, ''))
+        self.assert_made(open_bytes(os.path.join(SAMPLES, 'rising.csv')),
+                         open_bytes(os.path.join(SAMPLES, 'rising.trf')))
+
+    def test_forms(self):
+        """Blanks, commas, semicolons, quotation marks, comments, line ends, column names."""
+        rng = random.Random('forms')
+        for points, shape in random_curves('forms', 250):
+            text, _, _ = some_text(rng, points, shape)
+            self.assert_made(text, curve_file(points, shape))
+
+    def test_forms_by_hand(self):
+        data = curve_file([(500, 10000, 0), (600, 14000, 10000)], 2)
+        for text in ('shape 2\n500 10000 0\n600 14000 10000\n',
+                     'shape 2\n500 10000 0\n600 14000 10000',
+                     '\n\nshape\t2#\n#\n 500\t10000 \t 0 # 700\n\n600 14000 10000 #',
+                     'area,value,slope\nshape,2\n500,10000,0\n600,14000,10000\n',
+                     '\ufeffshape;2;\r\nAREA;Value;slope\r\n500;10000;0\r\n'
+                     '600 ; 14000 ; 10000;\r\n;;\r\n',
+                     'shape 2,,\n500, 10000, -0\n600,14000,+10000,,,\n',
+                     '"shape","2"\n"500","10000","0"\n"600","14000","10000","# the, last"\n',
+                     '"shape 2";;\n500 10000 0;;\n"600";14000;"10000"\n',
+                     '# \u00e9\u4e00,"\nshape 2\r500 10000 0\r\n' + '0' * 5000
+                     + '600 14000 10000'):
+            self.assert_made(text, data)
+
+    def test_refused(self):
+        """The refusal of the exact fractions, with the line of the point or of the shape."""
+        rng = random.Random('refused texts')
+        seen = set()
+        for points, shape in random_curves('refused texts', 150):
+            shape = rng.choice([shape, shape, 3 - shape, 0, 3, 258, 2**32 - 1])
+            points = rng.choice([curves.past_limit, curves.shapeless_points])(rng, points)
+            lists = curves.lists(points)
+            points = list(zip(*lists))
+            given = ref.check(*lists, shape)
+            text, shape_line, point_lines = some_text(rng, points, shape)
+            if given[0] == 'ok':
+                self.assert_made(text, curve_file(points, shape))
+                continue
+            seen.add(given[1])
+            line = shape_line if given[1] == 2 else point_lines[given[2]]
+            for before in (None, b'before'):
+                self.assert_refused(self.make(text, before), *given[1:],
+                                    ' (%s, line %d)' % (self.text, line))
+                self.assert_left(before)
+        self.assertEqual(seen, {2, 3, 4, 5, 6})
+
+    def test_refused_counts(self):
+        flat = [(point, 5, 0) for point in range(300)]
+        for count in (0, 1, 65, 255, 256, 258, 300):
+            text, _, _ = some_text(random.Random(count), flat[:count], 1)
+            self.assert_refused(self.make(text, b'x'), 1, 0, ' (%s, %d point%s)'
+                                % (self.text, count, '' if count == 1 else 's'))
+            self.assert_left(b'x')
+        self.assert_refused(inside('make', '-', '-o', '-', data=b'shape 2\n'), 1, 0,
+                            ' (-, 0 points)')
+        self.assert_made(some_text(random.Random(1), flat[:64], 1)[0], curve_file(flat[:64], 1))
+
+    def test_faulty_samples(self):
+        text = os.path.join(SAMPLES, 'refused-6-no-shape.txt')
+        self.assert_refused(inside('make', text, '-o', self.file), 6, 0, ' (%s, line 4)' % text)
+        self.assert_mistake(open_bytes(os.path.join(SAMPLES, 'mistake-slope.txt')), 5, 16,
+                            "the slope is not a whole number: '100.5'")
+
+    def test_shape_mistakes(self):
+        before = 'no line `shape N` before the first point'
+        for text, line, column, message in [
+                ('', 1, 1, 'the text is empty'),
+                ('\ufeff', 1, 1, 'the text has no line `shape N`'),
+                ('# shape 2', 1, 10, 'the text has no line `shape N`'),
+                ('\n# nothing\n', 3, 1, 'the text has no line `shape N`'),
+                ('area,value,slope\r\n', 2, 1, 'the text has no line `shape N`'),
+                ('500 10000 0\n600 14000 10000\n', 1, 1, before),
+                ('area,value,slope\n\n 500,10000,0\nshape,2\n', 3, 2, before),
+                ('shape\n', 1, 6, 'the shape is missing'),
+                ('shape,', 1, 6, 'the shape is missing'),
+                ('shape 2\n500 10000 0\n shape 2\n', 3, 2,
+                 'a second shape; the first is in line 1'),
+                ('#\nshape;2\nshape;1', 3, 1, 'a second shape; the first is in line 2'),
+                ('shape 2 3', 1, 9, "a shape line has one number; this is a second one: '3'"),
+                ('shape rising', 1, 7, "the shape is not a whole number: 'rising'"
+                 ' (1 is rising, 2 is convex)'),
+                ('\ufeffshape\tConvex', 1, 7, "the shape is not a whole number: 'Convex'"
+                 ' (1 is rising, 2 is convex)'),
+                ('shape 2.0', 1, 7, "the shape is not a whole number: '2.0'"),
+                ('shape -2', 1, 7, "the shape must have no sign: '-2'"),
+                ('shape 4294967296', 1, 7, 'the shape must be from 0 to 4294967295:'
+                 " '4294967296'"),
+                ('shape=2', 1, 1, "neither `shape N` nor the area of a point: 'shape=2'"),
+                ('form 2', 1, 1, "neither `shape N` nor the area of a point: 'form'")]:
+            self.assert_mistake(text, line, column, message)
+
+    def test_field_mistakes(self):
+        blank = ' (in a line with commas or semicolons no blank separates fields)'
+        fourth = 'a point has area, value and slope; this is a fourth field: '
+        for text, column, message in [
+                ('500 10000', 10, 'the slope is missing'),
+                ('500', 4, 'the value is missing'),
+                ('500,10000,', 10, 'the slope is missing'),
+                ('500,,7', 5, 'the value is missing'),
+                ('500,"",7', 5, 'the value is missing'),
+                (' ; 10000 ; 7', 1, 'the area is missing'),
+                ('500 10000 0 7', 13, fourth + "'7'"),
+                ('500,10000,0,,7', 13, fourth + "''"),
+                ('500 10 000 0', 12, fourth + "'0'"),
+                ('500,10,000,0', 12, fourth + "'0'"),
+                ('50,5,10000,0', 12, fourth + "'0'"),
+                ('500 10,000 0', 1, "the area is not a whole number: '500 10'" + blank),
+                ('500;10 000;0', 5, "the value is not a whole number: '10 000'" + blank),
+                ('500, 10000 0', 6, "the value is not a whole number: '10000 0'" + blank),
+                ('500 10000 "7', 11, 'a quotation mark without a second one'),
+                ('500 10000 7"', 12, 'a quotation mark without a second one'),
+                ('area slope value', 1, 'the names of the columns must be area, value, slope'),
+                ('point,area,value,slope', 1,
+                 'the names of the columns must be area, value, slope'),
+                ('area,value', 1, 'the names of the columns must be area, value, slope'),
+                ('abc 10000 0', 1, "neither `shape N` nor the area of a point: 'abc'")]:
+            self.assert_mistake('shape 2\r\n#\r\n' + text + ' # 1\r\n', 3, column, message)
+
+    def test_number_mistakes(self):
+        digits = ' (digits only, without thousands separators)'
+        for text, column, message in [
+                ('500 10000 1.5', 11, "the slope is not a whole number: '1.5'"),
+                ('500;10000;1,5', 11, "the slope is not a whole number: '1,5'"),
+                ('500;10000;-,5', 11, "the slope is not a whole number: '-,5'"),
+                ('500 1e4 0', 5, "the value is not a whole number: '1e4'"),
+                ('0x10 1 0', 1, "the area is not a whole number: '0x10'"),
+                ('500 10.000 0', 5, "the value is not a whole number: '10.000'" + digits),
+                ('500,"10,000",0', 6, "the value is not a whole number: '10,000'" + digits),
+                ('500 "10,000" 0', 6, "the value is not a whole number: '10,000'" + digits),
+                ('500,"1;0",7', 6, "the value is not a whole number: '1;0'"),
+                ("500;1'234'567;0", 5, 'the value is not a whole number: "1\'234\'567"' + digits),
+                ('500 10_000 0', 5, "the value is not a whole number: '10_000'" + digits),
+                ('500 10\u00a0000 0', 5, "the value is not a whole number: '10\\xa0000'" + digits),
+                ('500 10000 \u22125', 11, "the slope is not a whole number: '\u22125'"
+                 ' (the minus sign is -)'),
+                ('500 10000 - 5', 13, "a point has area, value and slope; this is a fourth field:"
+                 " '5'"),
+                ('500 10000 --5', 11, "the slope is not a whole number: '--5'"),
+                ('500 10000 5-', 11, "the slope is not a whole number: '5-'"),
+                ('500 10000 +', 11, "the slope is not a whole number: '+'"),
+                ('\u0665 10000 0', 1, "the area is not a whole number: '\u0665'"),
+                ('500\t\u00e9\t0', 5, "the value is not a whole number: '\u00e9'"),
+                ('$500 10000 0', 1, "the area is not a whole number: '$500'"),
+                ('500 "10"000 0', 5, "the value is not a whole number: '\"10\"000'"),
+                ('-500 10000 0', 1, "the area must have no sign: '-500'"),
+                ('500 +10000 0', 5, "the value must have no sign: '+10000'"),
+                ('500 %s 0' % ('x' * 41), 5, "the value is not a whole number: '%s...'"
+                 % ('x' * 40))]:
+            self.assert_mistake('# \u00e9\nshape 2\n1 1 1\n' + text, 4, column, message)
+
+    def test_ranges(self):
+        """What fits the C types goes to the library; what does not is a mistake."""
+        most, low, high = 2**32 - 1, -2**31, 2**31 - 1
+        for point, number in [((most, 0, 0), 3), ((0, most, 0), 4), ((0, 0, low), 5),
+                              ((0, 0, high), 5)]:
+            text = 'shape 2\n%d %d %d\n9 9 9' % point
+            self.assert_refused(self.make(text), number, 0, ' (%s, line 2)' % self.text)
+        unsigned, signed = '0 to 4294967295', '-2147483648 to 2147483647'
+        for text, column, name, limits, shown in [
+                ('%d 0 0' % (most + 1), 1, 'area', unsigned, '4294967296'),
+                ('0 %d 0' % 2**64, 3, 'value', unsigned, '18446744073709551616'),
+                ('0 0 %d' % (low - 1), 5, 'slope', signed, '-2147483649'),
+                ('0 0 +%d' % (high + 1), 5, 'slope', signed, '+2147483648'),
+                ('0 0 -' + '9' * 9999, 5, 'slope', signed, '-' + '9' * 39 + '...')]:
+            self.assert_mistake('shape 1\n' + text, 2, column, "the %s must be from %s: '%s'"
+                                % (name, limits, shown))
+
+    def test_names_mistakes(self):
+        self.assert_mistake('shape 2\narea value slope\n1 1 1\n\tArea,Value,Slope', 4, 2,
+                            'the names of the columns stand in line 2 already')
+        self.assert_mistake('shape 2\n1 1 1\narea,value,slope', 3, 1,
+                            'the names of the columns must come before the first point')
+
+    def test_bytes_that_are_no_text(self):
+        for data, line, column, message in [
+                (b'shape 2\n# Gr\xf6\xdfe\n', 2, 5, 'the byte F6 is not UTF-8'),
+                (b'\xef\xbb\xbf# \xc3\xa4\xe9\n', 1, 4, 'the byte E9 is not UTF-8'),
+                (b'shape 2\r\n\r\n1 \xff', 3, 3, 'the byte FF is not UTF-8'),
+                ('\ufeffshape 2'.encode('utf-16-le'), 1, 1,
+                 'the text is in UTF-16; it must be in UTF-8'),
+                ('\ufeffshape 2'.encode('utf-16-be'), 1, 1,
+                 'the text is in UTF-16; it must be in UTF-8'),
+                ('shape 2'.encode('utf-16-le'), 1, 1, 'neither `shape N` nor the area of a point:'
+                 " 's\\x00h\\x00a\\x00p\\x00e\\x00'"),
+                (open_bytes(GOOD), 1, 1,
+                 'this is a curve file, not a text; show prints its text')]:
+            self.assert_mistake(data, line, column, message)
+
+    def test_damaged_texts(self):
+        """Whatever the text is, it is made, refused, or has a mistake at a place that it has."""
+        rng = random.Random('damaged texts')
+        pieces = [b'"', b'#', b',', b';', b' ', b'\n', b'\r', b'-', b'.', b'0', b'9', b'\xff',
+                  b'\x00', b'shape', b'area', '\u2212'.encode(), b'']
+        seen = set()
+        for points, shape in random_curves('damaged texts', 400):
+            text = some_text(rng, points[:4], shape)[0]
+            for _ in range(rng.choice([1, 1, 2, 5])):
+                at = rng.randrange(len(text))
+                text = text[:at] + rng.choice(pieces) + text[at + rng.randrange(3):]
+            done = self.make(text)
+            seen.add(done.status)
+            self.assertEqual(os.path.exists(self.file), done.status == 0, text)
+            if done.status == 2:
+                line, column = map(int, re.match(re.escape(self.text) + r':(\d+):(\d+): \S',
+                                                 done.err).groups())
+                lines = re.split(b'\r\n|\r|\n', text)
+                self.assertIn(line, range(1, len(lines) + 1), text)
+                self.assertIn(column, range(1, len(lines[line - 1]) + 2), text)
+            elif done.status == 1:
+                self.assertRegex(done.err, r'^refused [1-6] at \d+: ')
+        self.assertEqual(seen, {0, 1, 2})
+
+    def test_mistakes_in_an_ascii_locale(self):
+        with open(self.text, 'w', encoding='utf-8') as file:
+            file.write('shape 2\n1 1 \u22125')
+        done = run('make', self.text, '-o', '-',
+                   env=environment(LC_ALL='C', PYTHONIOENCODING='ascii'))
+        self.assertEqual((done.status, done.out), (2, b''))
+        self.assertEqual(done.err, "%s:2:5: the slope is not a whole number: '\\u22125'"
+                         ' (the minus sign is -)\n' % self.text)
+
+    def test_long_texts(self):
+        text = b'shape 2\n500 10000 0\n600 14000 10000\n#'
+        longest = text + b'x' * (2**20 - len(text))
+        self.assert_made(longest, open_bytes(GOOD))
+        done = self.make(longest + b'x', b'before')
+        self.assert_usage(done, 'cannot read %s: it has more than 1048576 bytes' % self.text)
+        self.assert_left(b'before')
+        self.assert_usage(inside('make', '/dev/zero', '-o', self.file), 'more than 1048576 bytes')
+        self.assert_left(b'before')
+
+    def test_the_text_as_output(self):
+        with open(self.text, 'wb') as file:
+            file.write(open_bytes(TEXT))
+        other = os.path.join(self.place, 'link')
+        os.symlink(self.text, other)
+        for words in ([self.text, '-o', self.text], [self.text, '-o', other],
+                      [other, '-o', self.text]):
+            self.assert_usage(inside('make', *words), 'cannot be both the text and the curve file')
+            self.assertEqual(open_bytes(self.text), open_bytes(TEXT))
+
+    def test_a_file_named_dash(self):
+        """- is standard input and output even where a file has that name."""
+        with open(os.path.join(self.place, '-'), 'wb') as file:
+            file.write(b'x')
+        with open(TEXT, 'rb') as text:
+            done = run('make', '-', '-o', '-', stdin=text, cwd=self.place)
+        self.assertEqual((done.status, done.out, done.err), (0, open_bytes(GOOD), ''))
+        self.assertEqual(open_bytes(os.path.join(self.place, '-')), b'x')
+
+    def test_in_place_of_a_longer_file(self):
+        self.make(open_bytes(TEXT), bytes(5000))
+        self.assertEqual(open_bytes(self.file), open_bytes(GOOD))
+
+    def test_unwritten(self):
+        for path, words in [('/dev/full', 'No space left on device'), (self.place, 'directory'),
+                            (os.path.join(self.place, 'none', 'x.trf'), 'No such file'),
+                            ('', 'No such file')]:
+            done = inside('make', TEXT, '-o', path)
+            self.assertEqual((done.status, done.out), (3, ''))
+            self.assert_message(done, 'cannot write %s: ' % path, words)
+        done = run('make', TEXT, '-o', self.file, closed=[1])
+        self.assertEqual((done.status, done.err), (0, ''))
+        self.assertEqual(open_bytes(self.file), open_bytes(GOOD))
+
+    def test_show_and_back(self):
+        for path, *_ in accepted_samples():
+            self.assert_made(inside('show', path).data, open_bytes(path))
+        for points, shape in random_curves('show and back', 250):
+            data = curve_file(points, shape)
+            self.assert_made(inside('show', '-', data=data).data, data)
+
+    def test_show_and_back_through_a_pipe(self):
+        path = os.path.join(SAMPLES, 'points-64.trf')
+        with subprocess.Popen(COMMAND + ['show', path], stdout=subprocess.PIPE,
+                              env=environment()) as show:
+            done = run('make', '-', '-o', '-', stdin=show.stdout)
+        self.assertEqual((show.returncode, done.status, done.out), (0, 0, open_bytes(path)))
+
+    def test_without_the_library(self):
+        env = environment(FACTOR_CURVES_LIBRARY='/no/such/library.so')
+        self.assert_usage(run('make', TEXT, '-o', self.file, env=env), '/no/such/library.so')
+        self.assert_left(None)
+
+
 class Usage(Case):
     """Exit status 2."""
 
     def test_words(self):
         for words in ([], ['chek', GOOD], ['check'], ['check', GOOD, GOOD], ['read', GOOD],
                       ['show', '--all', GOOD], ['plot', GOOD], ['plot', '-o', 'x.svg'],
+                      ['make'], ['make', TEXT], ['make', '-o', 'x.trf'],
+                      ['make', TEXT, TEXT, '-o', 'x.trf'],
                       ['sheet', GOOD, '--st', '25'], ['--nothing'], ['sheet', GOOD, '--count']):
             self.assert_usage(inside(*words), 'usage: factor-curves', 'error: ')
 
@@ -305,7 +693,8 @@ class Usage(Case):
                             ('/proc/self/mem', 'Input/output error'),
                             (os.path.join(GOOD, 'x'), 'Not a directory')]:
             for command in (['check', path], ['read', path, '1'], ['sheet', path],
-                            ['show', path], ['plot', path, '-o', '-']):
+                            ['show', path], ['plot', path, '-o', '-'],
+                            ['make', path, '-o', '-']):
                 self.assert_usage(inside(*command), 'cannot read %s: %s' % (path, words))
 
     @unittest.skipIf(os.geteuid() == 0, 'root may read every file')
@@ -325,6 +714,7 @@ class Usage(Case):
 
     def test_standard_input(self):
         self.assert_usage(run('check', '-', closed=[0]), 'standard input is closed')
+        self.assert_usage(run('make', '-', '-o', '-', closed=[0]), 'standard input is closed')
         self.assert_usage(inside('plot', '-', '-', '-o', 'x.svg'), 'only once')
         with open(GOOD, 'rb') as file:
             self.assertEqual(run('read', '-', '550', stdin=file).out, b'550 10800\n')
@@ -379,7 +769,8 @@ class Output(Case):
     """Exit status 3, and standard error that cannot be written."""
 
     PRINTING = [['check', GOOD], ['read', GOOD, '550'], ['show', GOOD], ['--help'], ['--version'],
-                ['sheet', '--help'], ['sheet', TWO[0], '--step', '1']]
+                ['sheet', '--help'], ['sheet', TWO[0], '--step', '1'], ['make', '--help'],
+                ['make', TEXT, '-o', '-']]
 
     def assert_unwritten(self, done, *words):
         self.assertEqual(done.status, 3, done)
@@ -466,18 +857,26 @@ class Help(Case):
 
     def test_help(self):
         text = run('--help').out.decode()
-        for word in ('check', 'read', 'sheet', 'show', 'plot', 'examples:', 'exit status:'):
+        for word in ('check', 'read', 'sheet', 'show', 'make', 'plot', 'examples:',
+                     'exit status:'):
             self.assertIn(word, text)
         examples = re.findall('^  factor-curves (.*)$', text, re.MULTILINE)
-        self.assertEqual(len(examples), 5)
-        folder = self.folder()
+        self.assertEqual(len(examples), 6)
+        folder = self.folder_with_samples()
         for example in examples:
             if example.startswith('plot') and not MATPLOTLIB:
                 continue
-            command, _, source = example.replace('curves.svg', folder + '/x.svg').partition(' < ')
+            command, _, source = example.partition(' < ')
             with open(os.path.join(ROOT, source or GOOD), 'rb') as file:
-                done = run(*shlex.split(command), cwd=ROOT, stdin=file)
+                done = run(*shlex.split(command), cwd=folder, stdin=file)
             self.assertEqual((done.status, done.err), (0, ''), example)
+
+    def test_text_of_the_help(self):
+        """The curve that the help of make shows is that of document 01."""
+        shown = run('make', '--help').out.decode().split('\n\n')
+        (text,) = [part for part in shown if part.startswith('  # ')]
+        done = inside('make', '-', '-o', '-', data=text.encode())
+        self.assertEqual((done.status, done.data), (0, open_bytes(GOOD)))
 
     def test_manual_page(self):
         """Its examples print what it says; it has every command, option and exit status."""
@@ -487,7 +886,7 @@ class Help(Case):
         found = re.findall(r'^\$ factor-curves (.*)\n((?:[^$].*\n)*)', examples, re.MULTILINE)
         self.assertEqual(len(found), examples.count('$ '))
         folder = os.getcwd()
-        os.chdir(ROOT)
+        os.chdir(self.folder_with_samples())
         try:
             for command, text in found:
                 if not command.startswith('plot'):
@@ -495,6 +894,8 @@ class Help(Case):
                     self.assertEqual(done.out + done.err, text, command)
         finally:
             os.chdir(folder)
+        self.assertEqual({command.split()[0] for command, _ in found},
+                         {'check', 'read', 'sheet', 'show', 'make', 'plot'})
         for word in ('--start', '--step', '--count', '-o', '--help', '--version'):
             self.assertIn(word, page)
         statuses = page.split('.SH EXIT STATUS\n')[1].split('.SH')[0]

@@ -2,14 +2,18 @@
 
     PYTHONPATH=python FACTOR_CURVES_LIBRARY=... python3 -m unittest tests/test_python.py
 
-Expected answers are exact_fractions.py's, or document 01's own.
+Expected answers are exact_fractions.py's, or those of documents 01 and 02; expected files are
+curve_file.py's.
 """
 
 import copy
+import ctypes
 import doctest
+import errno
 import glob
 import multiprocessing.pool
 import os
+import pathlib
 import pickle
 import random
 import re
@@ -255,6 +259,133 @@ class Files(unittest.TestCase):
             self.assertRaises(IsADirectoryError, fc.Curve.from_file, folder)
 
 
+def writing(areas, values, slopes, shape):
+    """The answer to be given for lists that are to be written: their file, or a refusal."""
+    given = ref.check(areas, values, slopes, shape)
+    if given[0] == 'refused':
+        return given
+    return ('ok', curve_file(list(zip(areas, values, slopes)), shape))
+
+
+class Writing(unittest.TestCase):
+    """The files that are written are those of curve_file.py."""
+
+    def test_file_of_document_01(self):
+        self.assertEqual(fc.write([500, 600], [10000, 14000], [0, 10000], 2).hex(),
+                         '54524601000202' 'f40100001027000000000000'
+                         '58020000b036000010270000')
+
+    def test_accepted_curves(self):
+        for points, shape in random_curves('writing', 300):
+            data = curve_file(points, shape)
+            written = fc.write(*lists(points), shape)
+            self.assertIs(type(written), bytes)
+            self.assertEqual(written, data)
+            self.assertEqual(fc.Curve(points, shape).to_bytes(), data)
+            self.assertEqual(len(data), 7 + 12 * len(points))
+
+    def test_there_and_back(self):
+        for points, shape in random_curves('there and back', 100):
+            curve, columns = fc.Curve(points, shape), lists(points)
+            self.assertEqual(fc.Curve.from_bytes(curve.to_bytes()), curve)
+            self.assertEqual(fc.open_bytes(fc.write(*columns, shape)),
+                             fc.Lists(*map(tuple, columns), shape))
+            data = curve_file(points, shape)
+            self.assertEqual(fc.Curve.from_bytes(data).to_bytes(), data)
+            self.assertEqual(fc.write(*fc.open_bytes(data)), data)
+
+    def test_counts(self):
+        flat = [(point, 5, 0) for point in range(300)]
+        for count in (0, 1, 2, 3, 63, 64, 65, 255, 256, 258, 300):
+            columns = lists(flat[:count])
+            self.assertEqual(answer(fc.write, *columns, 1), writing(*columns, 1))
+        self.assertEqual(len(fc.write(*lists(flat[:64]), 1)), fc.FILE_MAX)
+
+    def test_refused(self):
+        seen = set()
+        for points, shape in random_curves('refused writing', 60):
+            for at in (0, len(points) // 2, len(points) - 1):
+                for field, number in [(0, 20001), (0, LARGEST), (1, 200001), (1, LARGEST),
+                                      (2, 10001), (2, -10001), (2, -2**31), (1, 0)]:
+                    wrong = lists(points)
+                    wrong[field][at] = number
+                    given = writing(*wrong, shape)
+                    self.assertEqual(answer(fc.write, *wrong, shape), given)
+                    seen.add(given[1] if given[0] == 'refused' else 0)
+            for code in (0, 3, 256 + shape, LARGEST):
+                self.assertEqual(answer(fc.write, *lists(points), code), ('refused', 2, 0))
+        self.assertEqual(seen, {0, 3, 4, 5, 6})
+        for which in range(3):
+            wrong = lists(STEEP + [(700, 20000, 10000)])
+            wrong[which].pop()
+            self.assertEqual(answer(fc.write, *wrong, 2), ('refused', 1, 0))
+
+    def test_buffer(self):
+        """Refusal 12, which only a caller with a buffer of its own can meet."""
+        data, curve = curve_file(STEEP, 2), _calls.arguments(*lists(STEEP), 2)
+        for length in range(40):
+            out = (ctypes.c_uint8 * 40)(*range(200, 240))
+            given = _library.library().curve_write(*curve, out, length)
+            file = data if length >= 31 else b''
+            self.assertEqual(given, 31 if length >= 31 else -12 * 2**32)
+            self.assertEqual(bytes(out), file + bytes(range(200 + len(file), 240)))
+        with self.assertRaises(fc.Refused) as caught:
+            _calls._result(-12 * 2**32)
+        self.assertEqual((caught.exception.number, caught.exception.place),
+                         (fc.Refusal.BUFFER, 0))
+        self.assertEqual(str(caught.exception), 'refused 12 at 0: ' + fc.refusal_words(12))
+
+    def test_arguments_stay(self):
+        columns = lists(STEEP)
+        for shape in (2, 3):
+            answer(fc.write, *columns, shape)
+            self.assertEqual(columns, lists(STEEP))
+        curve = fc.Curve(STEEP, 2)
+        first = curve.to_bytes()
+        self.assertEqual(curve, fc.Curve(STEEP, 2))
+        self.assertEqual(curve.to_bytes(), first)
+        self.assertEqual(fc.write(range(5), iter([7] * 5), (0,) * 5, 1),
+                         curve_file([(area, 7, 0) for area in range(5)], 1))
+
+    def test_to_file(self):
+        with tempfile.TemporaryDirectory() as folder:
+            path = os.path.join(folder, 'curve.trf')
+            for kind in (str, pathlib.Path):            # each time in place of a longer file
+                for points in (curves.rising_curve(random.Random('to file'), 64), STEEP):
+                    self.assertIsNone(fc.Curve(points, 1).to_file(kind(path)))
+                    with open(path, 'rb') as file:
+                        self.assertEqual(file.read(), curve_file(points, 1))
+                    self.assertEqual(fc.Curve.from_file(path), fc.Curve(points, 1))
+            self.assertEqual(os.listdir(folder), ['curve.trf'])
+            curve = fc.Curve(STEEP, 2)
+            self.assertRaises(IsADirectoryError, curve.to_file, folder)
+            self.assertRaises(FileNotFoundError, curve.to_file, os.path.join(folder, 'no', 'x'))
+        with self.assertRaises(OSError) as caught:
+            curve.to_file('/dev/full')
+        self.assertEqual(caught.exception.errno, errno.ENOSPC)
+
+    def test_samples(self):
+        for path, data in sample_files():
+            if opened(data)[0] == 'ok':
+                self.assertEqual(fc.Curve.from_file(path).to_bytes(), data)
+
+    def test_copies_and_subclasses(self):
+        class Tariff(fc.Curve):
+            pass
+        data = curve_file(STEEP, 2)
+        curve = Tariff.from_bytes(data)
+        self.assertEqual(curve.to_bytes(), data)
+        for same in (copy.copy(fc.Curve(STEEP, 2)),
+                     pickle.loads(pickle.dumps(fc.Curve(STEEP, 2)))):
+            self.assertEqual(same.to_bytes(), data)
+
+    def test_threads(self):
+        made = [fc.Curve(*each) for each in random_curves('writing threads', 200)]
+        with multiprocessing.pool.ThreadPool(4) as pool:
+            files = pool.map(fc.Curve.to_bytes, made)
+        self.assertEqual(files, [curve_file(curve.points, curve.shape) for curve in made])
+
+
 class Index:
     """A whole number that is no int."""
 
@@ -277,6 +408,7 @@ class Numbers(unittest.TestCase):
         columns, data = lists(STEEP), curve_file(STEEP, 2)
         curve = fc.Curve(STEEP, 2)
         yield 'unsigned', lambda n: fc.check(*columns, n), 'shape'
+        yield 'unsigned', lambda n: fc.write(*columns, n), 'shape'
         yield 'unsigned', lambda n: fc.Curve(STEEP, n), 'shape'
         yield 'unsigned', lambda n: fc.read(*columns, 2, n), 'area'
         yield 'unsigned', lambda n: fc.pair(*columns, 2, n, 550), 'form'
@@ -297,6 +429,8 @@ class Numbers(unittest.TestCase):
             for at in range(2):
                 message = r'%s\[%d\]' % (name, at)
                 yield kind, lambda n, f=field, a=at: fc.check(*self.put(columns, f, a, n), 2), \
+                    message
+                yield kind, lambda n, f=field, a=at: fc.write(*self.put(columns, f, a, n), 2), \
                     message
                 yield kind, lambda n, f=field, a=at: fc.Curve(
                     zip(*self.put(columns, f, a, n)), 2), message
@@ -338,6 +472,7 @@ class Numbers(unittest.TestCase):
         self.assertTrue(all(type(figure) is int for point in curve.points for figure in point))
         self.assertIs(type(curve.shape), int)
         self.assertEqual(curve.read(Index(550)), 10800)
+        self.assertEqual(fc.write(*lists(points), Index(2)), curve_file(STEEP, 2))
 
 
 class TheCurve(unittest.TestCase):
@@ -468,11 +603,11 @@ class Refusals(unittest.TestCase):
         """Each number has words of its own: those that stand in c/refusal_words.c."""
         with open(os.path.join(ROOT, 'c', 'refusal_words.c'), encoding='ascii') as file:
             text = re.sub(r'"\s*"', '', file.read())
-        words = [fc.refusal_words(number) for number in range(12)]
-        self.assertEqual(len(set(words)), 12)
+        words = [fc.refusal_words(number) for number in range(13)]
+        self.assertEqual(len(set(words)), 13)
         for each in words:
             self.assertIn('return "%s";' % each, text)
-        for number in (-1, 12, 2**31 - 1, -2**31):
+        for number in (-1, 13, 2**31 - 1, -2**31):
             self.assertEqual(fc.refusal_words(number), words[0])
 
 
@@ -489,7 +624,7 @@ class Package(unittest.TestCase):
         numbers = {name[14:]: int(number) for name, number in header.items()
                    if name.startswith('CURVE_REFUSED_')}
         self.assertEqual({each.name: each.value for each in fc.Refusal}, numbers)
-        self.assertEqual(len(numbers), 11)
+        self.assertEqual(len(numbers), 12)
         desk = self.defines('desk.h')
         self.assertEqual(fc.SCRATCH_ENOUGH,
                          int(desk['DESK_POINT_BYTES']) * int(header['CURVE_COUNT_MAX']))
@@ -516,15 +651,17 @@ class Package(unittest.TestCase):
         self.assertTrue(os.path.exists(os.path.join(PACKAGE, 'py.typed')))
 
     def test_documented_examples(self):
-        folder = os.getcwd()
-        os.chdir(ROOT)
-        try:
-            for result in (doctest.testmod(fc), doctest.testfile(
-                    os.path.join(ROOT, 'python', 'README.md'), module_relative=False)):
-                self.assertEqual(result.failed, 0)
-                self.assertGreater(result.attempted, 4)
-        finally:
+        before = os.getcwd()
+        with tempfile.TemporaryDirectory() as folder:
+            os.symlink(os.path.join(ROOT, 'samples'), os.path.join(folder, 'samples'))
             os.chdir(folder)
+            try:
+                for result in (doctest.testmod(fc), doctest.testfile(
+                        os.path.join(ROOT, 'python', 'README.md'), module_relative=False)):
+                    self.assertEqual(result.failed, 0)
+                    self.assertGreater(result.attempted, 4)
+            finally:
+                os.chdir(before)
 
 
 FIND = '''

@@ -7,15 +7,18 @@ import sys
 from typing import Any, List, NoReturn, Optional
 
 from . import (ENTRIES_MAX, FILE_MAX, SHAPE_NAMES, Curve, LibraryNotFound, Refusal, Refused,
-               __version__)
+               __version__, write)
+from ._text import Mistake, Text, read_text
 
 PROGRAM = 'factor-curves'
 REFUSED, USAGE, UNWRITTEN, INTERRUPTED = 1, 2, 3, 130       # exit statuses other than 0
 NUMBER_MAX = 2**32 - 1
+TEXT_MAX = 2**20                        # bytes of a text; that of a curve has far fewer
 
 DESCRIPTION = '''\
-Reads curve files (.trf) of factor curves. FILE may be -, for standard input. Areas are in
-tenths of a square metre, factors in units of one ten-thousandth: 10889 is the factor 1.0889.
+Reads and writes curve files (.trf) of factor curves. FILE may be -, for standard input. Areas
+are in tenths of a square metre, factors in units of one ten-thousandth: 10889 is the factor
+1.0889. Slopes are in hundredths of a unit for each tenth of a square metre.
 '''
 EXAMPLES = '''\
 examples:
@@ -23,10 +26,24 @@ examples:
   factor-curves read samples/document-01.trf 500 550
   factor-curves sheet samples/rising.trf --start 500 --step 100 --count 5
   factor-curves show - < samples/rising.trf
+  factor-curves make samples/rising.csv -o rising.trf
   factor-curves plot samples/rising.trf samples/dips-below-zero.trf -o curves.svg
 
-exit status: 0 done; 1 the curve, an area or the sheet is refused; 2 wrong usage, or a file or
-the library that cannot be read; 3 output that cannot be written
+exit status: 0 done; 1 the curve, an area or the sheet is refused; 2 wrong usage, a mistake in a
+text, or a file or the library that cannot be read; 3 output that cannot be written
+'''
+TEXT_FORMAT = '''
+The text has a line `shape N` (1 is rising, 2 convex), then a line with area, value and slope for
+each point, in whole numbers:
+
+  # two points
+  shape 2
+  500  10000      0
+  600  14000  10000
+
+Fields are separated by blanks, commas or semicolons; # begins a comment. A CSV file may have the
+names area, value, slope in a line before the first point. If the text has a mistake or the curve
+is refused, nothing is written. What `factor-curves show` prints is such a text.
 '''
 
 
@@ -93,22 +110,31 @@ def put_file(path: str, output: bytes) -> None:
 
 # ---- input ----
 
-def file_bytes(path: str) -> bytes:
-    """At most one byte more than a curve file can have. No file of that length is accepted."""
+def file_bytes(path: str, most: int) -> bytes:
+    """The bytes of a file, or of standard input for the path -, but at most so many."""
     try:
         if path != '-':
             with open(path, 'rb') as file:
-                return file.read(FILE_MAX + 1)
+                return file.read(most)
         if sys.stdin is None:
             raise Failure(USAGE, PROGRAM + ': standard input is closed')
-        return sys.stdin.buffer.read(FILE_MAX + 1)
+        return sys.stdin.buffer.read(most)
     except OSError as error:
         raise Failure(USAGE, '%s: cannot read %s: %s'
                       % (PROGRAM, path, error.strerror or error)) from None
 
 
 def curve_of(path: str) -> Curve:
-    return Curve.from_bytes(file_bytes(path))
+    # One byte more than a curve file can have. No file of that length is accepted.
+    return Curve.from_bytes(file_bytes(path, FILE_MAX + 1))
+
+
+def text_of(path: str) -> bytes:
+    text = file_bytes(path, TEXT_MAX + 1)
+    if len(text) > TEXT_MAX:
+        raise Failure(USAGE, '%s: cannot read %s: it has more than %d bytes'
+                      % (PROGRAM, path, TEXT_MAX))
+    return text
 
 
 def whole_number(text: str) -> int:
@@ -126,11 +152,9 @@ def number_of(count: int, name: str) -> str:
     return '%d %s%s' % (count, name, '' if count == 1 else 's')
 
 
-def summary(curve: Curve) -> str:
+def counts(curve: Curve) -> str:
     points = len(curve.points)
-    return 'shape %d (%s), %s, %s' % (curve.shape, SHAPE_NAMES[curve.shape],
-                                      number_of(points, 'point'),
-                                      number_of(points - 1, 'segment'))
+    return '%s, %s' % (number_of(points, 'point'), number_of(points - 1, 'segment'))
 
 
 def outside(refusal: Refused, curve: Curve, area: int) -> Failure:
@@ -140,7 +164,9 @@ def outside(refusal: Refused, curve: Curve, area: int) -> Failure:
 
 
 def check(options: argparse.Namespace) -> None:
-    put_lines(['accepted: ' + summary(curve_of(options.file))])
+    curve = curve_of(options.file)
+    put_lines(['accepted: shape %d (%s), %s'
+               % (curve.shape, SHAPE_NAMES[curve.shape], counts(curve))])
 
 
 def read(options: argparse.Namespace) -> None:
@@ -187,11 +213,42 @@ def sheet(options: argparse.Namespace) -> None:
 
 def show(options: argparse.Namespace) -> None:
     curve = curve_of(options.file)
-    lines = [summary(curve), 'point   area   value   slope      m2   factor  factor/m2']
+    lines = ['shape %d  # %s, %s' % (curve.shape, SHAPE_NAMES[curve.shape], counts(curve)),
+             '# area   value   slope  # point      m2   factor  factor/m2']
     for index, (area, value, slope) in enumerate(curve.points):
-        lines.append('%5d  %5d  %6d  %6d  %6.1f  %7.4f  %9.5f'
-                     % (index, area, value, slope, area / 10, value / 10000, slope / 100000))
+        lines.append('%6d  %6d  %6d  # %5d  %6.1f  %7.4f  %9.5f'
+                     % (area, value, slope, index, area / 10, value / 10000, slope / 100000))
     put_lines(lines)
+
+
+def same_file(path: str, other: str) -> bool:
+    """Whether both are the path of one file on disk; - is none."""
+    return ('-' not in (path, other) and os.path.isfile(path) and os.path.isfile(other)
+            and os.path.samefile(path, other))
+
+
+def where(text: Text, refusal: Refused) -> str:
+    """What of a text a refusal is about."""
+    if refusal.number == Refusal.COUNT:
+        return number_of(len(text.point_lines), 'point')
+    if refusal.number == Refusal.SHAPE:
+        return 'line %d' % text.shape_line
+    return 'line %d' % text.point_lines[refusal.place or 0]
+
+
+def make(options: argparse.Namespace) -> None:
+    path = options.text
+    if same_file(path, options.output):
+        raise Failure(USAGE, '%s: %s cannot be both the text and the curve file' % (PROGRAM, path))
+    try:
+        text = read_text(text_of(path))
+    except Mistake as mistake:
+        raise Failure(USAGE, '%s:%s' % (path, mistake)) from None
+    try:
+        data = write(*text.lists)
+    except Refused as refusal:
+        raise Failure(REFUSED, '%s (%s, %s)' % (refusal, path, where(text, refusal))) from None
+    put_file(options.output, data)
 
 
 def plot(options: argparse.Namespace) -> None:
@@ -233,9 +290,10 @@ class Parser(argparse.ArgumentParser):
         raise Failure(USAGE, '%s%s: error: %s' % (self.format_usage(), self.prog, message))
 
 
-def add_command(commands: Any, run: Any, text: str) -> Any:
+def add_command(commands: Any, run: Any, text: str, more: str = '') -> Any:
     command = commands.add_parser(run.__name__, help=text, description=text.capitalize() + '.',
-                                  allow_abbrev=False)
+                                  epilog=more, allow_abbrev=False,
+                                  formatter_class=argparse.RawDescriptionHelpFormatter)
     command.set_defaults(run=run)
     return command
 
@@ -260,7 +318,11 @@ def parser() -> Parser:
                          help='from an area to the next (default: 25)')
     command.add_argument('--count', metavar='N', type=whole_number,
                          help='how many (default: all up to the last area of the curve)')
-    add_command(commands, show, 'print the points of a curve file').add_argument('file', **file)
+    add_command(commands, show, 'print a curve file as text').add_argument('file', **file)
+    command = add_command(commands, make, 'write the curve file of a text', TEXT_FORMAT)
+    command.add_argument('text', metavar='TEXT', help='a text or CSV file, or - for standard input')
+    command.add_argument('-o', '--output', metavar='FILE', required=True,
+                         help='the curve file to write, or - for standard output')
     command = add_command(commands, plot, 'draw curves as a picture (needs matplotlib)')
     command.add_argument('files', nargs='+', **file)
     command.add_argument('-o', '--output', metavar='PICTURE', required=True,

@@ -41,6 +41,7 @@ class Refusal(enum.IntEnum):
     VALUE = 4           #: a point's value; the place is the point
     SLOPE = 5           #: a point's slope; the place is the point
     SEGMENT = 6         #: a segment without the shape; the place is its left point
+    BUFFER = 12         #: a file does not fit into the buffer; the package lends enough
     SHEET = 8           #: step 0, no entries or more than 1,024
     OUTSIDE = 7         #: an area outside the curve
 
@@ -178,6 +179,13 @@ def sheet_at(curve: Tuple[Any, ...], start: int, step: int, count: int) -> List[
     return list(out)
 
 
+def write_at(curve: Tuple[Any, ...]) -> bytes:
+    """The curve's file."""
+    out = (ctypes.c_uint8 * FILE_MAX)()
+    length = _result(library().curve_write(*curve, out, FILE_MAX))
+    return bytes(out)[:length]
+
+
 # ---- the calls on lists ----
 
 def check(areas: Iterable[int], values: Iterable[int], slopes: Iterable[int], shape: int) -> int:
@@ -201,6 +209,12 @@ def sheet(areas: Iterable[int], values: Iterable[int], slopes: Iterable[int], sh
           start: int, step: int, count: int) -> List[int]:
     """The factors at start + i * step for each i below count, 1 to 1,024 of them."""
     return sheet_at(arguments(areas, values, slopes, shape), start, step, count)
+
+
+def write(areas: Iterable[int], values: Iterable[int], slopes: Iterable[int],
+          shape: int) -> bytes:
+    """The bytes of the curve's file, 7 and 12 for each point; open_bytes is the way back."""
+    return write_at(arguments(areas, values, slopes, shape))
 
 
 # ---- the calls on a file's bytes ----

@@ -80,6 +80,16 @@ class Curve:
         with open(path, 'rb') as file:
             return cls.from_bytes(file.read(_FILE_ROOM))
 
+    def to_bytes(self) -> bytes:
+        """The bytes of the curve's file. No other file has this curve."""
+        return _calls.write_at(self._arguments)
+
+    def to_file(self, path: _Path) -> None:
+        """Writes the curve's file, in place of what the path had."""
+        data = self.to_bytes()
+        with open(path, 'wb') as file:
+            file.write(data)
+
     @property
     def points(self) -> Tuple[Point, ...]:
         """The rated points, by area."""

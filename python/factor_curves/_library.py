@@ -12,6 +12,7 @@ VARIABLE = 'FACTOR_CURVES_LIBRARY'
 
 _SIZE = ctypes.c_size_t
 _BYTES = ctypes.c_char_p                        # const uint8_t *, from a bytes object
+_MEMORY = ctypes.POINTER(ctypes.c_uint8)        # uint8_t *, to be written
 _UNSIGNED = ctypes.POINTER(ctypes.c_uint32)
 _SIGNED = ctypes.POINTER(ctypes.c_int32)
 _LISTS: List[Any] = [_UNSIGNED, _SIZE, _UNSIGNED, _SIZE, _SIGNED, _SIZE]
@@ -24,8 +25,8 @@ _FUNCTIONS: Dict[str, Tuple[Any, List[Any]]] = {
     'curve_pair': (ctypes.c_int64, _CURVE + [ctypes.c_uint32, ctypes.c_uint32, _SIGNED, _SIZE]),
     'curve_sheet': (ctypes.c_int64, _CURVE + [ctypes.c_uint32, ctypes.c_uint32, _SIGNED, _SIZE]),
     'curve_open': (ctypes.c_int64, [_BYTES, _SIZE] + _LISTS),
-    'desk_reading': (ctypes.c_int32, [_BYTES, _SIZE, ctypes.c_uint32,
-                                      ctypes.POINTER(ctypes.c_uint8), _SIZE]),
+    'curve_write': (ctypes.c_int64, _CURVE + [_MEMORY, _SIZE]),
+    'desk_reading': (ctypes.c_int32, [_BYTES, _SIZE, ctypes.c_uint32, _MEMORY, _SIZE]),
     'curve_refusal_words': (ctypes.c_char_p, [ctypes.c_int]),
 }
 
