@@ -1,3 +1,4 @@
 -- The third demand, and examples by computation.
 pub mod Demands
+pub mod Filed
 pub mod Example
