@@ -46,9 +46,11 @@ record Written (ps : List Point) (code n : ℕ) : Type 0 where
 written : (ps : List Point) (code room n : ℕ) → write-answer ps code room ≡ gives n → Written ps code n
 unfolding write-answer
 written ps code room n e =
-    let after-6 = then-rest (curve-rows ps code) _ e in
+    let rest = row (short-buffer (length ps) room) 12 0 then gives (point-offset (length ps)) in
+    let in-order : (curve-rows ps code then rest) ≡ write-answer ps code room = refl in
+    let after-6 = then-rest (curve-rows ps code) rest (in-order ∙ e) in
     record {
-      accepted = record { none-applies = then-first (curve-rows ps code) _ e };
+      accepted = record { none-applies = then-first (curve-rows ps code) rest (in-order ∙ e) };
       size = sym (gives-injective (then-rest (row (short-buffer (length ps) room) 12 0) _ after-6));
     }
 

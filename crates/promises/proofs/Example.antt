@@ -1,7 +1,7 @@
 -- Document 01's 31 bytes, by computation; and a factor read of that curve by each call.
 -- Assumes nothing.
 use mathlib.Core.Path.{refl}
-use mathlib.Core.List.{[], _∷_}
+use mathlib.Core.List.{[], _∷_, flatMap}
 use lib.Dec.{lit<}
 use lib.IntN.{pos}
 use Rattle.exact.specs.Fraction.{_over_, whole, _+ℚ_, _-ℚ_, _*ℚ_, _/ℚ_, leℚ, ltℚ, eqℚ}
@@ -19,10 +19,12 @@ use Rattle.model.specs.Laws.{Curve}
 use Rattle.layout.specs.Layout.{twos-complement, little-endian, record-at, points-of}
 use Rattle.layout.specs.Head.{wrong-mark, bad-head, bad-size, head-rows}
 use Rattle.pair.specs.Pair.{factors, pair-answer}
+use Rattle.encoding.specs.File.{in-bytes, in-twos-complement, record-bytes, head-bytes, file-bytes}
 use Rattle.file.specs.Open.{short-list, open-answer}
+use Rattle.file.specs.Write.{short-buffer, write-answer}
 use Rattle.desk.specs.Desk.{desk-answer, desk-number, point-records, desk-scratch}
 use Rattle.promises.specs.FactorRead.{FileOf, FactorRead, by-read, by-pair-form, by-pair-plan, by-sheet, by-desk}
-use Rattle.promises.specs.Example.{records, file, one-point, FileExample}
+use Rattle.promises.specs.Example.{records, file, one-point, FileExample, shapeless, WriteExample}
 
 -- the file's curve, and its factor at 550 by each call: Pair's two sides, the second entry of a sheet
 pub record Each (c : Curve) : Type 0 where
@@ -58,3 +60,10 @@ example =
 
 pub file-example : FileExample
 file-example = example .0
+
+pub write-example : WriteExample
+unfolding _over_ leℚ ltℚ eqℚ _-ℚ_ row _then_ filled gradient segments shape-of chord bends fits has-shape
+    bad-count bad-code bad-area bad-value bad-slope point-rows segment-rows curve-rows tabulate
+    twos-complement little-endian record-at in-bytes in-twos-complement record-bytes head-bytes file-bytes flatMap
+    short-buffer write-answer records file shapeless
+write-example = (refl, refl, refl, refl, refl, refl, refl)

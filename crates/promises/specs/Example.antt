@@ -1,12 +1,15 @@
--- Document 01, "The curve file": the 31 bytes that are printed there, opened and read by the desk.
+-- Document 01, "The curve file": the 31 bytes that are printed there, opened, read by the desk, and written.
 -- Assumes nothing.
 use Prim.Native.Nat.{ℕ}
 use mathlib.Core.Path.{_≡_}
 use mathlib.Core.List.{List, [], _∷_, _++_, map}
 use lib.IntN.{pos, negℤ}
 use Rattle.model.specs.Answer.{gives, refused, filled}
+use Rattle.model.specs.Points.{Point}
 use Rattle.layout.specs.Layout.{points-of}
+use Rattle.encoding.specs.File.{record-bytes, file-bytes}
 use Rattle.file.specs.Open.{open-answer}
+use Rattle.file.specs.Write.{write-answer}
 use Rattle.desk.specs.Desk.{desk-answer, desk-number, desk-scratch}
 
 -- the two point records, and the file
@@ -21,6 +24,25 @@ file = 84 ∷ 82 ∷ 70 ∷ 1 ∷ 0 ∷ 2 ∷ 2 ∷ records
 -- one point only: row 1, where no earlier row applies
 unfoldable pub one-point : List ℕ
 one-point = 84 ∷ 82 ∷ 70 ∷ 1 ∷ 0 ∷ 2 ∷ 1 ∷ 244 ∷ 1 ∷ 0 ∷ 0 ∷ 16 ∷ 39 ∷ 0 ∷ 0 ∷ 0 ∷ 0 ∷ 0 ∷ 0 ∷ []
+
+-- points without their shape
+unfoldable pub shapeless : List Point
+shapeless = record { area = 0; value = 0; slope = pos 100 } ∷ record { area = 100; value = 100; slope = pos 200 } ∷ []
+
+-- document 02, item 1
+abbrev pub WriteExample : Type 0
+WriteExample =
+    -- the two points make the 31 bytes; a buffer of 33 keeps its last two
+    (file-bytes (points-of file) 2 ≡ file) × (write-answer (points-of file) 2 33 ≡ gives 31)
+    × (filled (write-answer (points-of file) 2 33) (file-bytes (points-of file) 2)
+    (records ++ 1 ∷ 2 ∷ 3 ∷ 4 ∷ 5 ∷ 6 ∷ 7 ∷ 8 ∷ 9 ∷ [])
+    ≡ file ++ 8 ∷ 9 ∷ [])
+    -- 31 bytes are enough, 30 are not; row 6 is before row 12
+    × (write-answer (points-of file) 2 31 ≡ gives 31) × (write-answer (points-of file) 2 30 ≡ refused 12 0)
+    × (write-answer shapeless 2 0 ≡ refused 6 0)
+    -- numbers of three bytes, and one below 0
+    × (record-bytes (record { area = 20000; value = 200000; slope = negℤ (pos 900) })
+    ≡ 32 ∷ 78 ∷ 0 ∷ 0 ∷ 64 ∷ 13 ∷ 3 ∷ 0 ∷ 124 ∷ 252 ∷ 255 ∷ 255 ∷ [])
 
 abbrev pub FileExample : Type 0
 FileExample =

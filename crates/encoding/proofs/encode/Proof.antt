@@ -96,9 +96,10 @@ returns c =
     let head = head-bytes (entry l .args .code) (length (entry l .args .areas .now)) in
     let e : l .loop .i ≡ length (ps l) = omega (arith, c .loop-test .left, l .loop .inv .most, count l) in
     let all : take (l .loop .i) (ps l) ≡ ps l = ap (λ (k : ℕ). take k (ps l)) e ∙ take-length (ps l) in
+    let headed-is : headed l .put-head .last .0 ≡ put 0 head found = headed l .put-head .ensures in
     l .loop .inv .is
     ∙ ap (λ (qs : List Point). put head-size (flatMap record-bytes qs) (headed l .put-head .last .0)) all
-    ∙ ap (put head-size (flatMap record-bytes (ps l))) (headed l .put-head .ensures)
+    ∙ ap (put head-size (flatMap record-bytes (ps l))) headed-is
     ∙ put-put 0 head (flatMap record-bytes (ps l)) found (omega arith)
     ∙ ap (λ (n : ℕ). put 0 (head-bytes (entry l .args .code) n ++ flatMap record-bytes (ps l)) found) (sym (count l))
 
