@@ -5,6 +5,7 @@
 use mathlib.Core.Path.{_≡_, refl, sym, _∙_, ap}
 use mathlib.Core.List.{List, [], _∷_, _++_, append-nil, append-assoc, flatMap}
 use Prim.Native.Nat.{ℕ, suc, _+_, _*_, _≤_, _<_}
+use native.Mathlib.Numerals.{add-one}
 use native.Mathlib.Omega.{arith}
 use lib.ListN.{length, take, length-append}
 use lib.Seq.{take-suc}
@@ -34,9 +35,10 @@ records-append (p ∷ ps) qs =
     ap (record-bytes p ++_) (records-append ps qs) ∙ sym (append-assoc (record-bytes p) (flatMap record-bytes ps) _)
 
 pub records-next : (ps : List Point) (i : ℕ) → i < length ps →
-    flatMap record-bytes (take (suc i) ps) ≡ flatMap record-bytes (take i ps) ++ record-bytes (point-at ps i)
+    flatMap record-bytes (take (i + 1) ps) ≡ flatMap record-bytes (take i ps) ++ record-bytes (point-at ps i)
 unfolding flatMap
 records-next ps i h =
-    ap (flatMap record-bytes) (take-suc ps i origin h)
+    ap (λ (n : ℕ). flatMap record-bytes (take n ps)) (add-one i)
+    ∙ ap (flatMap record-bytes) (take-suc ps i origin h)
     ∙ records-append (take i ps) (point-at ps i ∷ [])
     ∙ ap (flatMap record-bytes (take i ps) ++_) (append-nil (record-bytes (point-at ps i)))

@@ -18,7 +18,8 @@ use Rattle.model.specs.Points.{Point}
 use Rattle.model.specs.Sheet.{tabulate}
 use Rattle.model.specs.Inner.{origin, point-at, Limits}
 use Rattle.model.proofs.Rows.{row-passed, then-first, row-left}
-use Rattle.layout.specs.Layout.{head-size, record-size, point-offset, byte, little-endian, shape-code, count, record-at, points-of}
+use Rattle.layout.specs.Layout.{head-size, record-size, point-offset, byte, little-endian}
+use Rattle.layout.specs.Layout.{shape-code, count, record-at, points-of}
 use Rattle.layout.specs.Head.{wrong-mark, bad-head, bad-size, head-rows}
 use Rattle.layout.proofs.Heads.{marked, size-of-passed}
 use Rattle.layout.proofs.Numbers.{two-bytes}

@@ -153,7 +153,8 @@ writes bytes buffer small h k =
 opened-first : (bytes : List ℕ) (head : ShapeAndCount) (areas values slopes : ℕ) →
     open-answer bytes areas values slopes ≡ gives head →
     {A : Type 0} (field : Point → A) (found : List A) →
-    map field (points-of bytes) ≡ take (head .count) (filled (open-answer bytes areas values slopes) (map field (points-of bytes)) found)
+    map field (points-of bytes)
+    ≡ take (head .count) (filled (open-answer bytes areas values slopes) (map field (points-of bytes)) found)
 opened-first bytes head areas values slopes e field found =
     let after = filled (open-answer bytes areas values slopes) (map field (points-of bytes)) found in
     sym (first-of bytes (count bytes) field _ (after-result found e refl))

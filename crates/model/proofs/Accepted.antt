@@ -22,7 +22,8 @@ use Rattle.model.specs.Interpolant.{interpolant}
 use Rattle.model.specs.Shape.{has-shape}
 use Rattle.model.specs.Check.{bad-count, bad-code, point-rows, segment-rows, curve-rows}
 use Rattle.model.specs.Read.{value-in, outside, exact-value, reading}
-use Rattle.model.specs.Inner.{Accepted, between, point-at, segment-at, areas-of, Limits, Neighbours, Good, Inside, Taken, Readable}
+use Rattle.model.specs.Inner.{Accepted, between, point-at, segment-at, areas-of, Limits, Neighbours, Good}
+use Rattle.model.specs.Inner.{Inside, Taken, Readable}
 use Rattle.model.proofs.Walk.{Chain, end, link, taken-is-stop, good-ordered}
 use Rattle.model.proofs.Indexed.{Chained, chained, stop-in, stop-at, stop-in-inside}
 use Rattle.model.proofs.Rows.{then-first, then-rest, row-passed, count-of-row-1, code-of-row-2, passed, neighbours}

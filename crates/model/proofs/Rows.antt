@@ -82,7 +82,9 @@ code-of-row-2 code e =
     elim (compare code 255) [
       | inl (h, t) ↦ h
       | inr (h, t) ↦
-          absurd (true≢false (rw (ne-eqb code 1 (λ (k : code ≡ 1). omega arith), ne-eqb code 2 (λ (k : code ≡ 2). omega arith)) at e))
+          let not-1 = ne-eqb code 1 (λ (k : code ≡ 1). omega arith) in
+          let not-2 = ne-eqb code 2 (λ (k : code ≡ 2). omega arith) in
+          absurd (true≢false (rw (not-1, not-2) at e))
     ]
 
 -- ---- rows 3 to 5

@@ -45,7 +45,8 @@ module _ (c : Curve) where
   write-refuses-by-12 : (buffer number place : ℕ) → write-of c buffer ≡ refused number place → number ≡ 12
   unfolding write-answer _then_
   write-refuses-by-12 buffer number place e =
-      row-refused (short-buffer (length (c .points)) buffer) 12 0 _ (rw (c .accepted) at (sym (on-lists-of-is (c .points) _) ∙ e)) .0
+      let on-points = sym (on-lists-of-is (c .points) _) ∙ e in
+      row-refused (short-buffer (length (c .points)) buffer) 12 0 _ (rw (c .accepted) at on-points) .0
 
   desk-reads : (x scratch : ℕ) → record-size * length (c .points) ≤ scratch → desk-answer (file-of c) x scratch ≡ read-of c x
   unfolding desk-answer in-bytes head-bytes file-bytes row _then_

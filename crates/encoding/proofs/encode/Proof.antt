@@ -3,7 +3,6 @@
 use mathlib.Core.Path.{_≡_, refl, sym, _∙_, ap, subst}
 use mathlib.Core.List.{List, _++_, flatMap}
 use Prim.Native.Nat.{ℕ, suc, _+_, _*_, _-_, _≤_, _<_}
-use native.Mathlib.Numerals.{add-one}
 use native.Mathlib.Omega.{arith}
 use borrow.Author.Needs.{needs}
 use lib.ListN.{length, take}
@@ -31,8 +30,7 @@ next ps i p found out h room e k m =
     let place : point-offset i ≡ head-size + length done = omega (arith, size, length-take-le i ps (omega arith)) in
     m ∙ ap (λ (at : ℕ). put at (record-bytes p) out) place ∙ ap (put (head-size + length done) (record-bytes p)) k
     ∙ put-put head-size done (record-bytes p) found room
-    ∙ ap (λ (l : List ℕ). put head-size l found)
-    (ap (λ (q : Point). done ++ record-bytes q) e ∙ sym (records-next ps i h) ∙ ap (λ (k : ℕ). flatMap record-bytes (take k ps)) (sym (add-one i)))
+    ∙ ap (λ (l : List ℕ). put head-size l found) (ap (λ (q : Point). done ++ record-bytes q) e ∙ sym (records-next ps i h))
 
 record Encoding (ps : List Point) (found out : List ℕ) (i : ℕ) : Type 0 where
   pub most : i ≤ length ps
@@ -84,8 +82,9 @@ loop-again c =
     record {
       most = omega arith;
       size = put .put-point .kept .0 ∙ l .loop .inv .size;
-      is = next (ps l) i _ (headed l .put-head .last .0) (l .loop .out) h (omega (arith, room l, entry l .pre .fits)) (read .point-at .ensures) (l .loop .inv .is)
-          (put .put-point .ensures);
+      is =
+          next (ps l) i _ (headed l .put-head .last .0) (l .loop .out) h (omega (arith, room l, entry l .pre .fits))
+          (read .point-at .ensures) (l .loop .inv .is) (put .put-point .ensures);
     }
 
 returns : tie.Need-returns Inv-loop μ-loop

@@ -34,9 +34,11 @@ returns c =
     let first = second .before .before .before .before in
     let start = first .before .before .before in
     let told = slope .unsigned .ensures in
-    let all = three (start .args .at) _ _ _ (start .args .out .now) (omega (arith, start .pre)) (first .put-word .ensures) (second .put-word2 .ensures)
-    (third .put-word3 .ensures) in
-    rw (told, toZ-ofZ {w = w32} {z = start .args .p .slope} (record { sfits = slope .before .struct-told .given .1 .1 .0 .1 })) at all
+    let read = toZ-ofZ {w = w32} {z = start .args .p .slope} (record { sfits = slope .before .struct-told .given .1 .1 .0 .1 }) in
+    let all =
+    three (start .args .at) _ _ _ (start .args .out .now) (omega (arith, start .pre))
+    (first .put-word .ensures) (second .put-word2 .ensures) (third .put-word3 .ensures) in
+    rw (told, read) at all
 
 pub put-point-spec : {M : Type 1} → statement M
 put-point-spec =
