@@ -1,4 +1,4 @@
-"""The writer of curve files for tests, samples and benchmark.
+"""The writer of curve files for tests and benchmark.
 
 Written from document 01, The curve file; whether a curve is accepted does
 not matter here.

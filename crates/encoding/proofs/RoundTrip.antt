@@ -17,7 +17,7 @@ use Rattle.model.specs.Answer.{gives, row, _then_}
 use Rattle.model.specs.Points.{Point}
 use Rattle.model.specs.Sheet.{tabulate}
 use Rattle.model.specs.Inner.{origin, point-at, Limits}
-use Rattle.model.proofs.Rows.{row-passed, then-first, row-left}
+use Rattle.model.proofs.Rows.{row-passed}
 use Rattle.layout.specs.Layout.{head-size, record-size, point-offset, byte, little-endian}
 use Rattle.layout.specs.Layout.{shape-code, count, record-at, points-of}
 use Rattle.layout.specs.Head.{wrong-mark, bad-head, bad-size, head-rows}

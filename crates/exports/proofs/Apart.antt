@@ -1,10 +1,10 @@
 -- Results and refusals never meet, and a refusal's number and place can be had from the number that C gets.
 -- Assumes nothing.
 use mathlib.Core.Path.{_≡_, refl}
-use mathlib.Core.List.{List, [], _∷_}
+use mathlib.Core.List.{[], _∷_}
 use Prim.Native.Nat.{ℕ, _+_, _*_, _/_, _%_, _<_, _≤_}
 use native.Mathlib.Omega.{arith}
-use lib.IntN.{ℤ, pos, negℤ, natAbs, _-ℤ_}
+use lib.IntN.{ℤ, pos, negℤ, _-ℤ_}
 use lib.Signed.{_≤ℤ_}
 use Rattle.exact.proofs.Ring.{ring, terms}
 use Rattle.exact.proofs.Order as Z

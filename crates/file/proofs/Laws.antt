@@ -1,20 +1,18 @@
 -- Write and Open, there and back.
 -- Assumes nothing.
 use mathlib.Core.Path.{_≡_, refl, sym, _∙_, ap, subst}
-use mathlib.Core.Bool.{false}
 use mathlib.Core.List.{List, _++_, map}
-use Prim.Native.Nat.{ℕ, _≤_, _<_}
+use Prim.Native.Nat.{ℕ, _≤_}
 use native.Mathlib.Omega.{arith}
-use borrow.Author.Tests.{le-ltb, ltb-false}
-use lib.Dec.{ltb}
+use borrow.Author.Tests.{le-ltb}
 use lib.IntN.{ℤ}
-use lib.ListN.{length, take, drop, length-map}
+use lib.ListN.{length, take, drop}
 use lib.Seq.{take-at}
 use Rattle.model.specs.Answer.{Answer, gives, row, _then_, filled}
 use Rattle.model.specs.Points.{Point, points}
-use Rattle.model.specs.Check.{curve-rows, on-lists}
+use Rattle.model.specs.Check.{curve-rows}
 use Rattle.model.specs.Inner.{Accepted}
-use Rattle.model.proofs.Rows.{gives-injective, then-first, then-rest, row-passed}
+use Rattle.model.proofs.Rows.{gives-injective, then-first, then-rest}
 use Rattle.model.proofs.Answers.{on-lists-gives, on-lists-of-is}
 use Rattle.model.proofs.Lists.{fields-of, fields-length, points-of-fields}
 use Rattle.model.proofs.Accepted.{limits-of}

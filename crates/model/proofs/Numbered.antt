@@ -12,14 +12,14 @@ use mathlib.Core.Option.{Option, none, some}
 use Prim.Native.Nat.{ℕ, zero, suc, _+_, _≤_}
 use native.Mathlib.Omega.{arith}
 use borrow.Author.Tests.{ltb-false}
-use lib.Dec.{T, eqb, leb, ltb, leb→le}
+use lib.Dec.{T, eqb, leb, leb→le}
 use lib.IntN.{ℤ}
 use lib.ListN.{length}
 use mir.Facts.{and-yes}
 use Rattle.exact.proofs.Tests.{or-right}
 use Rattle.model.specs.Answer.{Answer, gives, refused, row, _then_}
-use Rattle.model.specs.Points.{Point, points, Segment, segments, Shape, shape-of}
-use Rattle.model.specs.Check.{bad-count, point-rows, segment-rows, curve-rows, check-answer, on-lists}
+use Rattle.model.specs.Points.{Point, points, Segment, segments, Shape}
+use Rattle.model.specs.Check.{point-rows, segment-rows, curve-rows, check-answer, on-lists}
 use Rattle.model.specs.Read.{read-answer}
 use Rattle.model.specs.Inner.{number-most}
 use Rattle.model.specs.Sheet.{entries-most, bad-sheet, entry-rows, sheet-answer}

@@ -1,19 +1,17 @@
 -- The file of an accepted curve.
 -- Assumes nothing.
 use Prim.Native.Nat.{ℕ, _*_, _≤_}
-use mathlib.Core.Path.{_≡_, refl, sym, _∙_, ap}
+use mathlib.Core.Path.{_≡_, refl, sym, _∙_}
 use mathlib.Core.List.{List}
 use borrow.Author.Tests.{le-ltb}
 use lib.ListN.{length}
 use Rattle.model.specs.Answer.{gives, refused, row, _then_}
 use Rattle.model.specs.Laws.{Curve}
-use Rattle.model.specs.Check.{curve-rows}
-use Rattle.model.specs.Read.{read-answer}
 use Rattle.model.proofs.Rows.{row-refused}
 use Rattle.model.proofs.Answers.{on-lists-of-is}
 use Rattle.model.proofs.Laws.{curve-accepted}
 use Rattle.model.proofs.Accepted.{limits-of}
-use Rattle.layout.specs.Layout.{record-size, point-offset, shape-code, points-of}
+use Rattle.layout.specs.Layout.{record-size, point-offset}
 use Rattle.encoding.specs.File.{in-bytes, head-bytes, file-bytes}
 use Rattle.encoding.proofs.Records.{file-length}
 use Rattle.encoding.proofs.RoundTrip.{head-passes, points-back, file-back}

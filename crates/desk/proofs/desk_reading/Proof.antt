@@ -1,7 +1,7 @@
 -- `desk::desk_reading` meets its contract: rows 9 and 10, row 11, rows 1 to 7 of the points, or the factor and the records
 -- copied. A refusal leaves the scratch as it was.
 -- Assumes nothing.
-use mathlib.Core.Path.{_≡_, refl, sym, _∙_, ap, subst}
+use mathlib.Core.Path.{_≡_, refl, sym, _∙_, subst}
 use mathlib.Core.List.{List}
 use Prim.Native.Nat.{ℕ, _*_}
 use native.Mathlib.Omega.{arith}
@@ -9,7 +9,6 @@ use borrow.Author.Needs.{needs}
 use borrow.Author.Tests.{lt-ltb, le-ltb}
 use lib.IntN.{ℤ}
 use lib.ListN.{length}
-use mir.Syntax.{w32}
 use mir.Facts.{toZ-ofZ}
 use Rattle.model.specs.Answer.{Answer, gives, refused, row, _then_}
 use Rattle.model.specs.Read.{read-answer}

@@ -8,7 +8,7 @@ use borrow.Author.Needs.{needs}
 use lib.ListN.{length}
 use mir.Syntax.{w32}
 use mir.Facts.{toZ-ofZ}
-use Rattle.encoding.specs.File.{in-bytes, in-twos-complement, record-bytes}
+use Rattle.encoding.specs.File.{in-bytes, record-bytes}
 use Rattle.encoding.specs.Inner.{put}
 use Rattle.encoding.proofs.Pieces.{put-put}
 use Rattle.encoding.proofs.put_point.Statement.{statement}

@@ -2,7 +2,7 @@
 -- Assumes nothing.
 use mathlib.Core.Path.{_≡_, refl, sym, _∙_, ap, subst}
 use mathlib.Core.List.{List, [], _∷_}
-use Prim.Native.Nat.{ℕ, _≤_}
+use Prim.Native.Nat.{_≤_}
 use native.Mathlib.Omega.{arith}
 use borrow.Author.Needs.{needs}
 use borrow.Author.Tests.{lt-ltb, le-ltb}
@@ -10,11 +10,11 @@ use lib.IntN.{ℤ, pos}
 use lib.ListN.{length, set, drop}
 use mir.Syntax.{w32}
 use mir.Facts.{toZ-ofZ}
-use Rattle.model.specs.Answer.{Answer, gives, refused, row, _then_}
+use Rattle.model.specs.Answer.{Answer, refused, row, _then_}
 use Rattle.model.proofs.Numbered.{Numbered}
 use Rattle.pair.specs.Pair.{Factors}
 use Rattle.pair.specs.Calls.{factors-answer}
-use Rattle.exports.specs.Exports.{pair-entries, c-number, c-pair-answer, c-pair-list}
+use Rattle.exports.specs.Exports.{pair-entries, c-pair-answer, c-pair-list}
 use Rattle.exports.proofs.Numbers.{c-refused, c-given, in-pair}
 use Rattle.export_pair.proofs.curve_pair.Statement.{statement}
 use Rattle.export_pair.proofs.curve_pair.Tie as tie

@@ -1,6 +1,6 @@
 -- `file_lookup::read_fault` meets its contract: a fault of the curve, then row 7.
 -- Assumes nothing.
-use mathlib.Core.Path.{_≡_, refl, sym, _∙_}
+use mathlib.Core.Path.{refl, sym, _∙_}
 use borrow.Author.Needs.{needs}
 use Rattle.model.specs.Answer.{row, _then_}
 use Rattle.model.specs.Inner.{fault-answer, Accepted}

@@ -1,6 +1,6 @@
 -- `rows::all_pass` meets its contract. The loop's invariant: no row refuses the points to `left` or the segments between them.
 -- Assumes nothing.
-use mathlib.Core.Path.{_≡_, sym, _∙_}
+use mathlib.Core.Path.{_≡_, sym}
 use mathlib.Core.Bool.{true≢false}
 use mathlib.Core.List.{List}
 use Prim.Native.Nat.{_+_, _-_, _≤_}
