@@ -23,14 +23,12 @@ fn put_word(out: &mut [u8], at: usize, x: u32)
     out[at + 3] = (z / 256 % 256) as u8;
 }
 
-// Two's complement.
+// Two's complement: what x + 2^32 leaves by 2^32.
 fn unsigned(x: i32) -> u32
     ensures { λ r. ⌜ r ≡ in-twos-complement x ⌝ }
 {
-    if x < 0 {
-        return 4294967295 - ((-1 - x) as u32);
-    }
-    x as u32
+    let above = (x as i64 + 4294967296) as u64;
+    (above % 4294967296) as u32
 }
 
 fn put_point(out: &mut [u8], at: usize, p: Point)

@@ -1,69 +1,67 @@
 -- `encoding::unsigned` meets its contract. A signed local holds bits, which are read back (`toZ-ofZ`) where it is used.
 -- Assumes nothing.
 use mathlib.Core.Path.{_≡_, refl}
-use mathlib.Core.Bool.{true, false, true≢false}
-use Prim.Native.Nat.{_-_}
+use Prim.Native.Nat.{ℕ, suc, _+_, _-_, _%_, _<_}
 use native.Mathlib.Omega.{arith}
-use borrow.Author.Tests.{ltb-true}
-use lib.IntN.{ℤ, pos, negsuc, natAbs}
-use lib.Signed.{ltZ}
-use mir.Syntax.{w32}
+use borrow.Author.Needs.{needs}
+use borrow.Author.Tests.{le-ltb}
+use lib.IntN.{ℤ, pos, negsuc, _+ℤ_}
+use mir.Syntax.{w32, w64}
 use mir.Val.{SFits}
-use mir.Facts.{toZ-ofZ, fits-natAbs}
-use Rattle.exact.proofs.Signed.{cast-of-natural, natural-of-not-negative}
-use Rattle.exact.proofs.Signed.{mirror, mirror-negsuc, sfits-mirror, mirror-natural-of-negative}
+use mir.Facts.{toZ-ofZ}
+use Rattle.exact.proofs.Magnitude.{sfits-of-size}
+use Rattle.exact.proofs.Signed.{cast-of-natural}
 use Rattle.encoding.specs.File.{in-twos-complement}
 use Rattle.encoding.proofs.unsigned.Statement.{statement}
 use Rattle.encoding.proofs.unsigned.Tie as tie
 
--- below 0, what the size of −1 − z lacks to 2 ^ 32 − 1
-of-negative : (z : ℤ) → ltZ z (pos 0) ≡ true → 4294967295 - natAbs (mirror z) ≡ in-twos-complement z
-unfolding in-twos-complement
-of-negative (pos m) e = absurd (let h = ltb-true m 0 e in omega arith)
-of-negative (negsuc m) e = rw (mirror-negsuc m) (omega arith)
+-- z + 2 ^ 32, a natural number
+record Raised (z : ℤ) : Type 0 where
+  pub number : ℕ
+  pub is : z +ℤ pos 4294967296 ≡ pos number
+  pub small : number < 6442450944
+  pub rest : number % 4294967296 ≡ in-twos-complement z
 
-of-natural : (z : ℤ) → ltZ z (pos 0) ≡ false → natAbs z ≡ in-twos-complement z
+raised : (z : ℤ) → SFits w32 z → Raised z
 unfolding in-twos-complement
-of-natural (pos m) e = refl
-of-natural (negsuc m) e = absurd (true≢false e)
+raised (pos n) f =
+    record { number = n + 4294967296; is = refl; small = omega (arith, f .sfits); rest = omega (arith, f .sfits) }
+raised (negsuc n) f =
+    record {
+      number = 4294967296 - suc n;
+      is = rw (le-ltb 4294967296 (suc n) (omega (arith, f .sfits)));
+      small = omega arith;
+      rest = omega (arith, f .sfits);
+    }
 
-module _ (c : tie.Then1) where
+wide : (z : ℤ) → SFits w32 z → SFits w64 z
+wide (pos n) f = record { sfits = omega (arith, f .sfits) }
+wide (negsuc n) f = record { sfits = omega (arith, f .sfits) }
+
+module _ (c : tie.Start) where
   abbrev x : ℤ
-  x = c .before .args .x
+  x = c .args .x
 
-  fits : SFits w32 x
-  fits = c .before .fits .x
+  above : Raised x
+  above = raised x (c .fits .x)
 
-  negative : ltZ x (pos 0) ≡ true
-  negative = rw (toZ-ofZ fits) at (c .if1 .taken)
+  above-fits : SFits w64 (x +ℤ pos 4294967296)
+  above-fits = sfits-of-size w64 _ (rw (above .is) (omega (arith, above .small)))
 
-  mirror-fits : SFits w32 (mirror x)
-  mirror-fits = sfits-mirror fits
+cast-above : tie.Need-cast-above
+cast-above c = rw (toZ-ofZ (c .fits .x)) (wide (x c) (c .fits .x))
 
-sub-result : tie.Need-sub-result
-sub-result c = rw (toZ-ofZ (fits c)) (mirror-fits c)
+add-above : tie.Need-add-above
+add-above c = rw (toZ-ofZ (c .fits .x), toZ-ofZ (wide (x c) (c .fits .x))) (above-fits c)
 
-cast-result : tie.Need-cast-result
-cast-result c =
-    rw (toZ-ofZ (fits c), toZ-ofZ (mirror-fits c))
-    (cast-of-natural tt (mirror-fits c) (mirror-natural-of-negative (x c) (negative c)))
-
-sub-result-2 : tie.Need-sub-result-2
-sub-result-2 c =
-    rw (toZ-ofZ (fits c), toZ-ofZ (mirror-fits c)) (omega (arith, fits-natAbs {w′ = w32} tt (mirror-fits c)))
+cast-above-2 : tie.Need-cast-above-2
+cast-above-2 c =
+    rw (toZ-ofZ (c .fits .x), toZ-ofZ (wide (x c) (c .fits .x)), toZ-ofZ (above-fits c))
+    (cast-of-natural tt (above-fits c) (rw (above c .is) refl))
 
 returns : tie.Need-returns
-returns c = rw (toZ-ofZ (fits c), toZ-ofZ (mirror-fits c)) (of-negative (x c) (negative c))
-
-not-negative : (c : tie.Else1) → ltZ (c .before .args .x) (pos 0) ≡ false
-not-negative c = rw (toZ-ofZ (c .before .fits .x)) at (c .if1 .left)
-
-cast-result-2 : tie.Need-cast-result-2
-cast-result-2 c =
-    rw (toZ-ofZ (c .before .fits .x)) (cast-of-natural tt (c .before .fits .x) (natural-of-not-negative _ (not-negative c)))
-
-returns-2 : tie.Need-returns-2
-returns-2 c = rw (toZ-ofZ (c .before .fits .x)) (of-natural _ (not-negative c))
+returns c =
+    rw (toZ-ofZ (c .fits .x), toZ-ofZ (wide (x c) (c .fits .x)), toZ-ofZ (above-fits c), above c .is) (above c .rest)
 
 pub unsigned-spec : {M : Type 1} → statement M
-unsigned-spec = tie.close (tie.spec sub-result cast-result sub-result-2 returns cast-result-2 returns-2)
+unsigned-spec = tie.close (tie.spec cast-above add-above cast-above-2 (search needs) returns)
