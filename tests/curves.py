@@ -4,6 +4,8 @@ A curve is a list of points (area, value, slope) and a shape code. The curves
 made here are meant to be accepted; whether one is, exact_fractions.py says.
 """
 
+import random
+
 AREA_MAX = 20000
 GAP_MAX = 2000
 VALUE_MAX = 200000
@@ -226,6 +228,16 @@ def limit_curve(rng):
     if kind == 1:
         return limit_rising(rng), RISING
     return limit_convex(rng), CONVEX
+
+
+def random_curves(seed, number):
+    """(points, shape), both shapes, and some at the limits."""
+    rng = random.Random(seed)
+    for index in range(number):
+        if index % 5 == 4:
+            yield limit_curve(rng)
+        else:
+            yield some_curve(rng, 1 + index % 2), 1 + index % 2
 
 
 def convex_through(rng, slopes, gap):

@@ -295,16 +295,6 @@ class Sheets(Case):
                             7, 1, ' (area 4294967795' + ends)
 
 
-def random_curves(seed, number):
-    """(points, shape) of accepted curves, both shapes, and some at the limits."""
-    rng = random.Random(seed)
-    for index in range(number):
-        if index % 5 == 4:
-            yield curves.limit_curve(rng)
-        else:
-            yield curves.some_curve(rng, 1 + index % 2), 1 + index % 2
-
-
 def text_line(rng, fields):
     """The fields in one of the forms that a line may have, perhaps with a comment."""
     words = [rng.choice(['%s', '%s', '"%s"', '" %s"']) % field for field in fields]
@@ -387,7 +377,7 @@ class Making(Case):
     def test_forms(self):
         """Blanks, commas, semicolons, quotation marks, comments, line ends, column names."""
         rng = random.Random('forms')
-        for points, shape in random_curves('forms', 250):
+        for points, shape in curves.random_curves('forms', 250):
             text, _, _ = some_text(rng, points, shape)
             self.assert_made(text, curve_file(points, shape))
 
@@ -410,7 +400,7 @@ class Making(Case):
         """The refusal of the exact fractions, with the line of the point or of the shape."""
         rng = random.Random('refused texts')
         seen = set()
-        for points, shape in random_curves('refused texts', 150):
+        for points, shape in curves.random_curves('refused texts', 150):
             shape = rng.choice([shape, shape, 3 - shape, 0, 3, 258, 2**32 - 1])
             points = rng.choice([curves.past_limit, curves.shapeless_points])(rng, points)
             lists = curves.lists(points)
@@ -576,7 +566,7 @@ class Making(Case):
         pieces = [b'"', b'#', b',', b';', b' ', b'\n', b'\r', b'-', b'.', b'0', b'9', b'\xff',
                   b'\x00', b'shape', b'area', '\u2212'.encode(), b'']
         seen = set()
-        for points, shape in random_curves('damaged texts', 400):
+        for points, shape in curves.random_curves('damaged texts', 400):
             text = some_text(rng, points[:4], shape)[0]
             for _ in range(rng.choice([1, 1, 2, 5])):
                 at = rng.randrange(len(text))
@@ -650,7 +640,7 @@ class Making(Case):
     def test_show_and_back(self):
         for path, *_ in accepted_samples():
             self.assert_made(inside('show', path).data, open_bytes(path))
-        for points, shape in random_curves('show and back', 250):
+        for points, shape in curves.random_curves('show and back', 250):
             data = curve_file(points, shape)
             self.assert_made(inside('show', '-', data=data).data, data)
 

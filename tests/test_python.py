@@ -63,16 +63,6 @@ def wanted(reference, *words):
     return ('ok', given[2])                     # a sheet: its entries
 
 
-def random_curves(seed, number):
-    """(points, shape) of accepted curves, both shapes, and some at the limits."""
-    rng = random.Random(seed)
-    for index in range(number):
-        if index % 5 == 4:
-            yield curves.limit_curve(rng)
-        else:
-            yield curves.some_curve(rng, 1 + index % 2), 1 + index % 2
-
-
 def opened(data):
     """The reference's answer to a file; its result is the curve."""
     given = ref.open_file(data, (255, 255, 255))
@@ -104,7 +94,7 @@ class Lists(unittest.TestCase):
 
     def test_accepted_curves(self):
         rng = random.Random('lists 1')
-        for points, shape in random_curves('lists 2', 60):
+        for points, shape in curves.random_curves('lists 2', 60):
             curve = lists(points) + [shape]
             self.same(fc.check, ref.check, *curve)
             for _ in range(6):
@@ -117,7 +107,7 @@ class Lists(unittest.TestCase):
 
     def test_sheets(self):
         rng = random.Random('sheets')
-        for points, shape in random_curves('sheets', 25):
+        for points, shape in curves.random_curves('sheets', 25):
             curve = lists(points) + [shape]
             first, last = points[0][0], points[-1][0]
             step = rng.randint(1, max(1, (last - first) // 3))
@@ -140,7 +130,7 @@ class Lists(unittest.TestCase):
         rng = random.Random('faults')
         fields = [(0, 20001), (0, LARGEST), (1, 200001), (1, LARGEST), (2, 10001), (2, -10001),
                   (2, 2**31 - 1), (2, -2**31)]
-        for points, shape in random_curves('faults', 60):
+        for points, shape in curves.random_curves('faults', 60):
             curve = lists(points) + [shape]
             at = rng.randrange(len(points))
             for field, number in fields:
@@ -175,7 +165,7 @@ class Files(unittest.TestCase):
     def files(self):
         rng = random.Random('files')
         yield from (data for _, data in sample_files())
-        for points, shape in random_curves('files', 60):
+        for points, shape in curves.random_curves('files', 60):
             data = curve_file(points, shape)
             yield data
             yield data[:rng.randrange(len(data))]
@@ -276,7 +266,7 @@ class Writing(unittest.TestCase):
                          '58020000b036000010270000')
 
     def test_accepted_curves(self):
-        for points, shape in random_curves('writing', 300):
+        for points, shape in curves.random_curves('writing', 300):
             data = curve_file(points, shape)
             written = fc.write(*lists(points), shape)
             self.assertIs(type(written), bytes)
@@ -285,7 +275,7 @@ class Writing(unittest.TestCase):
             self.assertEqual(len(data), 7 + 12 * len(points))
 
     def test_there_and_back(self):
-        for points, shape in random_curves('there and back', 100):
+        for points, shape in curves.random_curves('there and back', 100):
             curve, columns = fc.Curve(points, shape), lists(points)
             self.assertEqual(fc.Curve.from_bytes(curve.to_bytes()), curve)
             self.assertEqual(fc.open_bytes(fc.write(*columns, shape)),
@@ -303,7 +293,7 @@ class Writing(unittest.TestCase):
 
     def test_refused(self):
         seen = set()
-        for points, shape in random_curves('refused writing', 60):
+        for points, shape in curves.random_curves('refused writing', 60):
             for at in (0, len(points) // 2, len(points) - 1):
                 for field, number in [(0, 20001), (0, LARGEST), (1, 200001), (1, LARGEST),
                                       (2, 10001), (2, -10001), (2, -2**31), (1, 0)]:
@@ -380,7 +370,7 @@ class Writing(unittest.TestCase):
             self.assertEqual(same.to_bytes(), data)
 
     def test_threads(self):
-        made = [fc.Curve(*each) for each in random_curves('writing threads', 200)]
+        made = [fc.Curve(*each) for each in curves.random_curves('writing threads', 200)]
         with multiprocessing.pool.ThreadPool(4) as pool:
             files = pool.map(fc.Curve.to_bytes, made)
         self.assertEqual(files, [curve_file(curve.points, curve.shape) for curve in made])
@@ -478,7 +468,7 @@ class Numbers(unittest.TestCase):
 class TheCurve(unittest.TestCase):
 
     def test_attributes(self):
-        for points, shape in random_curves('attributes', 20):
+        for points, shape in curves.random_curves('attributes', 20):
             curve = fc.Curve(points, shape)
             self.assertEqual(curve.points, tuple(points))
             self.assertEqual(list(zip(curve.areas, curve.values, curve.slopes)), points)
@@ -488,7 +478,7 @@ class TheCurve(unittest.TestCase):
 
     def test_methods(self):
         rng = random.Random('methods')
-        for points, shape in random_curves('methods', 25):
+        for points, shape in curves.random_curves('methods', 25):
             curve, columns = fc.Curve(points, shape), lists(points)
             for area in (curves.inner_area(rng, points), curves.outer_area(rng, points)):
                 inner = curves.inner_area(rng, points)
