@@ -11,7 +11,7 @@ unfoldable pub in-bytes : ℕ → ℕ → List ℕ
 in-bytes zero x = []
 in-bytes (suc n) x = x % 256 ∷ in-bytes n (x / 256)
 
--- two's complement, as a number of 4 bytes: 2^32 less the size of a negative number
+-- two's complement, as a number of 4 bytes; negsuc n is −(n + 1), to which 2^32 is added
 unfoldable pub in-twos-complement : ℤ → ℕ
 in-twos-complement (pos n) = n
 in-twos-complement (negsuc n) = 4294967296 - suc n

@@ -4,6 +4,7 @@ ghost use Prim.Native.Nat.{_+_, _≤_, _<_};
 ghost use lib.ListN.{length};
 ghost use Rattle.model.specs.Points.{points};
 ghost use Rattle.point.specs.Inner.{point-of};
+ghost use Rattle.layout.specs.Layout.{head-size, record-size};
 ghost use Rattle.encoding.specs.File.{in-bytes, in-twos-complement, record-bytes, head-bytes, file-bytes};
 ghost use Rattle.encoding.specs.Inner.{put, Encodable};
 use layout::HEAD_SIZE;
@@ -23,7 +24,7 @@ fn put_word(out: &mut [u8], at: usize, x: u32)
     out[at + 3] = (z / 256 % 256) as u8;
 }
 
-// Two's complement: what x + 2^32 leaves by 2^32.
+// Two's complement: the remainder of x + 2^32 by 2^32.
 fn unsigned(x: i32) -> u32
     ensures { λ r. ⌜ r ≡ in-twos-complement x ⌝ }
 {
@@ -31,8 +32,9 @@ fn unsigned(x: i32) -> u32
     (above % 4294967296) as u32
 }
 
+// A point's record, from `at` on.
 fn put_point(out: &mut [u8], at: usize, p: Point)
-    requires { ⌜ at + 12 ≤ length (now out) ⌝ }
+    requires { ⌜ at + record-size ≤ length (now out) ⌝ }
     ensures { λ _. ⌜ now (out .exit) ≡ put at (record-bytes (point-of p)) (now (out .entry)) ⌝ }
 {
     put_word(out, at, p.area);
@@ -42,7 +44,7 @@ fn put_point(out: &mut [u8], at: usize, p: Point)
 
 // The letters TRF, version 1, the shape code and the count.
 fn put_head(out: &mut [u8], code: u8, count: u8)
-    requires { ⌜ 7 ≤ length (now out) ⌝ }
+    requires { ⌜ head-size ≤ length (now out) ⌝ }
     ensures { λ _. ⌜ now (out .exit) ≡ put 0 (head-bytes code count) (now (out .entry)) ⌝ }
 {
     out[0] = 84;

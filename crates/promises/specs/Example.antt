@@ -25,7 +25,7 @@ file = 84 ∷ 82 ∷ 70 ∷ 1 ∷ 0 ∷ 2 ∷ 2 ∷ records
 unfoldable pub one-point : List ℕ
 one-point = 84 ∷ 82 ∷ 70 ∷ 1 ∷ 0 ∷ 2 ∷ 1 ∷ 244 ∷ 1 ∷ 0 ∷ 0 ∷ 16 ∷ 39 ∷ 0 ∷ 0 ∷ 0 ∷ 0 ∷ 0 ∷ 0 ∷ []
 
--- points without their shape
+-- K9's points, which have not their shape
 unfoldable pub shapeless : List Point
 shapeless = record { area = 0; value = 0; slope = pos 100 } ∷ record { area = 100; value = 100; slope = pos 200 } ∷ []
 
