@@ -402,3 +402,88 @@ int64_t plain_curve_write(const uint32_t *areas, size_t areas_len,
     }
     return (int64_t)length;
 }
+
+/* ---- slopes by the harmonic rule ---- */
+
+typedef struct {
+    uint64_t rise, gap;
+} chord;
+
+/* From the point at i to the next one, which is not lower. */
+static inline chord chord_at(const uint32_t *areas, const uint32_t *values,
+                             size_t i)
+{
+    chord c = {values[i + 1] - values[i], areas[i + 1] - areas[i]};
+    return c;
+}
+
+/* Hundredths, rounded down, between two chords. */
+static inline uint64_t inner_slope(chord l, chord r)
+{
+    if (l.rise == 0 || r.rise == 0)
+        return 0;
+    return 100 * l.rise * r.rise * (l.gap + r.gap) /
+           (l.gap * r.gap * (l.rise + r.rise));
+}
+
+/* At the end of the first or the last chord; the other one is beside it. */
+static inline uint64_t end_slope(chord own, chord other)
+{
+    if (own.rise == 0)
+        return 0;
+    if (other.rise == 0)
+        return 200 * own.rise / own.gap;
+    return 100 * own.rise * (own.rise + other.rise) * other.gap /
+           (own.gap * (own.gap + other.gap) * other.rise);
+}
+
+/* Rows 3, 4 and 6: a refusal, or 0. */
+static inline int64_t rising_fault(const uint32_t *areas,
+                                   const uint32_t *values, size_t count)
+{
+    size_t falling = count;
+    for (size_t i = 0; i < count; i++) {
+        point p = {areas[i], values[i], 0};
+        int fault = point_fault(p, i == 0 ? 0 : areas[i - 1], i == 0);
+        if (fault)
+            return refused(fault, i);
+        if (i > 0 && values[i] < values[i - 1] && falling == count)
+            falling = i - 1;
+    }
+    return falling < count ? refused(6, falling) : 0;
+}
+
+int64_t plain_curve_fill_slopes(const uint32_t *areas, size_t areas_len,
+                                const uint32_t *values, size_t values_len,
+                                int32_t *slopes, size_t slopes_len)
+{
+    size_t count = areas_len;
+    int32_t filled[64];
+    if (values_len != count || slopes_len != count)
+        return refused(1, 0);
+    if (count < 2 || count > 64)
+        return refused(1, 0);
+    int64_t fault = rising_fault(areas, values, count);
+    if (fault)
+        return fault;
+    chord before = chord_at(areas, values, 0), after = before;
+    for (size_t i = 0; i < count; i++) {
+        uint64_t slope;
+        if (i + 1 < count)
+            after = chord_at(areas, values, i);
+        if (count == 2)
+            slope = 100 * after.rise / after.gap;
+        else if (i == 0)
+            slope = end_slope(after, chord_at(areas, values, 1));
+        else if (i + 1 == count)
+            slope = end_slope(before, chord_at(areas, values, i - 2));
+        else
+            slope = inner_slope(before, after);
+        if (slope > 10000)
+            return refused(5, i);
+        filled[i] = (int32_t)slope;
+        before = after;
+    }
+    memcpy(slopes, filled, count * sizeof slopes[0]);
+    return (int64_t)count;
+}

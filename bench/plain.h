@@ -45,4 +45,8 @@ int64_t plain_curve_write(const uint32_t *areas, size_t areas_len,
                           const int32_t *slopes, size_t slopes_len,
                           uint32_t shape, uint8_t *out, size_t out_len);
 
+int64_t plain_curve_fill_slopes(const uint32_t *areas, size_t areas_len,
+                                const uint32_t *values, size_t values_len,
+                                int32_t *slopes, size_t slopes_len);
+
 #endif

@@ -59,7 +59,8 @@ extern "C" {
 #define CURVE_REFUSED_SHAPE 2    /* the shape code is neither 1 nor 2 */
 #define CURVE_REFUSED_AREA 3     /* a point's area; the place is the point */
 #define CURVE_REFUSED_VALUE 4    /* a point's value; the place is the point */
-#define CURVE_REFUSED_SLOPE 5    /* a point's slope; the place is the point */
+#define CURVE_REFUSED_SLOPE 5    /* a point's slope; the place is the point;
+                                    curve_fill_slopes tries it after 6 */
 #define CURVE_REFUSED_SEGMENT 6  /* no shape; the place is the left point */
 #define CURVE_REFUSED_BUFFER 12  /* a file does not fit into the buffer */
 #define CURVE_REFUSED_SHEET 8    /* step 0, no entries or more than 1,024 */
@@ -83,7 +84,7 @@ extern "C" {
 const char *curve_refusal_words(int number);
 
 /*
- * What a caller of the six calls owes, and nothing else:
+ * What a caller of the seven calls owes, and nothing else:
  *   - a pointer is good for its length, which counts entries (bytes for a
  *     file); where the length is 0 it may be null;
  *   - a list that a call writes (it is not const) overlaps no other one of
@@ -145,6 +146,17 @@ int64_t curve_write(const uint32_t *areas, size_t areas_len,
                     const uint32_t *values, size_t values_len,
                     const int32_t *slopes, size_t slopes_len, uint32_t shape,
                     uint8_t *out, size_t out_len);
+
+/*
+ * The number of points, 2 to 64, if these areas and values rise or stay level
+ * from each point to the next; slopes then holds a slope for each point, by
+ * the harmonic rule, rounded down. With these slopes the curve is accepted as
+ * CURVE_RISING. What slopes held before is not looked at. A segment that falls
+ * is refused 6, and then a slope above 10,000 is refused 5.
+ */
+int64_t curve_fill_slopes(const uint32_t *areas, size_t areas_len,
+                          const uint32_t *values, size_t values_len,
+                          int32_t *slopes, size_t slopes_len);
 
 #ifdef __cplusplus
 }
