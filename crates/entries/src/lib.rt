@@ -29,7 +29,7 @@ pub fn bad_sheet(step: u32, n: usize) -> bool
 pub fn first_outside(areas: &[u32], start: u32, step: u32) -> usize
     requires { ⌜ (0 < length (now areas)) × (0 < step) ⌝ }
     ensures { λ r. ⌜ ((ps : List Point) → areas-of ps ≡ now (areas .entry) → (n : ℕ) →
-        first-answer r n ≡ entry-rows ps start step 0 n) ⌝ }
+        first-answer 7 r n ≡ entry-rows ps start step n) ⌝ }
 {
     if lookup::outside(areas, start) {
         return 0;

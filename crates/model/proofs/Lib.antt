@@ -17,5 +17,5 @@ pub mod Search
 pub mod Laws
 pub mod Answers
 pub mod Filling
-pub mod SheetRows
+pub mod Places
 pub mod Numbered

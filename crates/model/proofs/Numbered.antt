@@ -1,6 +1,6 @@
 -- The numbers of refusals are 1 to 12, their places at most 1,024.
 --   Numbered             an answer's refusal, if it is one, has such a number and place
---   in-row, in-then      so have a row's, and those of rows one after the other
+--   in-row, in-then      so have a row's, and those of rows one after the other; in-each, of a row at each of some places
 --   in-curve             rows 1 to 6
 --   in-check, in-reading, in-sheet    Check, Read and Sheet
 --   in-lists             a call on three lists
@@ -17,12 +17,12 @@ use lib.IntN.{ℤ}
 use lib.ListN.{length}
 use mir.Facts.{and-yes}
 use Rattle.exact.proofs.Tests.{or-right}
-use Rattle.model.specs.Answer.{Answer, gives, refused, row, _then_}
+use Rattle.model.specs.Answer.{Answer, gives, refused, row, _then_, row-at-each}
 use Rattle.model.specs.Points.{Point, points, Segment, segments, Shape}
 use Rattle.model.specs.Check.{point-rows, segment-rows, curve-rows, check-answer, on-lists}
 use Rattle.model.specs.Read.{read-answer}
 use Rattle.model.specs.Inner.{number-most}
-use Rattle.model.specs.Sheet.{entries-most, bad-sheet, entry-rows, sheet-answer}
+use Rattle.model.specs.Sheet.{entries-most, bad-sheet, sheet-answer}
 use Rattle.model.proofs.Rows.{count-of-row-1, row-left}
 use Rattle.model.proofs.Indexed.{segments-length}
 
@@ -48,6 +48,13 @@ pub in-then : {A : Type 0} (first : Answer (Unit {0})) (rest : Answer A) → Num
 unfolding _then_
 in-then (gives u) rest k m = m refl
 in-then (refused number place) rest k m = k
+
+pub in-each : (condition : ℕ → Bool) (number i n : ℕ) → T (leb 1 number && leb number number-most) → i + n ≤ entries-most →
+    Numbered (row-at-each condition number i n)
+unfolding row-at-each
+in-each condition number i zero t h = tt
+in-each condition number i (suc n) t h =
+    in-then _ _ (in-row _ number i t (omega arith)) (λ _. in-each condition number (suc i) n t (omega arith))
 
 in-points : (i : ℕ) (before : Option ℕ) (ps : List Point) → i + length ps ≤ entries-most → Numbered (point-rows i before ps)
 unfolding point-rows
@@ -80,12 +87,6 @@ pub in-reading : (ps : List Point) (code area : ℕ) → Numbered (read-answer p
 unfolding read-answer
 in-reading ps code area = in-then _ _ (in-curve ps code) (λ _. in-then _ _ (in-row _ 7 0 tt (omega arith)) (λ _. tt))
 
-in-entries : (ps : List Point) (start step index n : ℕ) → index + n ≤ entries-most → Numbered (entry-rows ps start step index n)
-unfolding entry-rows
-in-entries ps start step index zero h = tt
-in-entries ps start step index (suc n) h =
-    in-then _ _ (in-row _ 7 index tt (omega arith)) (λ _. in-entries ps start step (suc index) n (omega arith))
-
 few-of-row-8 : (step n : ℕ) → bad-sheet step n ≡ false → n ≤ entries-most
 unfolding bad-sheet
 few-of-row-8 step n e = ltb-false entries-most n (or-right (eqb step 0 || eqb n 0) _ e)
@@ -96,7 +97,7 @@ in-sheet ps code start step n =
     in-then _ _ (in-curve ps code) (λ _.
     in-then _ _ (in-row _ 8 0 tt (omega arith)) (λ e.
     let few = few-of-row-8 step n (row-left _ 8 0 e) in
-    in-then _ _ (in-entries ps start step 0 n (omega arith)) (λ _. tt)))
+    in-then _ _ (in-each _ 7 0 n tt (omega arith)) (λ _. tt)))
 
 pub in-lists : {A : Type 0} (areas values : List ℕ) (slopes : List ℤ) (call : List Point → Answer A) →
     Numbered (call (points areas values slopes)) →

@@ -3,7 +3,7 @@
 use mathlib.Core.Path.{refl}
 use Rattle.exact.specs.Fraction.{_over_, whole, _+ℚ_, _-ℚ_, _*ℚ_, _/ℚ_, leℚ, ltℚ, eqℚ}
 use Rattle.exact.specs.Rounding.{floorDiv, floor, round}
-use Rattle.model.specs.Answer.{row, _then_}
+use Rattle.model.specs.Answer.{row, _then_, row-at-each}
 use Rattle.model.specs.Points.{gradient, points, segments, shape-of}
 use Rattle.model.specs.Interpolant.{chord, p, q, P, Q, rational, r-rising, r-convex}
 use Rattle.model.specs.Interpolant.{rising-curve, convex-curve, curve, interpolant}
@@ -11,14 +11,14 @@ use Rattle.model.specs.Shape.{rises, bends, fits, has-shape}
 use Rattle.model.specs.Check.{lengths-differ, bad-count, bad-code, bad-area, bad-value, bad-slope}
 use Rattle.model.specs.Check.{point-rows, segment-rows, curve-rows, check-answer, on-lists}
 use Rattle.model.specs.Read.{taken, value-in, outside, exact-value, reading, read-answer}
-use Rattle.model.specs.Sheet.{bad-sheet, entry-rows, tabulate, sheet-answer, sheet-list}
+use Rattle.model.specs.Sheet.{bad-sheet, tabulate, sheet-answer, sheet-list}
 use Rattle.model.specs.Readings.{bow, ten, TenReadings, kink, FurtherReadings}
 
 computed : TenReadings × FurtherReadings
-unfolding _over_ whole _+ℚ_ _-ℚ_ _*ℚ_ _/ℚ_ leℚ ltℚ eqℚ floorDiv floor round row _then_ gradient points segments shape-of
+unfolding _over_ whole _+ℚ_ _-ℚ_ _*ℚ_ _/ℚ_ leℚ ltℚ eqℚ floorDiv floor round row _then_ row-at-each gradient points segments shape-of
     chord p q P Q rational r-rising r-convex rising-curve convex-curve curve interpolant rises bends fits has-shape
     lengths-differ bad-count bad-code bad-area bad-value bad-slope point-rows segment-rows curve-rows check-answer on-lists
-    taken value-in outside exact-value reading read-answer bad-sheet entry-rows tabulate sheet-answer sheet-list
+    taken value-in outside exact-value reading read-answer bad-sheet tabulate sheet-answer sheet-list
     bow ten kink
 computed = (λ area. refl, (refl, refl, refl, refl, refl, refl, refl, refl))
 

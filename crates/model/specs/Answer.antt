@@ -1,6 +1,6 @@
 -- Document 01, "The calls": one answer that is either its result or a refusal with a number and a place.
 -- Assumes nothing.
-use Prim.Native.Nat.{ℕ}
+use Prim.Native.Nat.{ℕ, zero, suc}
 use mathlib.Core.Bool.{Bool, true, false}
 use mathlib.Core.List.{List, _++_}
 use lib.ListN.{length, drop}
@@ -19,6 +19,11 @@ infixr 3 _then_
 unfoldable pub _then_ : {A : Type 0} → Answer (Unit {0}) → Answer A → Answer A
 gives u then a = a
 refused number place then a = refused number place
+
+-- a row that is tried at n places from i on: it refuses at the first where its condition holds
+unfoldable pub row-at-each : (ℕ → Bool) → ℕ → ℕ → ℕ → Answer (Unit {0})
+row-at-each condition number i zero = gives tt
+row-at-each condition number i (suc n) = row (condition i) number i then row-at-each condition number (suc i) n
 
 -- a lent list after a call, by the answer: what the call writes, and the entries after it as found; or all as found
 unfoldable pub filled : {A B : Type 0} → Answer A → List B → List B → List B

@@ -33,9 +33,9 @@ number-most = 12
 unfoldable pub fault-answer : ℕ → ℕ → Answer (Unit {0})
 fault-answer number place = row (not (eqb number 0)) number place
 
--- row 7 of n entries, by the first entry outside
-abbrev pub first-answer : ℕ → ℕ → Answer (Unit {0})
-first-answer index n = row (ltb index n) 7 index
+-- a row at each of n places, by the first place where its condition holds
+abbrev pub first-answer : ℕ → ℕ → ℕ → Answer (Unit {0})
+first-answer number place n = row (ltb place n) number place
 
 -- rows 1 to 7 of one area
 abbrev pub read-rows : List Point → ℕ → ℕ → Answer (Unit {0})

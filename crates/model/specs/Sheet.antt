@@ -5,7 +5,7 @@ use mathlib.Core.Bool.{Bool, _||_}
 use mathlib.Core.List.{List, [], _∷_}
 use lib.Dec.{eqb, ltb}
 use lib.IntN.{ℤ}
-use Rattle.model.specs.Answer.{Answer, gives, refused, row, _then_}
+use Rattle.model.specs.Answer.{Answer, gives, refused, row, _then_, row-at-each}
 use Rattle.model.specs.Points.{Point}
 use Rattle.model.specs.Check.{curve-rows}
 use Rattle.model.specs.Read.{outside, reading}
@@ -21,11 +21,9 @@ bad-sheet step entries = eqb step 0 || eqb entries 0 || ltb entries-most entries
 abbrev pub entry-area : ℕ → ℕ → ℕ → ℕ
 entry-area start step index = start + index * step
 
--- row 7 at n entries from the index on: the place is the first entry outside
-unfoldable pub entry-rows : List Point → ℕ → ℕ → ℕ → ℕ → Answer (Unit {0})
-entry-rows ps start step index zero = gives tt
-entry-rows ps start step index (suc n) =
-    row (outside ps (entry-area start step index)) 7 index then entry-rows ps start step (suc index) n
+-- row 7 at n entries: the place is the first entry outside
+abbrev pub entry-rows : List Point → ℕ → ℕ → ℕ → Answer (Unit {0})
+entry-rows ps start step n = row-at-each (λ index. outside ps (entry-area start step index)) 7 0 n
 
 -- f at n indices from the index on
 unfoldable pub tabulate : {A : Type 0} → (ℕ → A) → ℕ → ℕ → List A
@@ -36,7 +34,7 @@ tabulate f index (suc n) = f index ∷ tabulate f (suc index) n
 unfoldable pub sheet-answer : List Point → ℕ → ℕ → ℕ → ℕ → Answer ℕ
 sheet-answer ps code start step entries =
     curve-rows ps code then row (bad-sheet step entries) 8 0
-    then entry-rows ps start step 0 entries then gives entries
+    then entry-rows ps start step entries then gives entries
 
 -- the list after the call, by its answer: into every entry the factor at its area, or what it held
 unfoldable pub sheet-list : List Point → ℕ → ℕ → ℕ → Answer ℕ → List ℤ → List ℤ

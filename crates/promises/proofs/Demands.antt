@@ -1,7 +1,7 @@
 -- The third demand: a factor read, whichever call gives it, is the reading at an area of the curve (`reads`); the laws of the
 -- reading do the rest (`third-demand`). Lists that Check accepts are a curve (`check-accepts`).
 -- Assumes nothing.
-use Prim.Native.Nat.{ℕ, _*_, _<_, zero-le}
+use Prim.Native.Nat.{ℕ, _*_, _<_}
 use mathlib.Core.Path.{_≡_, refl, sym, _∙_, ap, subst}
 use mathlib.Core.List.{List}
 use native.Mathlib.Nat.{zero-add}
@@ -26,7 +26,7 @@ use Rattle.model.proofs.Lists.{fields-of}
 use Rattle.model.proofs.Laws.{curve-accepted, factor, values-are-proper, factors-are-near, segments-meet, rated-points-read}
 use Rattle.model.proofs.Laws.{rising-factors, convex-chords, convex-steps}
 use Rattle.model.proofs.Filling.{tabulate-at}
-use Rattle.model.proofs.SheetRows.{rows-inside, rows-pass}
+use Rattle.model.proofs.Places.{each-fails, each-passes}
 use Rattle.layout.specs.Layout.{record-size, shape-code, count, points-of}
 use Rattle.layout.specs.Head.{head-rows}
 use Rattle.desk.specs.Desk.{desk-answer, desk-number}
@@ -90,13 +90,13 @@ reads-of-entry : (c : Curve) (start step : ℕ) (out : List ℤ) (entries index 
 unfolding sheet-answer sheet-list
 reads-of-entry c start step out entries index e h =
     let n = length out in
-    let rows = entry-rows (c .points) start step 0 n in
+    let rows = entry-rows (c .points) start step n in
     let after-8 = then-rest (row (bad-sheet step n) 8 0) _ (then-rest (curve-rows (c .points) (c .code)) _ e) in
     let count = gives-injective (then-rest rows (gives n) after-8) in
     let f : ℕ → ℤ = λ j. reading (c .points) (c .code) (entry-area start step j) in
     record {
       area = record {
-        within = rows-inside (c .points) start step 0 n index (then-first rows (gives n) after-8) zero-le (omega (arith, count));
+        within = each-fails _ 7 n index (then-first rows (gives n) after-8) (omega (arith, count));
       };
       same = sym (tabulate-at f (pos 0) 0 index entries h ∙ ap f (zero-add index));
     }
@@ -144,7 +144,7 @@ module _ (c : Curve) where
       (number place : ℕ) → sheet-answer (c .points) (c .code) start step n ≡ refused number place → number ≡ 8
   unfolding sheet-answer row _then_
   sheet-refuses-by-8 start step n inside number place e =
-      let pass = rows-pass (c .points) start step 0 n (λ i h. inside i (rw zero-add at h) .within) in
+      let pass = each-passes _ 7 n (λ i h. inside i h .within) in
       row-refused (bad-sheet step n) 8 0 n (rw (c .accepted, pass) at e) .0
 
   desk-refuses-by-11 : (bytes : List ℕ) (x scratch : ℕ) → FileOf c bytes → Area c x →

@@ -6,7 +6,7 @@ use lib.Dec.{lit<}
 use lib.IntN.{pos}
 use Rattle.exact.specs.Fraction.{_over_, whole, _+ℚ_, _-ℚ_, _*ℚ_, _/ℚ_, leℚ, ltℚ, eqℚ}
 use Rattle.exact.specs.Rounding.{floorDiv, floor, round}
-use Rattle.model.specs.Answer.{row, _then_, filled}
+use Rattle.model.specs.Answer.{row, _then_, row-at-each, filled}
 use Rattle.model.specs.Points.{gradient, points, segments, shape-of}
 use Rattle.model.specs.Interpolant.{chord, p, q, P, Q, rational, r-rising, r-convex}
 use Rattle.model.specs.Interpolant.{rising-curve, convex-curve, curve, interpolant}
@@ -14,7 +14,7 @@ use Rattle.model.specs.Shape.{rises, bends, fits, has-shape}
 use Rattle.model.specs.Check.{lengths-differ, bad-count, bad-code, bad-area, bad-value, bad-slope}
 use Rattle.model.specs.Check.{point-rows, segment-rows, curve-rows, on-lists}
 use Rattle.model.specs.Read.{taken, value-in, outside, exact-value, reading, read-answer}
-use Rattle.model.specs.Sheet.{bad-sheet, entry-rows, tabulate, sheet-answer, sheet-list}
+use Rattle.model.specs.Sheet.{bad-sheet, tabulate, sheet-answer, sheet-list}
 use Rattle.model.specs.Laws.{Curve}
 use Rattle.layout.specs.Layout.{twos-complement, little-endian, record-at, points-of}
 use Rattle.layout.specs.Head.{wrong-mark, bad-head, bad-size, head-rows}
@@ -36,10 +36,10 @@ pub record Each (c : Curve) : Type 0 where
   pub desk : FactorRead c 550 (pos 10800)
 
 pub example : FileExample × (c : Curve) × Each c
-unfolding _over_ whole _+ℚ_ _-ℚ_ _*ℚ_ _/ℚ_ leℚ ltℚ eqℚ floorDiv floor round row _then_ gradient points segments shape-of
+unfolding _over_ whole _+ℚ_ _-ℚ_ _*ℚ_ _/ℚ_ leℚ ltℚ eqℚ floorDiv floor round row _then_ row-at-each gradient points segments shape-of
     chord p q P Q rational r-rising r-convex rising-curve convex-curve curve interpolant rises bends fits has-shape
     lengths-differ bad-count bad-code bad-area bad-value bad-slope point-rows segment-rows curve-rows on-lists
-    taken value-in outside exact-value reading read-answer bad-sheet entry-rows tabulate sheet-answer sheet-list
+    taken value-in outside exact-value reading read-answer bad-sheet tabulate sheet-answer sheet-list
     twos-complement little-endian record-at wrong-mark bad-head bad-size head-rows factors pair-answer
     short-list open-answer filled desk-answer desk-number point-records desk-scratch
     records file one-point

@@ -23,7 +23,7 @@ pub struct Fault {
 }
 
 // Row 1, of lists.
-fn lengths_differ(areas: usize, values: usize, slopes: usize) -> bool
+pub fn lengths_differ(areas: usize, values: usize, slopes: usize) -> bool
     ensures { λ r. ⌜ r ≡ lengths-differ areas values slopes ⌝ }
 {
     if areas != values {

@@ -3,8 +3,8 @@
 use mathlib.Core.Path.{_≡_, refl, sym, _∙_}
 use mathlib.Core.Bool.{false, _||_}
 use mathlib.Core.List.{List}
-use Prim.Native.Nat.{ℕ, _≤_, _<_, zero-le}
-use native.Mathlib.Nat.{zero-add, pos-of-ne-zero}
+use Prim.Native.Nat.{ℕ, _≤_, _<_}
+use native.Mathlib.Nat.{pos-of-ne-zero}
 use native.Mathlib.Omega.{arith}
 use borrow.Author.Needs.{needs}
 use borrow.Author.Tests.{lt-ltb, le-ltb, eqb-false, ltb-false}
@@ -14,7 +14,7 @@ use Rattle.model.specs.Answer.{Answer, gives, row, _then_}
 use Rattle.model.specs.Points.{Point, points}
 use Rattle.model.specs.Sheet.{entries-most, bad-sheet, entry-rows, sheet-answer, sheet-list}
 use Rattle.exact.proofs.Tests.{or-left, or-right}
-use Rattle.model.proofs.SheetRows.{rows-inside}
+use Rattle.model.proofs.Places.{each-fails}
 use Rattle.curve.specs.Calls.{filled-answer}
 use Rattle.rows.proofs.Lists.{Accepts, accepts, curve-refused, on-points}
 use Rattle.curve.proofs.sheet.Statement.{statement}
@@ -23,7 +23,7 @@ use Rattle.curve.proofs.sheet.Tie as tie
 -- what follows rows 1 to 6
 abbrev after-row-6 : (start step entries : ℕ) → List Point → Answer ℕ
 after-row-6 start step entries ps =
-    row (bad-sheet step entries) 8 0 then entry-rows ps start step 0 entries then gives entries
+    row (bad-sheet step entries) 8 0 then entry-rows ps start step entries then gives entries
 
 returns : tie.Need-returns
 unfolding sheet-answer sheet-list filled-answer
@@ -91,7 +91,7 @@ returns-3 c =
 
 -- row 7 is passed
 all-inside : (c : tie.Else3) →
-    (let b = at-curve (c .before .before) in entry-rows (ps b) (start b .args .start) (start b .args .step) 0 (n b) ≡ gives tt)
+    (let b = at-curve (c .before .before) in entry-rows (ps b) (start b .args .start) (start b .args .step) (n b) ≡ gives tt)
 unfolding row
 all-inside c =
     sym (c .before .first-outside .ensures _ (lists-accepted (at-curve (c .before .before)) .areas-are) _)
@@ -105,7 +105,7 @@ fill-requires c κs =
       alike = k .alike;
       accepted = k .accepted;
       some = n-above-0 b;
-      inside = λ i h. rows-inside _ _ _ 0 (n (at-curve b)) i (all-inside (c .before)) zero-le (rw zero-add h);
+      inside = λ i h. each-fails _ 7 (n (at-curve b)) i (all-inside (c .before)) h;
     }
 
 abbrev at-inside : tie.After-out → tie.Else3

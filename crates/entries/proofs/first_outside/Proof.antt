@@ -12,7 +12,7 @@ use Rattle.model.specs.Points.{Point}
 use Rattle.model.specs.Read.{outside}
 use Rattle.model.specs.Inner.{areas-of}
 use Rattle.model.proofs.Outside.{last, flat-points, flat-areas, not-before, not-beyond, inside-of-both, outside-of-beyond}
-use Rattle.model.proofs.SheetRows.{rows-first}
+use Rattle.model.proofs.Places.{each-first}
 use Rattle.entries.proofs.first_outside.Statement.{statement}
 use Rattle.entries.proofs.first_outside.Tie as tie
 
@@ -36,7 +36,7 @@ module _ (ps : List Point) {areas : List ℕ} (are : areas-of ps ≡ areas) (som
 
 returns : tie.Need-returns
 returns c ps e n =
-    rows-first ps _ _ 0 n (λ j h. absurd (omega arith))
+    each-first _ 7 0 n (λ j h. absurd (omega arith))
     (λ h. rw (zero-mul, add-zero) (sym (c .before .outside .ensures ps e) ∙ c .if1 .taken))
 
 -- the first entry is inside
@@ -61,7 +61,7 @@ returns-2 : tie.Need-returns-2
 returns-2 c ps e n =
     let s = c .before .before .before .before in
     let within = start-inside (c .before) ps e in
-    rows-first ps _ _ _ n (entry-inside ps e (s .pre .0) _ _ (s .pre .1) within)
+    each-first _ 7 _ n (entry-inside ps e (s .pre .0) _ _ (s .pre .1) within)
     (λ h. next-outside ps e (s .pre .0) _ _ (s .pre .1) within)
 
 pub first-outside-spec : {M : Type 1} → statement M

@@ -1,0 +1,5 @@
+-- Slopes by the harmonic rule, in document 02's order.
+pub mod Rule
+pub mod Fill
+pub mod Calls
+pub mod Inner

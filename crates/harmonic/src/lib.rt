@@ -1,0 +1,150 @@
+// Slopes that nobody supplies, by the harmonic rule.
+ghost use mathlib.Core.Path.{_≡_};
+ghost use mathlib.Core.List.{_++_};
+ghost use Prim.Native.Nat.{suc, _≤_, _<_};
+ghost use lib.IntN.{pos};
+ghost use lib.ListN.{length, take, drop};
+ghost use Rattle.model.specs.Answer.{filled, row-at-each};
+ghost use Rattle.model.specs.Inner.{first-answer};
+ghost use Rattle.harmonic.specs.Rule.{inner-slope, end-slope, hundredths, figure, figures};
+ghost use Rattle.harmonic.specs.Fill.{too-steep, fill-answer};
+ghost use Rattle.harmonic.specs.Calls.{supplied-answer};
+ghost use Rattle.harmonic.specs.Inner.{Climbing, Sized, ChordAt, chord-of, across};
+use rows::POINTS_MOST;
+
+// The largest figure, compared in 64 bits: before row 5 a figure can be above 2^32.
+const FIGURE_MOST: u64 = 10000;
+
+// A chord, by how far it rises over which gap.
+pub struct Chord {
+    pub rise: u64,
+    pub gap: u64,
+}
+
+// The chord from the point at i to the next.
+fn chord_at(areas: &[u32], values: &[u32], i: usize) -> Chord
+    requires { ⌜ Climbing (now areas) (now values) × (suc i < length (now areas)) ⌝ }
+    ensures { λ r. ⌜ ChordAt (now (areas .entry)) (now (values .entry)) i r ⌝ }
+{
+    Chord {
+        rise: (values[i + 1] - values[i]) as u64,
+        gap: (areas[i + 1] - areas[i]) as u64,
+    }
+}
+
+// The figure between two chords.
+fn inner_figure(left: Chord, right: Chord) -> u64
+    requires { ⌜ Sized left × Sized right ⌝ }
+    ensures { λ r. ⌜ pos r ≡ hundredths (inner-slope (chord-of left) (chord-of right) (across left right)) ⌝ }
+{
+    if left.rise == 0 {
+        return 0;
+    }
+    if right.rise == 0 {
+        return 0;
+    }
+    left.rise * right.rise * (left.gap + right.gap) * 100
+        / (left.gap * right.gap * (left.rise + right.rise))
+}
+
+// The figure at an end, of the chord there and the one beside it.
+fn end_figure(first: Chord, second: Chord) -> u64
+    requires { ⌜ Sized first × Sized second ⌝ }
+    ensures { λ r. ⌜ pos r ≡ hundredths (end-slope (chord-of first) (chord-of second) (across first second)) ⌝ }
+{
+    if first.rise == 0 {
+        return 0;
+    }
+    if second.rise == 0 {
+        return 200 * first.rise / first.gap;
+    }
+    first.rise * (first.rise + second.rise) * second.gap * 100
+        / (first.gap * (first.gap + second.gap) * second.rise)
+}
+
+// The figure at the point at i.
+fn figure_at(areas: &[u32], values: &[u32], i: usize) -> u64
+    requires { ⌜ Climbing (now areas) (now values) × (i < length (now areas)) ⌝ }
+    ensures { λ r. ⌜ pos r ≡ figure (now (areas .entry)) (now (values .entry)) i ⌝ }
+{
+    let n = areas.len();
+    if n == 2 {
+        let only = chord_at(areas, values, 0);
+        return only.rise * 100 / only.gap;
+    }
+    if i == 0 {
+        return end_figure(chord_at(areas, values, 0), chord_at(areas, values, 1));
+    }
+    if i == n - 1 {
+        return end_figure(
+            chord_at(areas, values, i - 1),
+            chord_at(areas, values, i - 2),
+        );
+    }
+    inner_figure(chord_at(areas, values, i - 1), chord_at(areas, values, i))
+}
+
+// Fills the first entries with figures, and gives the place of the first that is too steep, or the number of points.
+fn fill_figures(areas: &[u32], values: &[u32], out: &mut [i32]) -> usize
+    requires { ⌜ Climbing (now areas) (now values) × (length (now areas) ≤ length (now out)) ⌝ }
+    ensures place { λ r. ⌜ first-answer 5 r (length (now (areas .entry)))
+        ≡ row-at-each (too-steep (now (areas .entry)) (now (values .entry))) 5 0 (length (now (areas .entry))) ⌝ }
+    ensures list { λ r. ⌜ (length (now (areas .entry)) ≤ r →
+        now (out .exit) ≡ figures (now (areas .entry)) (now (values .entry)) ++ drop (length (now (areas .entry))) (now (out .entry))) ⌝ }
+{
+    let mut i: usize = 0;
+    while i < areas.len() {
+        let f = figure_at(areas, values, i);
+        if f > FIGURE_MOST {
+            return i;
+        }
+        out[i] = f as i32;
+        i += 1;
+    }
+    i
+}
+
+// Writes the first entries of one list over another.
+fn copy(from: &[i32], to: &mut [i32])
+    requires { ⌜ length (now to) ≤ length (now from) ⌝ }
+    ensures { λ _. ⌜ now (to .exit) ≡ take (length (now (to .entry))) (now (from .entry)) ⌝ }
+{
+    let mut i: usize = 0;
+    while i < to.len() {
+        to[i] = from[i];
+        i += 1;
+    }
+}
+
+// What the filling answers: the number of points, or a refusal's number and place.
+pub enum Supplied {
+    Points(u32),
+    Refused(u32, u32),
+}
+
+// Rows 1, 3, 4 and 6 are those of a rising curve whose slopes are all 0.
+pub fn fill_slopes(areas: &[u32], values: &[u32], slopes: &mut [i32]) -> Supplied
+    ensures answer { λ r. ⌜ supplied-answer r
+        ≡ fill-answer (now (areas .entry)) (now (values .entry)) (length (now (slopes .entry))) ⌝ }
+    ensures slopes { λ r. ⌜ now (slopes .exit)
+        ≡ filled (supplied-answer r) (figures (now (areas .entry)) (now (values .entry))) (now (slopes .entry)) ⌝ }
+{
+    let n = areas.len();
+    if rows::lengths_differ(n, values.len(), slopes.len()) {
+        return Supplied::Refused(1, 0);
+    }
+    if rows::bad_count(n) {
+        return Supplied::Refused(1, 0);
+    }
+    let mut figures = [0i32; POINTS_MOST];
+    let fault = rows::curve_fault(areas, values, &figures[..n], 1);
+    if fault.number != 0 {
+        return Supplied::Refused(fault.number, fault.place);
+    }
+    let place = fill_figures(areas, values, &mut figures);
+    if place < n {
+        return Supplied::Refused(5, place as u32);
+    }
+    copy(&figures, slopes);
+    Supplied::Points(n as u32)
+}
