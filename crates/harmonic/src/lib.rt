@@ -1,7 +1,7 @@
 // Slopes that nobody supplies, by the harmonic rule.
 ghost use mathlib.Core.Path.{_≡_};
 ghost use mathlib.Core.List.{_++_};
-ghost use Prim.Native.Nat.{suc, _≤_, _<_};
+ghost use Prim.Native.Nat.{_+_, _≤_, _<_};
 ghost use lib.IntN.{pos};
 ghost use lib.ListN.{length, take, drop};
 ghost use Rattle.model.specs.Answer.{filled, row-at-each};
@@ -9,7 +9,7 @@ ghost use Rattle.model.specs.Inner.{first-answer};
 ghost use Rattle.harmonic.specs.Rule.{inner-slope, end-slope, hundredths, figure, figures};
 ghost use Rattle.harmonic.specs.Fill.{too-steep, fill-answer};
 ghost use Rattle.harmonic.specs.Calls.{supplied-answer};
-ghost use Rattle.harmonic.specs.Inner.{Climbing, Sized, ChordAt, chord-of, across};
+ghost use Rattle.harmonic.specs.Inner.{Climbing, Beside, ChordAt, chord-of, across};
 use rows::POINTS_MOST;
 
 // The largest figure, compared in 64 bits: before row 5 a figure can be above 2^32.
@@ -23,7 +23,7 @@ pub struct Chord {
 
 // The chord from the point at i to the next.
 fn chord_at(areas: &[u32], values: &[u32], i: usize) -> Chord
-    requires { ⌜ Climbing (now areas) (now values) × (suc i < length (now areas)) ⌝ }
+    requires { ⌜ Climbing (now areas) (now values) × (i + 1 < length (now areas)) ⌝ }
     ensures { λ r. ⌜ ChordAt (now (areas .entry)) (now (values .entry)) i r ⌝ }
 {
     Chord {
@@ -34,7 +34,7 @@ fn chord_at(areas: &[u32], values: &[u32], i: usize) -> Chord
 
 // The figure between two chords.
 fn inner_figure(left: Chord, right: Chord) -> u64
-    requires { ⌜ Sized left × Sized right ⌝ }
+    requires { ⌜ Beside left right ⌝ }
     ensures { λ r. ⌜ pos r ≡ hundredths (inner-slope (chord-of left) (chord-of right) (across left right)) ⌝ }
 {
     if left.rise == 0 {
@@ -49,14 +49,14 @@ fn inner_figure(left: Chord, right: Chord) -> u64
 
 // The figure at an end, of the chord there and the one beside it.
 fn end_figure(first: Chord, second: Chord) -> u64
-    requires { ⌜ Sized first × Sized second ⌝ }
+    requires { ⌜ Beside first second ⌝ }
     ensures { λ r. ⌜ pos r ≡ hundredths (end-slope (chord-of first) (chord-of second) (across first second)) ⌝ }
 {
     if first.rise == 0 {
         return 0;
     }
     if second.rise == 0 {
-        return 200 * first.rise / first.gap;
+        return 2 * first.rise * 100 / first.gap;
     }
     first.rise * (first.rise + second.rise) * second.gap * 100
         / (first.gap * (first.gap + second.gap) * second.rise)

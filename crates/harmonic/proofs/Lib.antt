@@ -1,0 +1,4 @@
+-- Laws of the harmonic rule.
+pub mod Quotients
+pub mod Sizes
+pub mod Chords

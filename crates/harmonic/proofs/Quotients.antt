@@ -1,0 +1,62 @@
+-- Figures as quotients of natural numbers.
+--   flat-test                   a chord is flat where it does not rise
+--   chord-figure                the figure of a chord
+--   inner-flat, inner-figure    between two chords, of which one is flat, or none is
+--   end-flat, far-flat, end-figure    at an end: its chord is flat, or only the other one, or none
+-- Assumes nothing.
+use mathlib.Core.Path.{_≡_, refl}
+use mathlib.Core.Bool.{_&&_, or-true}
+use mathlib.Core.Logic.{_⊎_, inl, inr}
+use Prim.Native.Nat.{ℕ, zero, suc, _+_, _*_, _/_}
+use native.Mathlib.Nat.{mul-one, one-mul, zero-mul}
+use native.Mathlib.Omega.{arith}
+use borrow.Author.Tests.{eq-eqb, ne-eqb, lt-leb}
+use lib.Dec.{eqb, leb}
+use lib.IntN.{pos}
+use Rattle.exact.specs.Fraction.{_over_, whole, _*ℚ_, _/ℚ_, leℚ, eqℚ}
+use Rattle.exact.specs.Rounding.{floorDiv, floor}
+use Rattle.model.specs.Shape.{0ℚ}
+use Rattle.harmonic.specs.Rule.{inner-slope, end-slope, hundredths}
+
+eqb-0 : (F : ℕ) → (leb F 0 && leb 0 F) ≡ eqb F 0
+eqb-0 zero = refl
+eqb-0 (suc F) = rw (ne-eqb (suc F) 0 (λ (e : suc F ≡ 0). omega arith), lt-leb (suc F) 0 (omega arith))
+
+pub flat-test : (F h : ℕ) → eqℚ (pos F over pos h) 0ℚ ≡ eqb F 0
+unfolding _over_ whole leℚ eqℚ
+flat-test F h = rw (mul-one F, zero-mul h) (eqb-0 F)
+
+pub chord-figure : (F h : ℕ) → hundredths (pos F over pos h) ≡ pos (F * 100 / h)
+unfolding hundredths floor floorDiv _over_ whole _*ℚ_
+chord-figure F h = rw (mul-one h)
+
+module _ (F₀ h₀ F₁ h₁ : ℕ) where
+  pub inner-flat : (F₀ ≡ 0) ⊎ (F₁ ≡ 0) →
+      hundredths (inner-slope (pos F₀ over pos h₀) (pos F₁ over pos h₁) (pos (F₀ + F₁) over pos (h₀ + h₁))) ≡ pos 0
+  unfolding hundredths inner-slope floor floorDiv whole _*ℚ_
+  inner-flat (inl e) = rw (flat-test F₀ h₀, eq-eqb F₀ 0 e)
+  inner-flat (inr e) = rw (flat-test F₀ h₀, flat-test F₁ h₁, eq-eqb F₁ 0 e, or-true (eqb F₀ 0))
+
+  pub inner-figure : (F₀ ≡ 0 → ⊥) → (F₁ ≡ 0 → ⊥) →
+      hundredths (inner-slope (pos F₀ over pos h₀) (pos F₁ over pos h₁) (pos (F₀ + F₁) over pos (h₀ + h₁)))
+      ≡ pos (F₀ * F₁ * (h₀ + h₁) * 100 / (h₀ * h₁ * (F₀ + F₁)))
+  unfolding hundredths inner-slope floor floorDiv _over_ whole _*ℚ_ _/ℚ_
+  inner-figure m n = rw (flat-test F₀ h₀, flat-test F₁ h₁, ne-eqb F₀ 0 m, ne-eqb F₁ 0 n, mul-one (h₀ * h₁ * (F₀ + F₁)))
+
+  pub end-flat : F₀ ≡ 0 →
+      hundredths (end-slope (pos F₀ over pos h₀) (pos F₁ over pos h₁) (pos (F₀ + F₁) over pos (h₀ + h₁))) ≡ pos 0
+  unfolding hundredths end-slope floor floorDiv whole _*ℚ_
+  end-flat e = rw (flat-test F₀ h₀, eq-eqb F₀ 0 e)
+
+  pub far-flat : (F₀ ≡ 0 → ⊥) → F₁ ≡ 0 →
+      hundredths (end-slope (pos F₀ over pos h₀) (pos F₁ over pos h₁) (pos (F₀ + F₁) over pos (h₀ + h₁)))
+      ≡ pos (2 * F₀ * 100 / h₀)
+  unfolding hundredths end-slope floor floorDiv _over_ whole _*ℚ_
+  far-flat m e = rw (flat-test F₀ h₀, flat-test F₁ h₁, ne-eqb F₀ 0 m, eq-eqb F₁ 0 e, one-mul h₀, mul-one h₀)
+
+  pub end-figure : (F₀ ≡ 0 → ⊥) → (F₁ ≡ 0 → ⊥) →
+      hundredths (end-slope (pos F₀ over pos h₀) (pos F₁ over pos h₁) (pos (F₀ + F₁) over pos (h₀ + h₁)))
+      ≡ pos (F₀ * (F₀ + F₁) * h₁ * 100 / (h₀ * (h₀ + h₁) * F₁))
+  unfolding hundredths end-slope floor floorDiv _over_ whole _*ℚ_ _/ℚ_
+  end-figure m n =
+      rw (flat-test F₀ h₀, flat-test F₁ h₁, ne-eqb F₀ 0 m, ne-eqb F₁ 0 n, mul-one (h₀ * (h₀ + h₁) * F₁))
