@@ -2,3 +2,4 @@
 pub mod Quotients
 pub mod Sizes
 pub mod Chords
+pub mod Rising

@@ -1,7 +1,7 @@
 -- The shape of a segment by the tests of the code. A signed number is read back from its bits where it is tested.
---   climbing-test   shape 1 where the value rises: no slope is below 0
---   level-test      where it stays: both slopes are 0
---   falling-test    where it falls: no
+--   climbing-shape  shape 1 where the value rises: no slope is below 0; climbing-test, as a test
+--   level-shape     where it stays: both slopes are 0; level-test, as a test
+--   falling-shape   where it falls: no
 --   convex-test     shape 2: left slope below chord and chord below right slope, or all three equal
 -- Assumes nothing.
 use mathlib.Core.Path.{_≡_, refl}
@@ -13,6 +13,7 @@ use lib.IntN.{ℤ, pos, *ℤ-comm, +ℤ-invr}
 use lib.Signed.{leZ, ltZ}
 use mir.Syntax.{w32}
 use mir.Val.{toZ, ofZ}
+use Rattle.exact.specs.Inner.{eqZ}
 use Rattle.exact.specs.Fraction.{_over_, whole, leℚ, ltℚ, eqℚ}
 use Rattle.exact.proofs.Bits.{zero-fits, lt-bits, eq-bits}
 use Rattle.exact.proofs.Integer.{*-one}
@@ -37,27 +38,26 @@ or-as-cond : (t x y : Bool) → (t ≡ true → y ≡ false) → (t && x || y) �
 or-as-cond true x y h = rw (h refl) (or-false x)
 or-as-cond false x y h = refl
 
-module _ {s : Segment} (n : Neighbours s) where
-  pub climbing-test : s .left .value < s .right .value →
-      has-shape rising s ≡ (leZ (pos 0) (read-back (s .left .slope)) && leZ (pos 0) (read-back (s .right .slope)))
+-- ---- shape 1, by what the value does
+
+module _ (s : Segment) where
+  pub climbing-shape : s .left .value < s .right .value →
+      has-shape rising s ≡ (leZ (pos 0) (s .left .slope) && leZ (pos 0) (s .right .slope))
   unfolding has-shape fits rises gradient leℚ ltℚ eqℚ whole _over_
-  climbing-test h =
+  climbing-shape h =
       let up : ltZ (pos 0) (rise s) ≡ true = T-true _ (Z.positive-difference (Z.pos-<-of-< h) .lt) in
-      rw (slope-read (n .left), slope-read (n .right))
-      (rw (*-one (rise s), *-one (s .left .slope), *-one (s .right .slope), leZ-not-ltZ (rise s) (pos 0), up)
-      (or-false _))
+      rw (*-one (rise s), *-one (s .left .slope), *-one (s .right .slope), leZ-not-ltZ (rise s) (pos 0), up) (or-false _)
 
-  pub level-test : s .left .value ≡ s .right .value →
-      has-shape rising s ≡ (eqb (bits (s .left .slope)) 0 && eqb (bits (s .right .slope)) 0)
+  pub level-shape : s .left .value ≡ s .right .value →
+      has-shape rising s ≡ (eqZ (s .left .slope) (pos 0) && eqZ (s .right .slope) (pos 0))
   unfolding has-shape fits rises gradient leℚ ltℚ eqℚ whole _over_
-  level-test e =
+  level-shape e =
       let level : rise s ≡ pos 0 = rw e (+ℤ-invr (pos (s .right .value))) in
-      rw (eq-bits (slope-fits (n .left)) (zero-fits w32), eq-bits (slope-fits (n .right)) (zero-fits w32))
-      (rw (level, *-one (s .left .slope), *-one (s .right .slope)))
+      rw (level, *-one (s .left .slope), *-one (s .right .slope))
 
-  pub falling-test : s .right .value < s .left .value → has-shape rising s ≡ false
+  pub falling-shape : s .right .value < s .left .value → has-shape rising s ≡ false
   unfolding has-shape fits
-  falling-test h = same-test _ false falls absurd
+  falling-shape h = same-test _ false falls absurd
     where
       falls : T (has-shape rising s) → ⊥
       falls t =
@@ -65,6 +65,18 @@ module _ {s : Segment} (n : Neighbours s) where
             | climbs up k₀ k₁ ↦ let k : s .left .value < s .right .value = Z.<-of-pos-< (Z.<-by (rise s) refl up) in omega arith
             | flat e ↦ let k : s .right .value ≡ s .left .value = Z.pos-injective e in omega arith
           ]
+
+-- ---- as tests of machine numbers
+
+module _ {s : Segment} (n : Neighbours s) where
+  pub climbing-test : s .left .value < s .right .value →
+      has-shape rising s ≡ (leZ (pos 0) (read-back (s .left .slope)) && leZ (pos 0) (read-back (s .right .slope)))
+  climbing-test h = rw (slope-read (n .left), slope-read (n .right)) (climbing-shape s h)
+
+  pub level-test : s .left .value ≡ s .right .value →
+      has-shape rising s ≡ (eqb (bits (s .left .slope)) 0 && eqb (bits (s .right .slope)) 0)
+  level-test e =
+      rw (eq-bits (slope-fits (n .left)) (zero-fits w32), eq-bits (slope-fits (n .right)) (zero-fits w32)) (level-shape s e)
 
   pub convex-test : {e : Slopes} → SlopesOver s e →
       has-shape convex s ≡

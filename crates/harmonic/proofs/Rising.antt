@@ -1,0 +1,186 @@
+-- Rows 3 to 6 of a rising curve, by its areas and values: slopes that suit the values decide none of them.
+--   Suits          slopes from 0 to 10,000, and 0 at both ends of a level segment; zeros-suit, slopes that are all 0
+--   rising-rows    rows 1 to 6 of points with such slopes
+--   Rated          rows 1, 3, 4 and 6 refuse nothing; accepted-of, points with such slopes are accepted; climbing-of, they climb
+-- Assumes nothing.
+use mathlib.Core.Path.{_≡_, refl, sym, _∙_, ap}
+use mathlib.Core.Bool.{Bool, true, false, not, _&&_}
+use mathlib.Core.List.{List, [], _∷_}
+use mathlib.Core.Logic.{inl, inr}
+use mathlib.Core.Option.{Option, none, some}
+use Prim.Native.Nat.{ℕ, zero, suc, _+_, _-_, _≤_, _<_}
+use native.Mathlib.Numerals.{add-one}
+use native.Mathlib.Omega.{arith}
+use borrow.Author.Tests.{lt-ltb, le-ltb, ltb-false}
+use lib.Dec.{ltb}
+use lib.IntN.{ℤ, pos}
+use lib.ListN.{length, getD, replicate, length-replicate, getD-replicate}
+use lib.Signed.{_≤ℤ_, leZ}
+use Rattle.exact.proofs.Order as Z
+use Rattle.exact.proofs.Tests.{compare, T-true}
+use Rattle.model.specs.Answer.{Answer, gives, row, _then_, row-at-each}
+use Rattle.model.specs.Points.{Point, points, Segment, Shape, rising, shape-of, slope-most}
+use Rattle.model.specs.Shape.{has-shape}
+use Rattle.model.specs.Check.{bad-count, bad-code, bad-area, bad-value, bad-slope, point-rows, segment-rows, curve-rows}
+use Rattle.model.specs.Inner.{Accepted, Alike, between, point-at, Good}
+use Rattle.model.proofs.Codes.{rising-of-1}
+use Rattle.model.proofs.Rows.{count-of-row-1}
+use Rattle.model.proofs.Places.{each-fails}
+use Rattle.model.proofs.Walk.{good-ordered}
+use Rattle.model.proofs.Indexed.{chained-at}
+use Rattle.model.proofs.Accepted.{chained-of}
+use Rattle.model.proofs.Lists.{fields-of, fields-length, fields-at}
+use Rattle.shape.proofs.Tests.{climbing-shape, level-shape, falling-shape}
+use Rattle.rows.proofs.Faults.{segments-from, segment-turn, segment-end}
+use Rattle.harmonic.specs.Inner.{Climbing}
+use Rattle.harmonic.specs.Fill.{area-and-value-rows, falls}
+
+pub record Suits (values : List ℕ) (slopes : List ℤ) : Type 0 where
+  pub least : (i : ℕ) → i < length slopes → pos 0 ≤ℤ getD slopes i (pos 0)
+  pub most : (i : ℕ) → i < length slopes → getD slopes i (pos 0) ≤ℤ pos slope-most
+  pub level : (i : ℕ) → i + 1 < length values → getD values i 0 ≡ getD values (i + 1) 0 →
+      (getD slopes i (pos 0) ≡ pos 0) × (getD slopes (i + 1) (pos 0) ≡ pos 0)
+
+-- ---- rows 3 to 5
+
+in-range : (s : ℤ) → pos 0 ≤ℤ s → s ≤ℤ pos slope-most → bad-slope s ≡ false
+unfolding bad-slope
+in-range s h k =
+    let n = Z.pos-of-nonneg h in
+    rw (n .1) (le-ltb slope-most (n .0) (Z.≤-of-pos-≤ (rw (n .1) at k)))
+
+rows-3-to-5 : (i : ℕ) (before : Option ℕ) (areas values : List ℕ) (slopes : List ℤ) →
+    length areas ≡ length values → length areas ≡ length slopes →
+    ((j : ℕ) → j < length slopes → bad-slope (getD slopes j (pos 0)) ≡ false) →
+    point-rows i before (points areas values slopes) ≡ area-and-value-rows i before areas values
+unfolding points point-rows area-and-value-rows row _then_
+rows-3-to-5 i before [] values slopes e f good = refl
+rows-3-to-5 i before (a ∷ areas) [] slopes e f good = absurd (omega arith)
+rows-3-to-5 i before (a ∷ areas) (v ∷ values) [] e f good = absurd (omega arith)
+rows-3-to-5 i before (a ∷ areas) (v ∷ values) (s ∷ slopes) e f good =
+    let later = rows-3-to-5 (suc i) (some a) areas values slopes (omega arith) (omega arith) (λ j h. good (suc j) (omega arith)) in
+    rw (good 0 (omega arith), later)
+
+-- ---- row 6
+
+module _ (ps : List Point) (shape : Shape) (shapeless : ℕ → Bool)
+    (is : (i : ℕ) → i + 1 < length ps → has-shape shape (between (point-at ps i) (point-at ps (i + 1))) ≡ not (shapeless i)) where
+  rows-from : (m i : ℕ) → i + m + 1 ≡ length ps → segments-from ps shape i ≡ row-at-each shapeless 6 i m
+  unfolding row-at-each
+  rows-from zero i e = segment-end ps shape i (omega arith)
+  rows-from (suc m) i e =
+      let h : i + 1 < length ps = omega arith in
+      let later = rows-from m (i + 1) (omega arith) in
+      sym (segment-turn ps shape i _ _ h refl refl (sym (is i h)))
+      ∙ (rw (not-not (shapeless i), later, add-one i))
+    where
+      not-not : (b : Bool) → not (not b) ≡ b
+      not-not true = refl
+      not-not false = refl
+
+-- a segment between such slopes rises unless it falls
+rises : (s : Segment) → pos 0 ≤ℤ s .left .slope → pos 0 ≤ℤ s .right .slope →
+    (s .left .value ≡ s .right .value → (s .left .slope ≡ pos 0) × (s .right .slope ≡ pos 0)) →
+    has-shape rising s ≡ not (ltb (s .right .value) (s .left .value))
+rises s h k flat =
+    elim (compare (s .left .value) (s .right .value)) [
+      | inr (down, t) ↦ rw (lt-ltb (s .right .value) (s .left .value) down) (falling-shape s down)
+      | inl (not-down, t) ↦
+          rw (le-ltb (s .right .value) (s .left .value) not-down)
+          (elim (compare (suc (s .left .value)) (s .right .value)) [
+            | inl (up, t) ↦ climbing-shape s up
+                ∙ (rw (T-true (leZ (pos 0) (s .left .slope)) (h .le), T-true (leZ (pos 0) (s .right .slope)) (k .le)))
+            | inr (not-up, t) ↦
+                let e : s .left .value ≡ s .right .value = omega arith in
+                level-shape s e ∙ (rw (flat e .0, flat e .1))
+          ])
+    ]
+
+-- ---- rows 1 to 6
+
+module _ (areas values : List ℕ) (slopes : List ℤ) (alike : Alike (length areas) (length values) (length slopes))
+    (suits : Suits values slopes) where
+  abbrev ps : List Point
+  ps = points areas values slopes
+
+  rises-at : (i : ℕ) → i + 1 < length ps →
+      has-shape rising (between (point-at ps i) (point-at ps (i + 1))) ≡ not (falls values i)
+  unfolding falls
+  rises-at i h =
+      let fields = fields-of areas values slopes alike in
+      let size = fields-length fields in
+      let next : suc i ≡ i + 1 = omega arith in
+      rw (fields-at fields i, fields-at fields (i + 1), next)
+      (rises _ (suits .least i (omega arith)) (suits .least (i + 1) (omega arith)) (suits .level i (omega arith)))
+
+  pub rising-rows : 0 < length areas →
+      curve-rows ps 1
+      ≡ (row (bad-count (length areas)) 1 0 then area-and-value-rows 0 none areas values
+      then row-at-each (falls values) 6 0 (length areas - 1))
+  unfolding curve-rows bad-code row _then_
+  rising-rows any =
+      let size = fields-length (fields-of areas values slopes alike) in
+      let good : (j : ℕ) → j < length slopes → bad-slope (getD slopes j (pos 0)) ≡ false =
+      λ j h. in-range _ (suits .least j h) (suits .most j h) in
+      let first = rows-3-to-5 0 none areas values slopes (alike .values-too) (alike .slopes-too) good in
+      let second = rows-from ps rising (falls values) rises-at (length areas - 1) 0 (omega arith) in
+      rw (size, first, rising-of-1 {code = 1} refl, second)
+
+-- ---- slopes that are all 0
+
+pub zeros-suit : (values : List ℕ) (slopes : List ℤ) → length values ≡ length slopes →
+    ((i : ℕ) → i < length slopes → getD slopes i (pos 0) ≡ pos 0) →
+    Suits values slopes
+zeros-suit values slopes size zero-at =
+    record {
+      least = λ i h. rw (zero-at i h) (Z.nonneg-pos 0);
+      most = λ i h. rw (zero-at i h) (Z.nonneg-pos slope-most);
+      level = λ i h e. (zero-at i (omega arith), zero-at (i + 1) (omega arith));
+    }
+
+-- ---- what rows 1, 3, 4 and 6 leave
+
+pub record Rated (areas values : List ℕ) : Type 0 where
+  pub same-length : length areas ≡ length values
+  pub count : bad-count (length areas) ≡ false
+  pub points-pass : area-and-value-rows 0 none areas values ≡ gives tt
+  pub segments-pass : row-at-each (falls values) 6 0 (length areas - 1) ≡ gives tt
+
+-- points with such slopes are accepted as rising
+pub accepted-of : {areas values : List ℕ} {slopes : List ℤ} → Rated areas values → length areas ≡ length slopes →
+    Suits values slopes →
+    Accepted (points areas values slopes) 1
+unfolding row _then_
+accepted-of {areas} {values} {slopes} k e suits =
+    let n = count-of-row-1 (length areas) (k .count) in
+    let alike : Alike (length areas) (length values) (length slopes) = record { values-too = k .same-length; slopes-too = e } in
+    record {
+      none-applies = rising-rows areas values slopes alike suits (omega arith)
+          ∙ (rw (k .count, k .points-pass, k .segments-pass));
+    }
+
+pub climbing-of : {areas values : List ℕ} → Rated areas values → Climbing areas values
+unfolding falls
+climbing-of {areas} {values} k =
+    let n = count-of-row-1 (length areas) (k .count) in
+    let zeros : List ℤ = replicate (length areas) (pos 0) in
+    let size : length areas ≡ length zeros = sym (length-replicate (length areas) (pos 0)) in
+    let zero-at : (i : ℕ) → i < length zeros → getD zeros i (pos 0) ≡ pos 0 =
+    λ i h. getD-replicate (length areas) i (pos 0) (pos 0) (omega arith) in
+    let a = accepted-of {slopes = zeros} k size (zeros-suit values zeros (omega (arith, k .same-length)) zero-at) in
+    let fields = fields-of areas values zeros (record { values-too = k .same-length; slopes-too = size }) in
+    record {
+      same-length = k .same-length;
+      least = n .0;
+      most = n .1;
+      climbs = λ i h.
+          let inner : suc i < length (points areas values zeros) = omega (arith, fields-length fields) in
+          let ends = rw (fields-at fields i, fields-at fields (suc i), ← add-one i) at
+          (chained-at (Good (shape-of 1)) good-ordered (chained-of a) i inner .ends) in
+          record {
+            ordered = ends .ordered;
+            near = ends .near;
+            rises = ltb-false _ _ (rw (add-one i) (each-fails (falls values) 6 _ i (k .segments-pass) (omega arith)));
+            limit = ends .right .value;
+          };
+    }
