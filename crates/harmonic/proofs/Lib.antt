@@ -3,3 +3,4 @@ pub mod Quotients
 pub mod Sizes
 pub mod Chords
 pub mod Rising
+pub mod Answers
