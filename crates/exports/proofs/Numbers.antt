@@ -1,19 +1,24 @@
 -- The number that C gets for an answer.
 --   c-refused, c-given    for a refusal and for a result
---   in-pair, in-open, in-write    the numbers and places of their refusals
+--   in-pair, in-open, in-write, in-fill    the numbers and places of their refusals
 -- Assumes nothing.
 use mathlib.Core.Path.{_≡_, refl}
-use mathlib.Core.List.{List}
-use Prim.Native.Nat.{ℕ, _+_, _*_}
+use mathlib.Core.List.{List, [], _∷_}
+use mathlib.Core.Option.{Option, none, some}
+use Prim.Native.Nat.{ℕ, suc, _+_, _*_, _≤_}
 use native.Mathlib.Omega.{arith}
 use lib.IntN.{ℤ, pos, negℤ}
+use lib.ListN.{length}
 use Rattle.model.specs.Answer.{Answer, gives, refused}
 use Rattle.model.specs.Check.{on-lists}
-use Rattle.model.proofs.Numbered.{Numbered, in-row, in-then, in-curve, in-lists}
+use Rattle.model.specs.Sheet.{entries-most}
+use Rattle.model.proofs.Rows.{count-of-row-1, row-left}
+use Rattle.model.proofs.Numbered.{Numbered, in-row, in-then, in-each, in-curve, in-lists}
 use Rattle.pair.specs.Pair.{pair-answer}
 use Rattle.layout.proofs.Heads.{in-head}
 use Rattle.file.specs.Open.{open-answer}
 use Rattle.file.specs.Write.{write-answer}
+use Rattle.harmonic.specs.Fill.{area-and-value-rows, fill-answer}
 use Rattle.exports.specs.Exports.{word, c-number, c-pair-answer}
 
 module _ {A : Type 0} {a : Answer A} (result : A → ℤ) where
@@ -46,3 +51,23 @@ unfolding write-answer
 in-write areas values slopes code buffer =
     in-lists areas values slopes _ (
     in-then _ _ (in-curve _ code) (λ _. in-then _ _ (in-row _ 12 0 tt (omega arith)) (λ _. tt)))
+
+in-points : (i : ℕ) (before : Option ℕ) (areas values : List ℕ) → i + length areas ≤ entries-most →
+    Numbered (area-and-value-rows i before areas values)
+unfolding area-and-value-rows
+in-points i before [] values h = tt
+in-points i before (a ∷ areas) [] h = tt
+in-points i before (a ∷ areas) (v ∷ values) h =
+    let here : i ≤ entries-most = omega arith in
+    in-then _ _ (in-row _ 3 i tt here) (λ _.
+    in-then _ _ (in-row _ 4 i tt here) (λ _. in-points (suc i) (some a) areas values (omega arith)))
+
+pub in-fill : (areas values : List ℕ) (slopes : ℕ) → Numbered (fill-answer areas values slopes)
+unfolding fill-answer
+in-fill areas values slopes =
+    in-then _ _ (in-row _ 1 0 tt (omega arith)) (λ _.
+    in-then _ _ (in-row _ 1 0 tt (omega arith)) (λ counted.
+    let few = count-of-row-1 (length areas) (row-left _ 1 0 counted) .1 in
+    in-then _ _ (in-points 0 none areas values (omega arith)) (λ _.
+    in-then _ _ (in-each _ 6 0 _ tt (omega arith)) (λ _.
+    in-then _ _ (in-each _ 5 0 _ tt (omega arith)) (λ _. tt)))))

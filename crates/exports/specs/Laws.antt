@@ -11,6 +11,7 @@ use Rattle.model.specs.Read.{read-answer}
 use Rattle.model.specs.Sheet.{sheet-answer}
 use Rattle.file.specs.Open.{open-answer}
 use Rattle.file.specs.Write.{write-answer}
+use Rattle.harmonic.specs.Fill.{fill-answer}
 use Rattle.exports.specs.Exports.{word, c-number, pair-entries, c-pair-answer, c-shape-and-count}
 
 -- a result is at least −200,000; a refusal is at most −2^32, and its size over 2^32 is the number, the remainder the place
@@ -21,7 +22,7 @@ Apart result (refused number place) =
     × (natAbs (c-number result (refused number place)) / word ≡ number)
     × (natAbs (c-number result (refused number place)) % word ≡ place)
 
--- so it is for each of the six calls, whatever they are given
+-- so it is for each of the seven calls, whatever they are given
 pub record ResultsAndRefusalsApart : Type 0 where
   pub check : (areas values : List ℕ) (slopes : List ℤ) (code : ℕ) →
       Apart pos (on-lists areas values slopes (λ ps. check-answer ps code))
@@ -35,3 +36,4 @@ pub record ResultsAndRefusalsApart : Type 0 where
       Apart c-shape-and-count (open-answer bytes areas values slopes)
   pub written : (areas values : List ℕ) (slopes : List ℤ) (code buffer : ℕ) →
       Apart pos (on-lists areas values slopes (λ ps. write-answer ps code buffer))
+  pub slopes-filled : (areas values : List ℕ) (slopes : ℕ) → Apart pos (fill-answer areas values slopes)
