@@ -71,7 +71,7 @@ module _ {areas values : List ℕ} (k : Climbing areas values) where
         slope areas values i ≡ end-slope (chord-of c) (chord-of d) (across c d)
     unfolding slope
     slope-at-first e m n =
-        let size = k .least in
+        let size = k .counted .least in
         rw (
           ne-eqb (length areas) 2 more,
           eq-eqb i 0 e,
@@ -80,30 +80,37 @@ module _ {areas values : List ℕ} (k : Climbing areas values) where
           across-slope 0 1 2 (omega arith) (omega arith) (omega arith) m n,
         )
 
-    pub slope-at-last : (i ≡ 0 → ⊥) → i + 1 ≡ length areas → ChordAt areas values (i - 1) c → ChordAt areas values (i - 2) d →
+    pub slope-at-last : (g h : ℕ) → h ≡ g + 1 → i ≡ h + 1 → i + 1 ≡ length areas →
+        ChordAt areas values h c →
+        ChordAt areas values g d →
         slope areas values i ≡ end-slope (chord-of c) (chord-of d) (across c d)
     unfolding slope
-    slope-at-last later e m n =
-        let size = k .least in
+    slope-at-last g h e f end m n =
+        let before : i - 1 ≡ h = omega arith in
+        let two-before : i - 2 ≡ g = omega arith in
         rw (
           ne-eqb (length areas) 2 more,
-          ne-eqb i 0 later,
+          ne-eqb i 0 (λ (z : i ≡ 0). omega arith),
           eq-eqb (suc i) (length areas) (omega arith),
-          chord-slope (i - 1) i (omega arith) (omega arith) m,
-          chord-slope (i - 2) (i - 1) (omega arith) (omega arith) n,
-          across-slope (i - 2) (i - 1) i (omega arith) (omega arith) (omega arith) n m,
+          before,
+          two-before,
+          chord-slope h i f (omega arith) m,
+          chord-slope g h e (omega arith) n,
+          across-slope g h i e f (omega arith) n m,
           across-either-way d c,
         )
 
-    pub slope-inside : (i ≡ 0 → ⊥) → i + 1 < length areas → ChordAt areas values (i - 1) c → ChordAt areas values i d →
+    pub slope-inside : (h : ℕ) → i ≡ h + 1 → i + 1 < length areas → ChordAt areas values h c → ChordAt areas values i d →
         slope areas values i ≡ inner-slope (chord-of c) (chord-of d) (across c d)
     unfolding slope
-    slope-inside later h m n =
+    slope-inside h e inner m n =
+        let before : i - 1 ≡ h = omega arith in
         rw (
           ne-eqb (length areas) 2 more,
-          ne-eqb i 0 later,
-          ne-eqb (suc i) (length areas) (λ (e : suc i ≡ length areas). omega arith),
-          chord-slope (i - 1) i (omega arith) (omega arith) m,
+          ne-eqb i 0 (λ (z : i ≡ 0). omega arith),
+          ne-eqb (suc i) (length areas) (λ (z : suc i ≡ length areas). omega arith),
+          before,
+          chord-slope h i e (omega arith) m,
           chord-slope i (suc i) (omega arith) (omega arith) n,
-          across-slope (i - 1) i (suc i) (omega arith) (omega arith) (omega arith) m n,
+          across-slope h i (suc i) e (omega arith) (omega arith) m n,
         )

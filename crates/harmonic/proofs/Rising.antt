@@ -1,7 +1,7 @@
 -- Rows 3 to 6 of a rising curve, by its areas and values: slopes that suit the values decide none of them.
 --   Suits          slopes from 0 to 10,000, and 0 at both ends of a level segment; zeros-suit, slopes that are all 0
---   rising-rows    rows 1 to 6 of points with such slopes
---   Rated          rows 1, 3, 4 and 6 refuse nothing; accepted-of, points with such slopes are accepted; climbing-of, they climb
+--   suited-rows    rows 1 to 6 of points with such slopes are rows 3, 4 and 6; flat-rows, zeros-rows, with slopes 0
+--   climbing-of    what these rows leave
 -- Assumes nothing.
 use mathlib.Core.Path.{_≡_, refl, sym, _∙_, ap}
 use mathlib.Core.Bool.{Bool, true, false, not, _&&_}
@@ -11,28 +11,29 @@ use mathlib.Core.Option.{Option, none, some}
 use Prim.Native.Nat.{ℕ, zero, suc, _+_, _-_, _≤_, _<_}
 use native.Mathlib.Numerals.{add-one}
 use native.Mathlib.Omega.{arith}
-use borrow.Author.Tests.{lt-ltb, le-ltb, ltb-false}
+use borrow.Author.Tests.{eq-eqb, lt-ltb, le-ltb, ltb-false}
 use lib.Dec.{ltb}
 use lib.IntN.{ℤ, pos}
-use lib.ListN.{length, getD, replicate, length-replicate, getD-replicate}
+use lib.ListN.{length, getD, take, replicate, length-replicate, getD-replicate}
 use lib.Signed.{_≤ℤ_, leZ}
 use Rattle.exact.proofs.Order as Z
 use Rattle.exact.proofs.Tests.{compare, T-true}
 use Rattle.model.specs.Answer.{Answer, gives, row, _then_, row-at-each}
-use Rattle.model.specs.Points.{Point, points, Segment, Shape, rising, shape-of, slope-most}
+use Rattle.model.specs.Points.{points-least, points-most, slope-most, Point, points, Segment, Shape, rising, shape-of}
 use Rattle.model.specs.Shape.{has-shape}
-use Rattle.model.specs.Check.{bad-count, bad-code, bad-area, bad-value, bad-slope, point-rows, segment-rows, curve-rows}
-use Rattle.model.specs.Inner.{Accepted, Alike, between, point-at, Good}
+use Rattle.model.specs.Check.{lengths-differ, bad-count, bad-code, bad-slope, point-rows, curve-rows, on-lists}
+use Rattle.model.specs.Inner.{Alike, between, point-at, Good}
 use Rattle.model.proofs.Codes.{rising-of-1}
-use Rattle.model.proofs.Rows.{count-of-row-1}
+use Rattle.model.proofs.Rows.{then-rest}
+use Rattle.model.proofs.Answers.{on-lists-is}
 use Rattle.model.proofs.Places.{each-fails}
 use Rattle.model.proofs.Walk.{good-ordered}
 use Rattle.model.proofs.Indexed.{chained-at}
 use Rattle.model.proofs.Accepted.{chained-of}
-use Rattle.model.proofs.Lists.{fields-of, fields-length, fields-at}
+use Rattle.model.proofs.Lists.{Fields, fields-of, fields-length, fields-at}
 use Rattle.shape.proofs.Tests.{climbing-shape, level-shape, falling-shape}
 use Rattle.rows.proofs.Faults.{segments-from, segment-turn, segment-end}
-use Rattle.harmonic.specs.Inner.{Climbing}
+use Rattle.harmonic.specs.Inner.{flat-points, rated-rows, Counted, Climbing}
 use Rattle.harmonic.specs.Fill.{area-and-value-rows, falls}
 
 pub record Suits (values : List ℕ) (slopes : List ℤ) : Type 0 where
@@ -113,10 +114,8 @@ module _ (areas values : List ℕ) (slopes : List ℤ) (alike : Alike (length ar
       rw (fields-at fields i, fields-at fields (i + 1), next)
       (rises _ (suits .least i (omega arith)) (suits .least (i + 1) (omega arith)) (suits .level i (omega arith)))
 
-  pub rising-rows : 0 < length areas →
-      curve-rows ps 1
-      ≡ (row (bad-count (length areas)) 1 0 then area-and-value-rows 0 none areas values
-      then row-at-each (falls values) 6 0 (length areas - 1))
+  rising-rows : 0 < length areas →
+      curve-rows ps 1 ≡ (row (bad-count (length areas)) 1 0 then rated-rows areas values)
   unfolding curve-rows bad-code row _then_
   rising-rows any =
       let size = fields-length (fields-of areas values slopes alike) in
@@ -128,59 +127,81 @@ module _ (areas values : List ℕ) (slopes : List ℤ) (alike : Alike (length ar
 
 -- ---- slopes that are all 0
 
-pub zeros-suit : (values : List ℕ) (slopes : List ℤ) → length values ≡ length slopes →
-    ((i : ℕ) → i < length slopes → getD slopes i (pos 0) ≡ pos 0) →
-    Suits values slopes
-zeros-suit values slopes size zero-at =
+take-replicate : {A : Type 0} (m n : ℕ) (x : A) → m ≤ n → take m (replicate n x) ≡ replicate m x
+take-replicate zero n x h = refl
+take-replicate (suc m) zero x h = absurd (omega arith)
+take-replicate (suc m) (suc n) x h = ap (x ∷_) (take-replicate m n x (omega arith))
+
+zeros-suit : (values : List ℕ) (n : ℕ) → length values ≡ n → Suits values (replicate n (pos 0))
+zeros-suit values n e =
+    let size = length-replicate n (pos 0) in
+    let zero-at : (i : ℕ) → i < n → getD (replicate n (pos 0)) i (pos 0) ≡ pos 0 = λ i h. getD-replicate n i (pos 0) (pos 0) h in
     record {
-      least = λ i h. rw (zero-at i h) (Z.nonneg-pos 0);
-      most = λ i h. rw (zero-at i h) (Z.nonneg-pos slope-most);
-      level = λ i h e. (zero-at i (omega arith), zero-at (i + 1) (omega arith));
+      least = λ i h. rw (zero-at i (omega arith)) (Z.nonneg-pos 0);
+      most = λ i h. rw (zero-at i (omega arith)) (Z.nonneg-pos slope-most);
+      level = λ i h _. (zero-at i (omega arith), zero-at (i + 1) (omega arith));
     }
 
 -- ---- what rows 1, 3, 4 and 6 leave
 
-pub record Rated (areas values : List ℕ) : Type 0 where
-  pub same-length : length areas ≡ length values
-  pub count : bad-count (length areas) ≡ false
-  pub points-pass : area-and-value-rows 0 none areas values ≡ gives tt
-  pub segments-pass : row-at-each (falls values) 6 0 (length areas - 1) ≡ gives tt
+same-of : {areas values slopes : ℕ} → Alike areas values slopes → lengths-differ areas values slopes ≡ false
+unfolding lengths-differ
+same-of k = rw (eq-eqb _ _ (k .values-too), eq-eqb _ _ (k .slopes-too))
 
--- points with such slopes are accepted as rising
-pub accepted-of : {areas values : List ℕ} {slopes : List ℤ} → Rated areas values → length areas ≡ length slopes →
-    Suits values slopes →
-    Accepted (points areas values slopes) 1
-unfolding row _then_
-accepted-of {areas} {values} {slopes} k e suits =
-    let n = count-of-row-1 (length areas) (k .count) in
-    let alike : Alike (length areas) (length values) (length slopes) = record { values-too = k .same-length; slopes-too = e } in
-    record {
-      none-applies = rising-rows areas values slopes alike suits (omega arith)
-          ∙ (rw (k .count, k .points-pass, k .segments-pass));
-    }
+module _ {areas values : List ℕ} (k : Counted areas values) where
+  -- they are the rows of points with such slopes
+  module _ (slopes : List ℤ) (e : length areas ≡ length slopes) (suits : Suits values slopes) where
+    alike : Alike (length areas) (length values) (length slopes)
+    alike = record { values-too = k .same-length; slopes-too = e }
 
-pub climbing-of : {areas values : List ℕ} → Rated areas values → Climbing areas values
-unfolding falls
-climbing-of {areas} {values} k =
-    let n = count-of-row-1 (length areas) (k .count) in
-    let zeros : List ℤ = replicate (length areas) (pos 0) in
-    let size : length areas ≡ length zeros = sym (length-replicate (length areas) (pos 0)) in
-    let zero-at : (i : ℕ) → i < length zeros → getD zeros i (pos 0) ≡ pos 0 =
-    λ i h. getD-replicate (length areas) i (pos 0) (pos 0) (omega arith) in
-    let a = accepted-of {slopes = zeros} k size (zeros-suit values zeros (omega (arith, k .same-length)) zero-at) in
-    let fields = fields-of areas values zeros (record { values-too = k .same-length; slopes-too = size }) in
-    record {
-      same-length = k .same-length;
-      least = n .0;
-      most = n .1;
-      climbs = λ i h.
-          let inner : suc i < length (points areas values zeros) = omega (arith, fields-length fields) in
-          let ends = rw (fields-at fields i, fields-at fields (suc i), ← add-one i) at
-          (chained-at (Good (shape-of 1)) good-ordered (chained-of a) i inner .ends) in
-          record {
-            ordered = ends .ordered;
-            near = ends .near;
-            rises = ltb-false _ _ (rw (add-one i) (each-fails (falls values) 6 _ i (k .segments-pass) (omega arith)));
-            limit = ends .right .value;
-          };
-    }
+    suited-curve : curve-rows (points areas values slopes) 1 ≡ rated-rows areas values
+    unfolding bad-count row _then_
+    suited-curve =
+        rising-rows areas values slopes alike suits (omega (arith, k .least))
+        ∙ (rw (le-ltb (length areas) points-least (k .least), le-ltb points-most (length areas) (k .most)))
+
+    pub suited-rows : on-lists areas values slopes (λ ps. curve-rows ps 1) ≡ rated-rows areas values
+    suited-rows = on-lists-is areas values slopes (λ ps. curve-rows ps 1) (same-of alike) ∙ suited-curve
+
+  -- ---- points with slopes that are all 0
+
+  zeros-size : length areas ≡ length (replicate (length areas) (pos 0))
+  zeros-size = sym (length-replicate (length areas) (pos 0))
+
+  flat-fields : Fields (flat-points areas values) areas values (replicate (length areas) (pos 0))
+  flat-fields = fields-of areas values _ (record { values-too = k .same-length; slopes-too = zeros-size })
+
+  pub flat-size : length (flat-points areas values) ≡ length areas
+  flat-size = fields-length flat-fields
+
+  pub flat-at : (i : ℕ) → i < length areas →
+      point-at (flat-points areas values) i ≡ record { area = getD areas i 0; value = getD values i 0; slope = pos 0 }
+  flat-at i h = fields-at flat-fields i ∙ (rw (getD-replicate (length areas) i (pos 0) (pos 0) h))
+
+  pub flat-rows : curve-rows (flat-points areas values) 1 ≡ rated-rows areas values
+  flat-rows = suited-curve _ zeros-size (zeros-suit values (length areas) (sym (k .same-length)))
+
+  -- as many zeros of a longer list of them
+  pub zeros-rows : (n : ℕ) → length areas ≤ n →
+      on-lists areas values (take (length areas) (replicate n (pos 0))) (λ ps. curve-rows ps 1) ≡ rated-rows areas values
+  zeros-rows n h =
+      rw (take-replicate (length areas) n (pos 0) h)
+      (suited-rows _ zeros-size (zeros-suit values (length areas) (sym (k .same-length))))
+
+  pub climbing-of : rated-rows areas values ≡ gives tt → Climbing areas values
+  unfolding falls
+  climbing-of pass =
+      let accepted = chained-of (record { none-applies = flat-rows ∙ pass }) in
+      let level = then-rest (area-and-value-rows 0 none areas values) _ pass in
+      record {
+        counted = k;
+        climbs = λ i h.
+            let good = chained-at (Good (shape-of 1)) good-ordered accepted i (omega (arith, flat-size)) in
+            let ends = rw (flat-at i (omega arith), flat-at (suc i) (omega arith), ← add-one i) at (good .ends) in
+            record {
+              ordered = ends .ordered;
+              near = ends .near;
+              rises = ltb-false _ _ (rw (add-one i) (each-fails (falls values) 6 _ i level (omega arith)));
+              limit = ends .right .value;
+            };
+      }

@@ -1,4 +1,5 @@
 -- What contracts of inner functions cite. Nothing here need be believed: the call's contract cites document 02's definitions.
+--   rated-rows           rows 3, 4 and 6; Counted, row 1 is passed; flat-points, points with slopes 0
 --   Climbs, Climbing     what rows 1, 3, 4 and 6 leave of two neighbouring points, of all points
 --   Sized, Beside        the sizes of a chord, of two
 --   ChordAt              the chord that begins at an index
@@ -6,12 +7,30 @@
 -- Assumes nothing.
 use mathlib.Core.Path.{_≡_}
 use mathlib.Core.List.{List}
+use mathlib.Core.Option.{none}
 use Prim.Native.Nat.{ℕ, _+_, _-_, _≤_, _<_}
 use lib.IntN.{pos}
-use lib.ListN.{length, getD}
+use lib.ListN.{length, getD, replicate}
 use Rattle.exact.specs.Fraction.{Fraction, _over_}
-use Rattle.model.specs.Points.{points-least, points-most, gap-most, value-most}
+use Rattle.model.specs.Answer.{Answer, _then_, row-at-each}
+use Rattle.model.specs.Points.{points-least, points-most, gap-most, value-most, Point, points}
+use Rattle.harmonic.specs.Fill.{area-and-value-rows, falls}
 use Rattle.harmonic.specs.declared.Chord.{Chord}
+
+-- rows 3 and 4, then 6
+abbrev pub rated-rows : List ℕ → List ℕ → Answer (Unit {0})
+rated-rows areas values =
+    area-and-value-rows 0 none areas values then row-at-each (falls values) 6 0 (length areas - 1)
+
+-- row 1 is passed
+pub record Counted (areas values : List ℕ) : Type 0 where
+  pub same-length : length areas ≡ length values
+  pub least : points-least ≤ length areas
+  pub most : length areas ≤ points-most
+
+-- the points with slopes that are all 0
+abbrev pub flat-points : List ℕ → List ℕ → List Point
+flat-points areas values = points areas values (replicate (length areas) (pos 0))
 
 -- from the point at i to the next
 pub record Climbs (areas values : List ℕ) (i : ℕ) : Type 0 where
@@ -21,9 +40,7 @@ pub record Climbs (areas values : List ℕ) (i : ℕ) : Type 0 where
   pub limit : getD values (i + 1) 0 ≤ value-most
 
 pub record Climbing (areas values : List ℕ) : Type 0 where
-  pub same-length : length areas ≡ length values
-  pub least : points-least ≤ length areas
-  pub most : length areas ≤ points-most
+  pub counted : Counted areas values
   pub climbs : (i : ℕ) → i + 1 < length areas → Climbs areas values i
 
 -- the sizes of a chord

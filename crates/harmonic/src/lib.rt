@@ -1,15 +1,19 @@
 // Slopes that nobody supplies, by the harmonic rule.
 ghost use mathlib.Core.Path.{_≡_};
+ghost use mathlib.Core.Bool.{true, cond};
 ghost use mathlib.Core.List.{_++_};
-ghost use Prim.Native.Nat.{_+_, _≤_, _<_};
+ghost use Prim.Native.Nat.{_+_, _-_, _≤_, _<_};
 ghost use lib.IntN.{pos};
 ghost use lib.ListN.{length, take, drop};
-ghost use Rattle.model.specs.Answer.{filled, row-at-each};
-ghost use Rattle.model.specs.Inner.{first-answer};
+ghost use Rattle.model.specs.Answer.{gives, filled, row-at-each};
+ghost use Rattle.model.specs.Inner.{fault-answer, first-answer, point-at};
+ghost use Rattle.point.specs.Inner.{point-of};
 ghost use Rattle.harmonic.specs.Rule.{inner-slope, end-slope, hundredths, figure, figures};
 ghost use Rattle.harmonic.specs.Fill.{too-steep, fill-answer};
 ghost use Rattle.harmonic.specs.Calls.{supplied-answer};
-ghost use Rattle.harmonic.specs.Inner.{Climbing, Beside, ChordAt, chord-of, across};
+ghost use Rattle.harmonic.specs.Inner.{flat-points, Counted, rated-rows, Climbing, Beside, ChordAt, chord-of, across};
+use point::Point;
+use rows::Fault;
 use rows::POINTS_MOST;
 
 // The largest figure, compared in 64 bits: before row 5 a figure can be above 2^32.
@@ -62,26 +66,23 @@ fn end_figure(first: Chord, second: Chord) -> u64
         / (first.gap * (first.gap + second.gap) * second.rise)
 }
 
-// The figure at the point at i.
-fn figure_at(areas: &[u32], values: &[u32], i: usize) -> u64
-    requires { ⌜ Climbing (now areas) (now values) × (i < length (now areas)) ⌝ }
-    ensures { λ r. ⌜ pos r ≡ figure (now (areas .entry)) (now (values .entry)) i ⌝ }
+// The figure at the first point, or at the last.
+fn figure_at_end(areas: &[u32], values: &[u32], first: bool) -> u64
+    requires { ⌜ Climbing (now areas) (now values) ⌝ }
+    ensures { λ r. ⌜ pos r ≡ figure (now (areas .entry)) (now (values .entry)) (cond first 0 (length (now (areas .entry)) - 1)) ⌝ }
 {
     let n = areas.len();
     if n == 2 {
         let only = chord_at(areas, values, 0);
         return only.rise * 100 / only.gap;
     }
-    if i == 0 {
+    if first {
         return end_figure(chord_at(areas, values, 0), chord_at(areas, values, 1));
     }
-    if i == n - 1 {
-        return end_figure(
-            chord_at(areas, values, i - 1),
-            chord_at(areas, values, i - 2),
-        );
-    }
-    inner_figure(chord_at(areas, values, i - 1), chord_at(areas, values, i))
+    end_figure(
+        chord_at(areas, values, n - 2),
+        chord_at(areas, values, n - 3),
+    )
 }
 
 // Fills the first entries with figures, and gives the place of the first that is too steep, or the number of points.
@@ -92,16 +93,30 @@ fn fill_figures(areas: &[u32], values: &[u32], out: &mut [i32]) -> usize
     ensures list { λ r. ⌜ (length (now (areas .entry)) ≤ r →
         now (out .exit) ≡ figures (now (areas .entry)) (now (values .entry)) ++ drop (length (now (areas .entry))) (now (out .entry))) ⌝ }
 {
-    let mut i: usize = 0;
-    while i < areas.len() {
-        let f = figure_at(areas, values, i);
+    let first = figure_at_end(areas, values, true);
+    if first > FIGURE_MOST {
+        return 0;
+    }
+    out[0] = first as i32;
+    let end = areas.len() - 1;
+    let mut left = chord_at(areas, values, 0);
+    let mut i: usize = 1;
+    while i < end {
+        let right = chord_at(areas, values, i);
+        let f = inner_figure(left, right);
         if f > FIGURE_MOST {
             return i;
         }
         out[i] = f as i32;
+        left = right;
         i += 1;
     }
-    i
+    let last = figure_at_end(areas, values, false);
+    if last > FIGURE_MOST {
+        return end;
+    }
+    out[end] = last as i32;
+    end + 1
 }
 
 // Writes the first entries of one list over another.
@@ -116,13 +131,62 @@ fn copy(from: &[i32], to: &mut [i32])
     }
 }
 
+// The point at i, with the slope 0.
+fn flat_point(areas: &[u32], values: &[u32], i: usize) -> Point
+    requires { ⌜ Counted (now areas) (now values) × (i < length (now areas)) ⌝ }
+    ensures { λ r. ⌜ point-of r ≡ point-at (flat-points (now (areas .entry)) (now (values .entry))) i ⌝ }
+{
+    Point {
+        area: areas[i],
+        value: values[i],
+        slope: 0,
+    }
+}
+
+// Rows 3, 4 and 6 in one pass. Where it finds a fault it does not say which.
+fn all_rise(areas: &[u32], values: &[u32]) -> bool
+    requires { ⌜ Counted (now areas) (now values) ⌝ }
+    ensures { λ r. ⌜ (r ≡ true → rated-rows (now (areas .entry)) (now (values .entry)) ≡ gives tt) ⌝ }
+{
+    let mut p = flat_point(areas, values, 0);
+    if point::point_fault(true, 0, p) != 0 {
+        return false;
+    }
+    let last = areas.len() - 1;
+    let mut left: usize = 0;
+    while left < last {
+        let right = left + 1;
+        let q = flat_point(areas, values, right);
+        if !rows::follows(1, p, q) {
+            return false;
+        }
+        p = q;
+        left = right;
+    }
+    true
+}
+
+// Rows 3, 4 and 6: those of a rising curve whose slopes are all 0.
+fn rated_fault(areas: &[u32], values: &[u32]) -> Fault
+    requires { ⌜ Counted (now areas) (now values) ⌝ }
+    ensures { λ r. ⌜ fault-answer (r .number) (r .place) ≡ rated-rows (now (areas .entry)) (now (values .entry)) ⌝ }
+{
+    if all_rise(areas, values) {
+        return Fault {
+            number: 0,
+            place: 0,
+        };
+    }
+    let zeros = [0i32; POINTS_MOST];
+    rows::first_fault(areas, values, &zeros[..areas.len()], 1)
+}
+
 // What the filling answers: the number of points, or a refusal's number and place.
 pub enum Supplied {
     Points(u32),
     Refused(u32, u32),
 }
 
-// Rows 1, 3, 4 and 6 are those of a rising curve whose slopes are all 0.
 pub fn fill_slopes(areas: &[u32], values: &[u32], slopes: &mut [i32]) -> Supplied
     ensures answer { λ r. ⌜ supplied-answer r
         ≡ fill-answer (now (areas .entry)) (now (values .entry)) (length (now (slopes .entry))) ⌝ }
@@ -136,11 +200,11 @@ pub fn fill_slopes(areas: &[u32], values: &[u32], slopes: &mut [i32]) -> Supplie
     if rows::bad_count(n) {
         return Supplied::Refused(1, 0);
     }
-    let mut figures = [0i32; POINTS_MOST];
-    let fault = rows::curve_fault(areas, values, &figures[..n], 1);
+    let fault = rated_fault(areas, values);
     if fault.number != 0 {
         return Supplied::Refused(fault.number, fault.place);
     }
+    let mut figures = [0i32; POINTS_MOST];
     let place = fill_figures(areas, values, &mut figures);
     if place < n {
         return Supplied::Refused(5, place as u32);

@@ -7,21 +7,21 @@ use Prim.Native.Nat.{ℕ, _≤_, _<_}
 use native.Mathlib.Omega.{arith}
 use borrow.Author.Needs.{needs}
 use borrow.Author.Tests.{lt-ltb, le-ltb}
-use lib.IntN.{ℤ, pos}
-use lib.ListN.{length, getD, take, drop, replicate, getD-replicate}
-use lib.Seq.{length-take-le, getD-take, take-at, drop-length}
+use lib.IntN.{ℤ}
+use lib.ListN.{length, take, drop}
+use lib.Seq.{take-at, drop-length}
 use Rattle.model.specs.Answer.{gives, refused, row, _then_, filled}
 use Rattle.model.specs.Check.{lengths-differ, bad-count}
-use Rattle.model.specs.Inner.{fault-answer, Alike}
+use Rattle.model.specs.Inner.{Alike}
 use Rattle.model.proofs.Filling.{tabulate-length}
 use Rattle.model.proofs.Rows.{alike-of-row-1, count-of-row-1}
 use Rattle.rows.proofs.Faults.{a-fault, no-fault}
 use Rattle.harmonic.specs.Rule.{figure, figures}
 use Rattle.harmonic.specs.Fill.{fill-answer}
-use Rattle.harmonic.specs.Inner.{Climbing}
+use Rattle.harmonic.specs.Inner.{rated-rows, Counted}
 use Rattle.harmonic.specs.Calls.{supplied-answer}
-use Rattle.harmonic.proofs.Rising.{Rated, climbing-of}
-use Rattle.harmonic.proofs.Answers.{rated-rows, of-zeros, answer-refused, answer-after, rated}
+use Rattle.harmonic.proofs.Rising.{climbing-of}
+use Rattle.harmonic.proofs.Answers.{answer-refused, answer-after}
 use Rattle.harmonic.proofs.fill_slopes.Statement.{statement}
 use Rattle.harmonic.proofs.fill_slopes.Tie as tie
 
@@ -57,48 +57,25 @@ module _ (c : tie.Else2) where
   count : bad-count (length (areas at-1)) ≡ false
   count = sym (c .before .bad-count .ensures) ∙ c .if2 .left
 
-  most : length (areas at-1) ≤ 64
-  most = count-of-row-1 _ count .1
-
-abbrev zeros : List ℤ
-zeros = replicate 64 (pos 0)
-
--- the fault is one of rows 3, 4 and 6
-faults : (c : tie.After-curve-fault) → (let k = at-1 (c .before .before) in
-    fault-answer (c .curve-fault .result .number) (c .curve-fault .result .place) ≡ rated-rows (areas k) (values k))
-faults c =
-    let b = c .before .before in
-    let n = length (areas (at-1 b)) in
-    let size : length (take n zeros) ≡ n = length-take-le n zeros (most b) in
-    let zero-at : (i : ℕ) → i < length (take n zeros) → getD (take n zeros) i (pos 0) ≡ pos 0 =
-    λ i h. getD-take n zeros i (pos 0) (omega arith)
-    ∙ getD-replicate 64 i (pos 0) (pos 0) (let m = most b in omega arith) in
-    c .curve-fault .ensures
-    ∙ of-zeros (areas (at-1 b)) (values (at-1 b)) (take n zeros)
-    (record { values-too = alike (at-1 b) .values-too; slopes-too = sym size }) (count b) zero-at
+  counted : Counted (areas at-1) (values at-1)
+  counted =
+      let n = count-of-row-1 _ count in
+      record { same-length = alike at-1 .values-too; least = n .0; most = n .1 }
 
 returns-3 : tie.Need-returns-3
 unfolding supplied-answer filled
 returns-3 c =
     let f = c .before .before in
-    let k = at-1 (f .before .before) in
-    let e = sym (faults f) ∙ a-fault _ (c .if3 .taken) in
-    (sym (answer-refused (areas k) (values k) _ (same k) (count (f .before .before)) e), refl)
+    let k = at-1 (f .before) in
+    let e = sym (f .rated-fault .ensures) ∙ a-fault _ (c .if3 .taken) in
+    (sym (answer-refused (areas k) (values k) _ (same k) (count (f .before)) e), refl)
 
 -- rows 1, 3, 4 and 6 are passed
-abbrev at-fault : tie.Else3 → tie.After-curve-fault
-at-fault c = c .before .before
-
 abbrev at-count : tie.Else3 → tie.Else2
-at-count c = at-fault c .before .before
+at-count c = c .before .before .before
 
 passed : (c : tie.Else3) → (let k = at-1 (at-count c) in rated-rows (areas k) (values k) ≡ gives tt)
-passed c = sym (faults (at-fault c)) ∙ no-fault _ (c .if3 .left)
-
-climbs : (c : tie.Else3) → (let k = at-1 (at-count c) in Climbing (areas k) (values k))
-climbs c =
-    let k = at-1 (at-count c) in
-    climbing-of (rated (areas k) (values k) (alike k .values-too) (count (at-count c)) (passed c))
+passed c = sym (c .before .before .rated-fault .ensures) ∙ no-fault _ (c .if3 .left)
 
 returns-4 : tie.Need-returns-4
 unfolding supplied-answer filled row _then_
@@ -148,14 +125,13 @@ returns-5 c =
 copy-requires : tie.Need-copy-requires
 copy-requires c κs =
     let e = c .before .before in
-    let m = most (at-count (at-rated e)) in
+    let m = counted (at-count (at-rated e)) .most in
     omega (arith, alike (lists e) .slopes-too, e .before .before .fill-figures .kept)
 
 pub fill-slopes-spec : {M : Type 1} → statement M
 fill-slopes-spec =
     tie.close
-    (tie.spec (search needs) returns (search needs) returns-2 most (λ c. sym (length-take-le _ zeros (most (c .before))))
-    (search needs) returns-3 (search needs) (λ c κs. (climbs (c .before), most (at-count (c .before))))
-    (λ c. record { fits = (let m = most (at-count (c .before .before .before .before)) in omega arith) }) returns-4 (search needs)
-    copy-requires (λ c. record { fits = (let m = most (at-count (at-rated (c .before .before .before .before))) in omega arith) })
-    (search needs) returns-5)
+    (tie.spec (search needs) returns (search needs) returns-2 (λ c κs. counted c) returns-3 (search needs)
+    (λ c κs. (climbing-of (counted (at-count (c .before))) (passed (c .before)), counted (at-count (c .before)) .most))
+    (λ c. omega (arith, counted (at-count (c .before .before .before .before)) .most)) returns-4 (search needs) copy-requires
+    (λ c. omega (arith, counted (at-count (at-rated (c .before .before .before .before))) .most)) (search needs) returns-5)
