@@ -321,6 +321,7 @@ int main(int argc, char **argv)
         make_rooms();
         signal(SIGSEGV, on_trap);
         signal(SIGBUS, on_trap);
+        signal(SIGFPE, on_trap);
     }
     take_names();
     run_all(&current);
