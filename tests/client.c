@@ -183,7 +183,7 @@ static int fills_over(const test_case *c, uint8_t *const list[], int32_t found)
     return 1;
 }
 
-/* Nothing depends on what the slope list held, slopes of the curve too. */
+/* The same whatever the slope list held, and when it held these slopes. */
 static int fills_again(const test_case *c, uint8_t *const list[], int64_t got)
 {
     static const int32_t found[] = {0,     1,     -1,        10000,
@@ -202,10 +202,12 @@ static int fills_again(const test_case *c, uint8_t *const list[], int64_t got)
 /* The points with their filled slopes are a rising curve. */
 static int is_accepted(const test_case *c, uint8_t *const list[], int64_t got)
 {
+    const uint32_t *areas = (const uint32_t *)list[0];
+    const uint32_t *values = (const uint32_t *)list[1];
     size_t n = c->length[0];
     return got != c->wanted || CURVE_IS_REFUSED(got) ||
-           curve_check((const uint32_t *)list[0], n, (const uint32_t *)list[1],
-                       n, (const int32_t *)list[2], n, CURVE_RISING) == got - 1;
+           curve_check(areas, n, values, n, (const int32_t *)list[2], n,
+                       CURVE_RISING) == got - 1;
 }
 
 static void check_filled(const test_case *c, uint8_t *const list[],

@@ -68,21 +68,22 @@ def levels(rng):
 
 def straight(rng):
     """All chords alike: whole hundredths, or half ones, or thirds."""
-    parts = rng.choice([100, 200, 300, 500])
-    rise = rng.randint(1, rng.choice([parts, 10 * parts, 90 * parts]))
-    rise, parts = rise // math.gcd(rise, parts), parts // math.gcd(rise, parts)
-    most = min(GAP_MAX // parts, VALUE_MAX // rise)
-    times = [rng.randint(1, most)]
-    while len(times) < rng.choice([1, 2, 3, 9, 63]):
-        times.append(rng.randint(1, most))
-        if sum(times) > min(AREA_MAX // parts, VALUE_MAX // rise):
-            times.pop()
-            break
-    return [parts * n for n in times], [rise * n for n in times]
+    gap = rng.choice([100, 200, 300, 500])
+    rise = rng.randint(1, rng.choice([gap, 10 * gap, 90 * gap]))
+    common = math.gcd(rise, gap)
+    gap, rise = gap // common, rise // common
+    room = min(AREA_MAX // gap, VALUE_MAX // rise)
+    times = []
+    for _ in range(rng.choice([1, 2, 3, 9, POINTS_MAX - 1])):
+        most = min(room, GAP_MAX // gap, rng.choice([1, 4, GAP_MAX]))
+        if most > 0:
+            times.append(rng.randint(1, most))
+            room -= times[-1]
+    return [gap * n for n in times], [rise * n for n in times]
 
 
 def hyperbola(rng):
-    """Values N / d at divisors d of N: the slope there is N / d squared."""
+    """Values C - N / d at divisors d of N: the slope is N / d squared."""
     whole = rng.choice([360, 5040, 50400, 720720])
     places = [d for d in range(1, 4000)
               if whole % d == 0 and whole <= VALUE_MAX * d

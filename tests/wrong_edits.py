@@ -512,7 +512,7 @@ FILL_LIST = [
             slopes[i] = filled[i];
 '''),
     (FILL_STORE, '        filled[i] = (int8_t)slope;\n'),
-    # what the list held: tried by row 5, kept if it is a slope, added
+    # what the list held: tried by row 5, kept if it is a slope, looked at
     (FILL_START, '''\
     for (size_t i = 0; i < count; i++)
         if (slopes[i] < -10000 || slopes[i] > 10000)
@@ -624,8 +624,10 @@ FILL_SLOPES = [
     (TWO_POINTS, TWO_POINTS.replace('100 * after.rise /', '''\
 after.rise > 100 * after.gap ? 10001 : 100 * after.rise /''')),
     # chord slopes rounded first, in doubles, in 32 bits
-    (INNER, of_chords(ROUNDED, 'l', 'r') + '    return across ? p * q / across : 0;\n'),
-    (END, of_chords(ROUNDED, 'own', 'other') + '    return q ? p * across / q : 2 * p;\n'),
+    (INNER, of_chords(ROUNDED, 'l', 'r')
+     + '    return across ? p * q / across : 0;\n'),
+    (END, of_chords(ROUNDED, 'own', 'other')
+     + '    return q ? p * across / q : 2 * p;\n'),
     (INNER, of_chords(DOUBLES, 'l', 'r')
      + '    return (uint64_t)(100 * (p * q / across));\n'),
     (END, of_chords(DOUBLES, 'own', 'other')
