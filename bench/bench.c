@@ -33,6 +33,7 @@ typedef struct {
     __typeof__(curve_open) *open;
     __typeof__(curve_write) *write;
     __typeof__(curve_sheet) *sheet;
+    __typeof__(curve_fill_slopes) *fill_slopes;
 } version;
 
 /* What is not linked has the address 0 and is not timed. */
@@ -46,12 +47,13 @@ DECLARE(curve_check)
 DECLARE(curve_open)
 DECLARE(curve_write)
 DECLARE(curve_sheet)
+DECLARE(curve_fill_slopes)
 __typeof__(steffen_sheet) steffen_sheet WEAK;
 
 #define ALL(prefix)                                                            \
     {prefix##desk_reading, prefix##curve_read, prefix##curve_pair,             \
      prefix##curve_check,  prefix##curve_open, prefix##curve_write,            \
-     prefix##curve_sheet}
+     prefix##curve_sheet,  prefix##curve_fill_slopes}
 static const version versions[VERSIONS] = {ALL(), ALL(plain_), ALL(native_)};
 
 /* ---- inputs ---- */
@@ -171,6 +173,14 @@ static inline int64_t one_write(const version *v, int i, output *to)
     return v->write(LISTS(&curves[i % CURVES]), to->file, CURVE_FILE_MAX);
 }
 
+/* The points alone; only those of rising curves have slopes to fill. */
+static inline int64_t one_fill_slopes(const version *v, int i, output *to)
+{
+    const curve *c = &curves[i % CURVES];
+    return v->fill_slopes(c->areas, c->count, c->values, c->count, to->slopes,
+                          c->count);
+}
+
 /* From the first area on, as far as whole steps go. */
 static uint32_t step_of(const curve *c)
 {
@@ -234,6 +244,7 @@ BATCH(pair)
 BATCH(check)
 BATCH(open)
 BATCH(write)
+BATCH(fill_slopes)
 
 /* Nanoseconds for one entry, which do not depend much on the points. */
 static double sheet_batch(const version *v, int loops)
@@ -251,7 +262,8 @@ static double steffen_batch(void)
 
 typedef struct {
     const char *name;
-    int present, calls, tariffs;
+    int present, calls;
+    int shapes, tariffs; /* how many of them, from the first on */
     one_fn *one;
     batch_fn *batch;
     double least[SIDES], most[SIDES]; /* ratios */
@@ -369,7 +381,7 @@ static void rows(call *c, const char *folder)
     static const char *const tariffs[] = {"typical", "extreme"};
     static const int counts[] = {2, 8, 64}, loops[] = {6, 3, 1};
     for (int n = 0; n < 3; n++)
-        for (int s = 0; s < 2; s++)
+        for (int s = 0; s < c->shapes; s++)
             for (int k = 0; k < c->tariffs; k++) {
                 load_all(folder, shapes[s], counts[n], tariffs[k]);
                 compare(c);
@@ -381,20 +393,21 @@ static void rows(call *c, const char *folder)
             }
 }
 
-#define CALL(title, function, name, calls, tariffs)                             \
-    {title, plain_##function && native_##function, calls, tariffs, one_##name,  \
-     name##_batch, {0}, {0}}
+#define CALL(title, function, name, calls, shapes, tariffs)                   \
+    {title, plain_##function && native_##function, calls, shapes, tariffs,    \
+     one_##name, name##_batch, {0}, {0}}
 
 int main(int argc, char **argv)
 {
     call calls[] = {
-        CALL("desk reading", desk_reading, desk, CALLS, 2),
-        CALL("sheet entry", curve_sheet, sheet, CURVES, 2),
-        CALL("read", curve_read, read, CALLS, 2),
-        CALL("pair", curve_pair, pair, CALLS, 1),
-        CALL("check", curve_check, check, CALLS, 1),
-        CALL("open", curve_open, open, CALLS, 1),
-        CALL("write", curve_write, write, CALLS, 1),
+        CALL("desk reading", desk_reading, desk, CALLS, 2, 2),
+        CALL("sheet entry", curve_sheet, sheet, CURVES, 2, 2),
+        CALL("read", curve_read, read, CALLS, 2, 2),
+        CALL("pair", curve_pair, pair, CALLS, 2, 1),
+        CALL("check", curve_check, check, CALLS, 2, 1),
+        CALL("open", curve_open, open, CALLS, 2, 1),
+        CALL("write", curve_write, write, CALLS, 2, 1),
+        CALL("fill slopes", curve_fill_slopes, fill_slopes, CALLS, 1, 1),
     };
     size_t count = sizeof calls / sizeof *calls;
     if (argc != 2)

@@ -21,6 +21,7 @@ the number of cases as its first number.
 """
 
 import argparse
+import itertools
 import multiprocessing
 import random
 import struct
@@ -29,10 +30,12 @@ import sys
 import exact_fractions as ref
 import file_kinds
 import list_kinds
+import slope_kinds
 
 SEED = 'factor curves 2'
 CHUNK = 500                     # cases that one random generator makes
-CALLS = ['desk', 'check', 'read', 'pair', 'sheet', 'open', 'write']
+CALLS = ['desk', 'check', 'read', 'pair', 'sheet', 'open', 'write',
+         'fill_slopes']
 LIMITS = [(0, 20000), (0, 200000), (-10000, -1, 0, 1, 10000)]
 HEAD = struct.Struct('<BBB3I4Iq')
 PERIODS = [bytes(1 + (fill + 31 * i) % 255 for i in range(255))
@@ -99,9 +102,16 @@ def write(fill, lists, shape, length):
     return answer, [shape], points_packed(lists) + [after]
 
 
-FUNCTIONS = [desk, check, read, pair, sheet, open_file, write]
+def fill_slopes(fill, lists, length):
+    slopes = numbers('i', found(fill, 4 * length))
+    answer, after = ref.curve_fill_slopes(*lists, slopes)
+    return answer, [], [packed('I', lists[0]), packed('I', lists[1]),
+                        packed('i', after)]
+
+
+FUNCTIONS = [desk, check, read, pair, sheet, open_file, write, fill_slopes]
 WIDTHS = [(1, 1), (4, 4, 4), (4, 4, 4), (4,) * 4, (4,) * 4, (1, 4, 4, 4),
-          (4, 4, 4, 1)]
+          (4, 4, 4, 1), (4, 4, 4)]
 
 
 def expected(fill, call, arguments):
@@ -131,15 +141,16 @@ def curve_of(call, arguments):
     """Shape and count of an accepted curve."""
     if call in ('desk', 'open'):
         return arguments[0][5], arguments[0][6]
-    return arguments[1], len(arguments[0][0])
+    shape = ref.RISING if call == 'fill_slopes' else arguments[1]
+    return shape, len(arguments[0][0])
 
 
 def limits_of(call, arguments):
     """The limits that the points of an accepted curve have."""
     count = curve_of(call, arguments)[1]
     lists = ref.file_lists(arguments[0]) if call == 'open' else arguments[0]
-    for field, limits in enumerate(LIMITS):
-        for limit in set(limits).intersection(lists[field]):
+    for field, (limits, entries) in enumerate(zip(LIMITS, lists)):
+        for limit in set(limits).intersection(entries):
             yield call, 'limit', count, field, limit
 
 
@@ -156,28 +167,69 @@ def noted_of_write(arguments, number, place):
         yield 'no bytes', number
 
 
+def position(count, point):
+    if count == 2:
+        return 'two'
+    return {0: 'first', count - 1: 'last'}.get(point, 'inner')
+
+
+def noted_of_slope(where, slope):
+    """What an exact slope in hundredths shows of rounding and of row 5."""
+    whole, rest = divmod(slope.numerator, slope.denominator)
+    half = (2 * rest > slope.denominator) - (2 * rest < slope.denominator)
+    yield 'rest', where, half if rest else 'none'
+    if whole in (9999, 10000, 10001):
+        yield 'edge', where, whole, rest > 0
+    for bits in (16, 32):
+        if whole >= 2**bits and whole % 2**bits <= 10000:
+            yield 'cut', where, bits
+
+
+def noted_of_fill(arguments, number, place):
+    """What a case of Fill Slopes shows."""
+    (areas, values), length = arguments
+    count = len(areas)
+    if len(values) == count and length != count:
+        yield 'slopes', count, max(-2, min(length - count, 2))
+    if number not in ('ok', 5):
+        return
+    points = range(count) if number == 'ok' else [place]
+    slopes = ref.hundredths(areas, values)
+    for point in points:
+        yield from noted_of_slope(position(count, point), slopes[point])
+    if number == 'ok' and count <= 6:
+        yield 'level', *(left == right
+                         for left, right in zip(values, values[1:]))
+
+
 def noted(call, arguments, answer):
     """What this case shows: a refusal, or an accepted curve."""
     number, result = outcome(call, answer)
     if call == 'write':
         yield from noted_of_write(arguments, number, result)
+    if call == 'fill_slopes':
+        yield from noted_of_fill(arguments, number, result)
     if number != 'ok':
         yield call, number, result
         return
     yield (call, 'ok') + curve_of(call, arguments)
     if call == 'sheet':
         yield 'entries', result
-    if call in ('open', 'write'):
+    if call in ('open', 'write', 'fill_slopes'):
         yield from limits_of(call, arguments)
 
 
-def wanted_of_files():
-    """What Open and Write must have shown of limits, Write of its buffer."""
-    for call in ('open', 'write'):
-        for field, limits in enumerate(LIMITS):
+def wanted_of_limits():
+    for call in ('open', 'write', 'fill_slopes'):
+        fields = LIMITS[:2] if call == 'fill_slopes' else LIMITS
+        for field, limits in enumerate(fields):
             for limit in limits:
                 yield call, 'limit', 2, field, limit
                 yield call, 'limit', 64, field, limit
+
+
+def wanted_of_write():
+    """What Write must have shown of its buffer."""
     for count in range(2, 65):
         for room in (-1, 0, 1, 2):
             yield 'room', count, room
@@ -189,15 +241,39 @@ def wanted_of_files():
     yield 'no bytes', 12
 
 
+def wanted_of_fill():
+    """What Fill Slopes must have shown of level segments, of its list, and of
+    slopes in each position."""
+    for segments in range(1, 6):
+        for level in itertools.product((False, True), repeat=segments):
+            yield 'level', *level
+    for count in range(65):
+        yield 'slopes', count, 1
+        if count > 0:
+            yield 'slopes', count, -1
+    for where in ('two', 'first', 'inner', 'last'):
+        for rest in ('none', -1, 0, 1):
+            yield 'rest', where, rest
+        for whole in (9999, 10000, 10001):
+            yield 'edge', where, whole, False
+            yield 'edge', where, whole, True
+        yield 'cut', where, 16
+    yield from [('cut', 'first', 32), ('cut', 'last', 32)]
+
+
 def wanted():
     """All that a whole run must have seen."""
-    yield from wanted_of_files()
+    yield from wanted_of_limits()
+    yield from wanted_of_write()
+    yield from wanted_of_fill()
     for call in CALLS:
-        for count in range(2, 65):
-            yield call, 'ok', 1, count
-            yield call, 'ok', 2, count
-        for number in (1, 2):
-            yield call, number, 0
+        shapes = (1,) if call == 'fill_slopes' else (1, 2)
+        for shape in shapes:
+            for count in range(2, 65):
+                yield call, 'ok', shape, count
+        yield call, 1, 0
+        if len(shapes) > 1:
+            yield call, 2, 0
         for number in (3, 4, 5, 6):
             places = 1 if call == 'desk' else 63 if number == 6 else 64
             for place in range(places):
@@ -225,7 +301,8 @@ def on_files(kind):
 
 
 KINDS = [(on_files(kind), name, 2 * least)
-         for kind, name, least in file_kinds.KINDS] + list_kinds.KINDS
+         for kind, name, least in file_kinds.KINDS]
+KINDS += list_kinds.KINDS + slope_kinds.KINDS
 
 
 def chunk(job):

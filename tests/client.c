@@ -9,7 +9,8 @@
  * the refusal numbers that it can give. Each case is run with its lists at
  * the start and at the end of pages, against pages that trap. What was written
  * is opened again and must be the lists that went in; what was opened is
- * written again and must be the file that went in.
+ * written again and must be the file that went in. Slopes that were filled
+ * must be accepted, and be the same whatever the list held before.
  *
  *     heap    each list is a block of its own, for a memory checker
  *     some    not every call and refusal is asked for
@@ -167,12 +168,65 @@ static int comes_back(const test_case *c, uint8_t *const list[], int64_t got)
     return c->call != OPEN || writes_again(c, list, got);
 }
 
+/* The case again, with this in every entry of the slope list. */
+static int fills_over(const test_case *c, uint8_t *const list[], int32_t found)
+{
+    int32_t *slopes = (int32_t *)list[2];
+    const int32_t *wanted = (const int32_t *)c->list[2];
+    for (uint32_t i = 0; i < c->length[2]; i++)
+        slopes[i] = found;
+    if (invoke(c, list) != c->wanted)
+        return 0;
+    for (uint32_t i = 0; i < c->length[2]; i++)
+        if (slopes[i] != (CURVE_IS_REFUSED(c->wanted) ? found : wanted[i]))
+            return 0;
+    return 1;
+}
+
+/* The same whatever the slope list held, and when it held these slopes. */
+static int fills_again(const test_case *c, uint8_t *const list[], int64_t got)
+{
+    static const int32_t found[] = {0,     1,     -1,        10000,
+                                    10001, 12345, INT32_MIN, INT32_MAX};
+    if (got != c->wanted)
+        return 1;
+    if (invoke(c, list) != got ||
+        (c->size[2] > 0 && memcmp(list[2], c->list[2], c->size[2]) != 0))
+        return 0;
+    for (size_t k = 0; k < sizeof found / sizeof *found; k++)
+        if (!fills_over(c, list, found[k]))
+            return 0;
+    return 1;
+}
+
+/* The points with their filled slopes are a rising curve. */
+static int is_accepted(const test_case *c, uint8_t *const list[], int64_t got)
+{
+    const uint32_t *areas = (const uint32_t *)list[0];
+    const uint32_t *values = (const uint32_t *)list[1];
+    size_t n = c->length[0];
+    return got != c->wanted || CURVE_IS_REFUSED(got) ||
+           curve_check(areas, n, values, n, (const int32_t *)list[2], n,
+                       CURVE_RISING) == got - 1;
+}
+
+static void check_filled(const test_case *c, uint8_t *const list[],
+                         int64_t got)
+{
+    if (!is_accepted(c, list, got))
+        show(c, got, "the filled curve is not accepted", -1);
+    if (!fills_again(c, list, got))
+        show(c, got, "not the same when filled again", -1);
+}
+
 static void run_case(const test_case *c, int where)
 {
     uint8_t *list[LISTS];
     lend(c, where, list);
     int64_t got = invoke(c, list);
     compare(c, got, list);
+    if (c->call == FILL_SLOPES)
+        check_filled(c, list, got);
     if (!guards_are_whole(c, where, list))
         show(c, got, "entries beside a list were changed", -1);
     if (c->call == DESK && !desk_agrees(c, list[0], got))
@@ -211,7 +265,7 @@ static int can_give(int call, int number)
         [DESK] = "1111111101110", [CHECK] = "1111111000000",
         [READ] = "1111111100000", [PAIR] = "1111111100010",
         [SHEET] = "1111111110000", [OPEN] = "1111111001110",
-        [WRITE] = "1111111000001"};
+        [WRITE] = "1111111000001", [FILL_SLOPES] = "1101111000000"};
     return numbers[call][number] == '1';
 }
 
@@ -269,6 +323,7 @@ int main(int argc, char **argv)
         make_rooms();
         signal(SIGSEGV, on_trap);
         signal(SIGBUS, on_trap);
+        signal(SIGFPE, on_trap);
     }
     take_names();
     run_all(&current);

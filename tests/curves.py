@@ -67,6 +67,14 @@ def running(start, steps):
 
 # ---- rising curves ----
 
+def fitted(rises):
+    """The rises, made smaller if they are above 200,000 together."""
+    total = sum(rises)
+    if total <= VALUE_MAX:
+        return rises
+    return [rise * VALUE_MAX // total for rise in rises]
+
+
 def some_rises(rng, count):
     """count - 1 differences of values, 0 or more, at most 200,000 together."""
     style = rng.choice(['tiny', 'tariff', 'steep', 'one', 'flat'])
@@ -78,10 +86,7 @@ def some_rises(rng, count):
     rises = [rng.randint(0, top) for _ in range(count - 1)]
     if style == 'flat':                  # runs of constant segments
         rises = [rise if rng.random() < 0.3 else 0 for rise in rises]
-    total = sum(rises)
-    if total > VALUE_MAX:
-        rises = [rise * VALUE_MAX // total for rise in rises]
-    return rises
+    return fitted(rises)
 
 
 def rising_slope(rng, style):

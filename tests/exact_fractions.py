@@ -1,8 +1,8 @@
 """Factor curves through rated points, computed with exact fractions.
 
-Follows document 01 sentence by sentence; speed does not matter, but what was
-computed for a curve is remembered. Equation numbers in brackets are those of
-report TR/10/83.
+Follows documents 01 and 02 sentence by sentence; speed does not matter, but
+what was computed for a curve is remembered. Equation numbers in brackets are
+those of report TR/10/83.
 
 An answer is ('ok', result...) or ('refused', number, place).
 Run as a program it is `ratesheet`: a curve file on standard input.
@@ -119,8 +119,8 @@ def has_shape(areas, values, slopes, shape, segment):
 
 # ---- Document 01, Refusals and their places ----
 
-def point_fault(areas, values, slopes, point):
-    """Rows 3, 4 and 5 at one point: the number, or None."""
+def area_or_value_fault(areas, values, point):
+    """Rows 3 and 4 at one point: the number, or None."""
     area = areas[point]
     if area > 20000:
         return 3
@@ -130,6 +130,14 @@ def point_fault(areas, values, slopes, point):
             return 3
     if values[point] > 200000:
         return 4
+    return None
+
+
+def point_fault(areas, values, slopes, point):
+    """Rows 3, 4 and 5 at one point: the number, or None."""
+    number = area_or_value_fault(areas, values, point)
+    if number is not None:
+        return number
     if slopes[point] < -10000 or slopes[point] > 10000:
         return 5
     return None
@@ -306,6 +314,76 @@ def desk(data, area, scratch):
     return answer[1], records + scratch[12 * count:]
 
 
+# ---- Document 02, item 2: slopes by the harmonic rule ----
+
+def chord_slope(areas, values, one, other):
+    """From one point to another, in either order."""
+    return Fraction(values[other] - values[one], areas[other] - areas[one])
+
+
+def inner_slope(areas, values, point):
+    before = chord_slope(areas, values, point - 1, point)
+    after = chord_slope(areas, values, point, point + 1)
+    if before == 0 or after == 0:
+        return Fraction(0)
+    return before * after / chord_slope(areas, values, point - 1, point + 1)
+
+
+def end_slope(areas, values, end, second, third):
+    """At the first or the last point; the other two are the next to it."""
+    own = chord_slope(areas, values, end, second)
+    other = chord_slope(areas, values, second, third)
+    if own == 0:
+        return Fraction(0)
+    if other == 0:
+        return 2 * own
+    return own * chord_slope(areas, values, end, third) / other
+
+
+def harmonic_slope(areas, values, point):
+    last = len(areas) - 1
+    if last == 1:
+        return chord_slope(areas, values, 0, 1)
+    if point == 0:
+        return end_slope(areas, values, 0, 1, 2)
+    if point == last:
+        return end_slope(areas, values, last, last - 1, last - 2)
+    return inner_slope(areas, values, point)
+
+
+@functools.lru_cache(maxsize=5000)
+def hundredths(areas, values):
+    """The slopes in hundredths, exact. Tuples; no segment may fall."""
+    return tuple(100 * harmonic_slope(areas, values, point)
+                 for point in range(len(areas)))
+
+
+def fill_slopes(areas, values, slopes_count):
+    """Rows 1, 3 and 4, then 6, then 5. `slopes_count`: of the lent list.
+
+    Result: the number of points, and the slopes that the list then holds.
+    After a refusal it holds what it held.
+    """
+    count = len(areas)
+    if len(values) != count or slopes_count != count:
+        return refused(1, 0)
+    if count < 2 or count > 64:
+        return refused(1, 0)
+    for point in range(count):
+        number = area_or_value_fault(areas, values, point)
+        if number is not None:
+            return refused(number, point)
+    for segment in range(count - 1):
+        if values[segment + 1] < values[segment]:
+            return refused(6, segment)
+    slopes = [math.floor(slope)
+              for slope in hundredths(tuple(areas), tuple(values))]
+    for point in range(count):
+        if slopes[point] > 10000:
+            return refused(5, point)
+    return ('ok', count, slopes)
+
+
 # ---- The C interface (include/factor_curves.h): answers and lists ----
 #
 # The lent lists go in as they are before the call. Each function gives the
@@ -360,6 +438,13 @@ def curve_write(areas, values, slopes, shape, out):
     answer = write(areas, values, slopes, shape, out)
     if answer[0] == 'refused':
         return number_of(answer), out
+    return number_of(answer), answer[2]
+
+
+def curve_fill_slopes(areas, values, slopes):
+    answer = fill_slopes(areas, values, len(slopes))
+    if answer[0] == 'refused':
+        return number_of(answer), slopes
     return number_of(answer), answer[2]
 
 

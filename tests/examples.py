@@ -1,7 +1,7 @@
 """Document 01's examples as cases for client.c, to standard output.
 
 The expected answers are those that document 01 states, and document 02 of the
-file that is written. If exact_fractions.py
+file that is written; filled slopes are worked out by hand. If exact_fractions.py
 gives another, it is said and the exit status is 1.
 """
 
@@ -90,6 +90,24 @@ def sheet_entries():
     yield 'sheet', (lists, 1, 0, 1, 1025), refusal(8, 0), None
 
 
+def fills(areas, values, slopes):
+    yield 'fill_slopes', ((areas, values), len(areas)), len(areas), [slopes]
+
+
+def not_filled(areas, values, number, place):
+    answer = refusal(number, place)
+    yield 'fill_slopes', ((areas, values), len(areas)), answer, None
+
+
+def filled_limits():
+    """The limits of document 01 that need no slopes."""
+    yield from fills([0, 2000], [5, 5], [0, 0])
+    yield from not_filled([0, 2001], [5, 5], 3, 1)
+    yield from fills(list(range(64)), [5] * 64, [0] * 64)
+    yield from not_filled(list(range(65)), [5] * 65, 1, 0)
+    yield 'fill_slopes', (([0, 1], [5, 5]), 3), refusal(1, 0), None
+
+
 EXAMPLES = [
     # Readings to prove.
     ('K1: 550 reads 10,889', reads(STEEP, 1, 550, 10889)),
@@ -117,6 +135,19 @@ EXAMPLES = [
     ('a sheet of 1,024 entries passes, 1,025: refused 8', sheet_entries()),
     # The curve file.
     ('the file of 31 bytes', file_31_bytes()),
+    # Filled slopes.
+    ('slopes 2, 0, 0, 12', fills([0, 10, 30, 35], [0, 10, 10, 40],
+                                 [200, 0, 0, 1200])),
+    ('slopes 1/4, 4/9, 0, 0', fills([0, 3, 6, 10], [0, 1, 3, 3],
+                                    [25, 44, 0, 0])),
+    ('slopes 5/6, 6/5, 15/2', fills([0, 10, 40], [0, 10, 100],
+                                    [83, 120, 750])),
+    ('slopes 1/2,000', fills([0, 2000, 4000], [0, 1, 2], [0, 0, 0])),
+    ('slope 100.009', fills([0, 1000], [0, 100009], [10000, 10000])),
+    ('slope 101: refused 5 at 0', not_filled([0, 1], [0, 101], 5, 0)),
+    ('a slope above 100, then a fall: refused 6 at 1',
+     not_filled([0, 1, 2], [0, 200, 199], 6, 1)),
+    ('fill slopes: gaps of 2,000 and 2,001, 64 and 65 points', filled_limits()),
 ]
 
 

@@ -128,6 +128,25 @@ static void write_far_buffer(void)
     }
 }
 
+/* K3's points without their slopes: the chord's is 4,000 hundredths. */
+static void fill_far_slopes(void)
+{
+    static const int32_t found[3] = {7, 7, 7};
+    uint32_t *a = far_list(areas, sizeof areas);
+    uint32_t *v = far_list(values, sizeof values);
+    int32_t *s = far_list(found, sizeof found);
+    size_t n = FAR + 2;
+    expect("fill, areas", curve_fill_slopes(a, n, v, 2, s, 2), REFUSED(1));
+    expect("fill, values", curve_fill_slopes(a, 2, v, n, s, 2), REFUSED(1));
+    expect("fill, slopes", curve_fill_slopes(a, 2, v, 2, s, n), REFUSED(1));
+    expect("fill, the read lists", curve_fill_slopes(a, n, v, n, s, 2),
+           REFUSED(1));
+    expect("fill, all lists", curve_fill_slopes(a, n, v, n, s, n), REFUSED(1));
+    expect("slopes as found", memcmp(s, found, sizeof found), 0);
+    expect("fill", curve_fill_slopes(a, 2, v, 2, s, 2), 2);
+    expect("filled", s[0] == 4000 && s[1] == 4000 && s[2] == 7, 1);
+}
+
 int main(void)
 {
     if (sizeof(size_t) < 8)
@@ -136,6 +155,7 @@ int main(void)
     write_far_lists();
     open_far_lists();
     write_far_buffer();
+    fill_far_slopes();
     printf("%d tests, %d failures\n", tests, failures);
     return failures > 0 || tests == 0;
 }

@@ -105,6 +105,8 @@ static void calls(void)
     int64_t (*write)(THREE_LISTS, uint32_t, uint8_t *, size_t) = curve_write;
     int64_t (*open)(const uint8_t *, size_t, uint32_t *, size_t, uint32_t *,
                     size_t, int32_t *, size_t) = curve_open;
+    int64_t (*fill)(const uint32_t *, size_t, const uint32_t *, size_t,
+                    int32_t *, size_t) = curve_fill_slopes;
     int32_t (*desk)(const uint8_t *, size_t, uint32_t, uint8_t *, size_t) =
         desk_reading;
     uint32_t a[] = {500, 600}, v[] = {10000, 14000};
@@ -117,6 +119,9 @@ static void calls(void)
     expect("write", write(a, 2, v, 2, s, 2, CURVE_CONVEX, file, 775) == 31);
     expect("open", open(file, 31, a, 2, v, 2, s, 2) == 256 * CURVE_CONVEX + 2);
     expect("desk", desk(file, 31, 550, scratch, 24) == 10800);
+    expect("fill", fill(a, 2, v, 2, s, 2) == 2);
+    expect("filled", s[0] == 4000 && s[1] == 4000 &&
+                         check(a, 2, v, 2, s, 2, CURVE_RISING) == 1);
 }
 
 int main(void)

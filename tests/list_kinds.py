@@ -10,6 +10,7 @@ is given by its length:
     'sheet', lists, shape, start, step, length of out
     'open', file, lengths of the three lists
     'write', lists, shape, length of out
+    'fill_slopes', the first two lists, length of the slope list
 """
 
 import curves
@@ -69,7 +70,8 @@ def write_room(rng, count):
 def further(rng, data, area):
     """Another call than the desk's, on the file or on its points."""
     call = rng.choice(['read', 'read', 'read', 'pair', 'pair', 'sheet',
-                       'sheet', 'open', 'open', 'check', 'write'])
+                       'sheet', 'open', 'open', 'check', 'write',
+                       'fill_slopes'])
     if call == 'open' or ref.file_fault(data) is not None:
         return 'open', data, open_lengths(rng, data)
     return list_case(rng, call, ref.file_lists(data), data[5], area)
@@ -87,12 +89,14 @@ def list_case(rng, call, lists, shape, area):
         return call, lists, shape, *both, pair_room(rng)
     if call == 'write':
         return call, lists, shape, write_room(rng, len(areas))
+    if call == 'fill_slopes':
+        return call, lists[:2], len(lists[2])
     return call, lists, shape, *small_sheet(rng, areas, area)
 
 
 def list_calls(rng, lists, shape, area):
     """Each of the calls on lists."""
-    for call in ('check', 'read', 'pair', 'sheet', 'write'):
+    for call in ('check', 'read', 'pair', 'sheet', 'write', 'fill_slopes'):
         yield list_case(rng, call, lists, shape, area)
 
 
@@ -106,6 +110,7 @@ def all_calls(rng, points, shape, area):
     yield 'open', data, (data[6], data[6] + rng.randrange(3), data[6])
     yield 'desk', data, area, 12 * data[6]
     yield 'write', lists, shape, len(data) + rng.randrange(2)
+    yield 'fill_slopes', lists[:2], len(points)
 
 
 # ---- lists: lengths, shape codes, places ----

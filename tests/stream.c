@@ -12,7 +12,7 @@
 const char *const call_names[CALLS] = {"desk_reading", "curve_check",
                                        "curve_read",   "curve_pair",
                                        "curve_sheet",  "curve_open",
-                                       "curve_write"};
+                                       "curve_write",  "curve_fill_slopes"};
 
 const list_form forms[CALLS][LISTS] = {
     [DESK] = {FILE_BYTES, {1, 1}},
@@ -22,6 +22,7 @@ const list_form forms[CALLS][LISTS] = {
     [SHEET] = {POINT_LISTS, {4, 1}},
     [OPEN] = {FILE_BYTES, {4, 1}, {4, 1}, {4, 1}},
     [WRITE] = {POINT_LISTS, {1, 1}},
+    [FILL_SLOPES] = {{4, 0}, {4, 0}, {4, 1}},
 };
 
 char names[KINDS_MAX][256];
@@ -134,7 +135,11 @@ int64_t invoke(const test_case *c, uint8_t *const list[LISTS])
         return curve_open(list[0], c->length[0], (uint32_t *)list[1],
                           c->length[1], (uint32_t *)list[2], c->length[2],
                           (int32_t *)list[3], c->length[3]);
-    default:
+    case WRITE:
         return curve_write(THREE_LISTS, number[0], list[3], c->length[3]);
+    default:
+        return curve_fill_slopes((const uint32_t *)list[0], c->length[0],
+                                 (const uint32_t *)list[1], c->length[1],
+                                 (int32_t *)list[2], c->length[2]);
     }
 }

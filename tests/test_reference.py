@@ -4,10 +4,12 @@ Run: python3 test_reference.py
 """
 
 import os
+import random
 import subprocess
 import sys
 from fractions import Fraction
 
+import curves
 import exact_fractions as ref
 from curve_file import curve_file
 
@@ -378,6 +380,142 @@ def test_write_and_open():
         expect('as the tests write it', data, curve_file(points, shape))
 
 
+def fill(areas, values):
+    """With a slope list of the same length."""
+    return ref.fill_slopes(areas, values, len(areas))
+
+
+def test_fill_slopes():
+    """Document 02, item 2: slopes worked out by hand."""
+    for areas, values, slopes in [
+            ([0, 10, 30, 35], [0, 10, 10, 40], [200, 0, 0, 1200]),
+            ([0, 3, 6, 10], [0, 1, 3, 3], [25, 44, 0, 0]),
+            ([0, 10, 40], [0, 10, 100], [83, 120, 750]),
+            ([0, 2000, 4000], [0, 1, 2], [0, 0, 0]),
+            # Two points: 1, a third, nothing, and the edge of the range.
+            ([0, 10], [5, 15], [100, 100]),
+            ([0, 3], [5, 6], [33, 33]),
+            ([0, 3], [5, 5], [0, 0]),
+            ([0, 1], [0, 100], [10000, 10000]),
+            ([0, 1000], [0, 100009], [10000, 10000]),
+            # Level at both ends, in the middle, everywhere.
+            ([0, 1, 2, 3], [5, 5, 9, 9], [0, 0, 0, 0]),
+            ([7, 8, 9], [5, 5, 5], [0, 0, 0]),
+            ([0, 3, 6], [0, 1, 1], [66, 0, 0]),
+            ([0, 3, 6], [0, 0, 1], [0, 0, 66])]:
+        expect('fill %r %r' % (areas, values), fill(areas, values),
+               ('ok', len(areas), slopes))
+    expect('64 points', fill(list(range(64)), list(range(64))),
+           ('ok', 64, [100] * 64))
+
+
+def test_fill_refusals():
+    """Document 02, item 2: 1, 3 and 4, then 6, then 5, and the places."""
+    for areas, values, number, place in [
+            ([], [], 1, 0),
+            ([0], [5], 1, 0),
+            (list(range(65)), list(range(65)), 1, 0),
+            ([0, 1, 2], [5, 5], 1, 0),
+            ([0, 1], [5, 5, 5], 1, 0),
+            ([20001, 20002], [5, 5], 3, 0),
+            ([0, 9, 9], [5, 5, 5], 3, 2),
+            ([0, 9, 8], [5, 5, 5], 3, 2),
+            ([0, 2001], [5, 5], 3, 1),
+            ([0, 1], [5, 200001], 4, 1),
+            ([0, 0], [5, 200001], 3, 1),
+            ([0, 1, 1], [5, 200001, 5], 4, 1),
+            # A falling segment, its left point; level ones are none.
+            ([0, 1, 2, 3], [5, 5, 4, 3], 6, 1),
+            ([0, 1, 2], [5, 6, 5], 6, 1),
+            ([0, 1, 1], [5, 4, 4], 3, 2),
+            ([0, 1, 2], [5, 4, 200001], 4, 2),
+            # A slope above 100; 5 after 6.
+            ([0, 1], [0, 101], 5, 0),
+            ([0, 1, 2], [0, 51, 51], 5, 0),
+            ([0, 1, 2], [0, 0, 51], 5, 2),
+            ([0, 1, 2, 3], [0, 60, 1060, 1060], 5, 1),
+            ([0, 1, 2, 3], [0, 200, 400, 399], 6, 2),
+            # The largest of all.
+            ([0, 1, 2001], [0, 199999, 200000], 5, 0)]:
+        expect('fill %r %r' % (areas, values), fill(areas, values),
+               refused(number, place))
+    for count in (0, 1, 3, 4):
+        expect('%d slopes' % count, ref.fill_slopes([0, 1], [9, 5], count),
+               refused(1, 0))
+    largest = ref.hundredths((0, 1, 2001), (0, 199999, 200000))[0]
+    expect('the largest figure', largest // 1, 3997981009495)
+
+
+def some_rising(number):
+    """Areas and values of random rising curves."""
+    rng = random.Random('fill slopes')
+    for _ in range(number):
+        points = curves.rising_curve(rng, curves.some_count(rng))
+        yield curves.lists(points)[:2]
+
+
+def mean_by_weights(h_left, h_right, left, right):
+    """Source document 001, (3.3.2) (ii): H_i, by its weights."""
+    gamma = Fraction(h_right, h_left + h_right)
+    delta = Fraction(h_left, h_left + h_right)
+    return 1 / (gamma / left + delta / right)
+
+
+def end_by_weights(h_own, h_other, own, across):
+    """(3.3.2) (i) and (iii): H_1 and H_n, by their weights."""
+    alpha, beta = 1 + Fraction(h_own, h_other), -Fraction(h_own, h_other)
+    return 1 / (alpha / own + beta / across)
+
+
+def test_harmonic_means():
+    """Document 02, item 2, against source document 001, (3.3.2)."""
+    for areas, values in some_rising(300):
+        h = [right - left for left, right in zip(areas, areas[1:])]
+        F = [right - left for left, right in zip(values, values[1:])]
+        c = [Fraction(rise, gap) for rise, gap in zip(F, h)]
+        got = [slope / 100 for slope in ref.hundredths(areas, values)]
+        for i in range(1, len(h)):
+            if c[i - 1] > 0 and c[i] > 0:
+                expect('H_i', got[i],
+                       mean_by_weights(h[i - 1], h[i], c[i - 1], c[i]))
+        if len(h) > 1 and c[0] > 0 and c[1] > 0:
+            across = Fraction(F[0] + F[1], h[0] + h[1])
+            expect('H_1', got[0], end_by_weights(h[0], h[1], c[0], across))
+        if len(h) > 1 and c[-1] > 0 and c[-2] > 0:
+            across = Fraction(F[-2] + F[-1], h[-2] + h[-1])
+            expect('H_n', got[-1], end_by_weights(h[-1], h[-2], c[-1], across))
+
+
+def test_hyperbola():
+    """The rule gives N / (c - x) its derivative: a chord's slope from x to y
+    is N / ((c - x) (c - y)), so all but one squared cancels."""
+    areas = [0, 1, 2, 4, 5, 6, 7, 8]
+    values = [360 // (10 - area) for area in areas]
+    expect('360 / (10 - x)', fill(areas, values),
+           ('ok', 8, [36000 // (10 - area)**2 for area in areas]))
+    values = [2520 // (10 - area) for area in range(7)]
+    expect('2520 / (10 - x)', fill(list(range(7)), values), refused(5, 5))
+    expect('shorter', fill(list(range(5)), values[:5]),
+           ('ok', 5, [252000 // (10 - area)**2 for area in range(5)]))
+
+
+def test_filled_curves():
+    """Document 02, item 2: they pass as rising; the last mirrors the first."""
+    results = 0
+    for areas, values in some_rising(600):
+        answer = fill(areas, values)
+        backwards = fill([areas[-1] - area for area in reversed(areas)],
+                         [values[-1] - value for value in reversed(values)])
+        if answer[0] == 'refused':
+            expect('refused 5', (answer[1], backwards[1]), (5, 5))
+            continue
+        results += 1
+        expect('rising', ref.check(areas, values, answer[2], ref.RISING),
+               ('ok', len(areas) - 1))
+        expect('mirrored', backwards, ('ok', answer[1], answer[2][::-1]))
+    expect('results', results > 200, True)
+
+
 def bad_files():
     """Files for each of rows 2 to 6, with the number and the place."""
     start = (0, 5, 0)
@@ -486,6 +624,20 @@ def test_c_write():
            (-3 * 2**32 - 1, b'\xee'))
     expect('write, no shape', ref.curve_write(*lists(K9), 2, b'\xee' * 40),
            (-6 * 2**32, b'\xee' * 40))
+
+
+def test_c_fill_slopes():
+    """include/factor_curves.h: the answer of Fill Slopes, and its list."""
+    areas, values = [0, 10, 40], [0, 10, 100]
+    for found in ([7, 7, 7], [-2**31, 0, 2**31 - 1], [83, 120, 750]):
+        expect('fill', ref.curve_fill_slopes(areas, values, found),
+               (3, [83, 120, 750]))
+        expect('fill, falling', ref.curve_fill_slopes(areas, [0, 9, 8], found),
+               (-6 * 2**32 - 1, found))
+        expect('fill, steep', ref.curve_fill_slopes(areas, [0, 9, 9999], found),
+               (-5 * 2**32 - 2, found))
+    expect('fill, a list short', ref.curve_fill_slopes(areas, values, [7, 7]),
+           (-2**32, [7, 7]))
 
 
 def test_curve_file():

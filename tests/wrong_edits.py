@@ -41,6 +41,11 @@ POINTS = [
     ('(INT64_C(1) << 32) * number', '(INT64_C(1) << 31) * number'),
 ]
 
+FILE_COUNT = '''\
+    if (count < 2 || count > 64)
+        return refused(1, 0);
+    if (shape'''
+
 FILES = [
     ('bytes_len < 7 ', 'bytes_len < 8 '),
     ('bytes_len < 7 || ', ''),
@@ -49,9 +54,9 @@ FILES = [
     ('bytes_len != 7 + 12', 'bytes_len < 7 + 12'),
     ('bytes_len != 7 + 12', '(uint8_t)bytes_len != 7 + 12'),
     ('(uint32_t)p[3] << 24', '0'),
-    ('    if (count < 2 || count > 64)', '    if (count < 2 || count > 65)'),
-    ('    if (count < 2 || count > 64)', '    if (count < 2 || count >= 64)'),
-    ('    if (count < 2 || count > 64)', '    if (count < 3 || count > 64)'),
+    (FILE_COUNT, FILE_COUNT.replace('> 64', '> 65')),
+    (FILE_COUNT, FILE_COUNT.replace('> 64', '>= 64')),
+    (FILE_COUNT, FILE_COUNT.replace('< 2', '< 3')),
     ('''shape != 2)
         return refused(2, 0);
     return shape == 1 ? scan(''', '''shape > 3)
@@ -234,7 +239,9 @@ OPEN_FAULT = '''\
     if (fault)
         return fault;
 '''
-OPEN_LOOP = 'for (size_t i = 0; i < count; i++) {'
+OPEN_LOOP = '''\
+    for (size_t i = 0; i < count; i++) {
+        point p = load_point(bytes'''
 OPEN_RESULT = '    return 256 * bytes[5] + (int64_t)count;'
 
 OPEN = [
@@ -249,8 +256,8 @@ OPEN = [
     ('slopes_len < count)', '(uint8_t)slopes_len < count)'),
     ('slopes_len < count)', '(uint16_t)slopes_len < count)'),
     # entries not written, written too many, written before a refusal
-    (OPEN_LOOP, 'for (size_t i = 0; i + 1 < count; i++) {'),
-    (OPEN_LOOP, 'for (size_t i = 1; i < count; i++) {'),
+    (OPEN_LOOP, OPEN_LOOP.replace('i < count', 'i + 1 < count')),
+    (OPEN_LOOP, OPEN_LOOP.replace('i = 0', 'i = 1')),
     (OPEN_RESULT, '    memset(areas + count, 0, 4 * (areas_len - count));\n'
      + OPEN_RESULT),
     (OPEN_RESULT, '    memset(slopes, 0, 4 * (slopes_len - count));\n'
@@ -396,6 +403,238 @@ WRITE_BYTES = [
     (WRITE_SLOPE, '(uint32_t)(p.slope > 0 ? p.slope : 0));'),
 ]
 
+FILL_LENGTHS = '    if (values_len != count || slopes_len != count)\n'
+FILL_COUNT = '''\
+    if (count < 2 || count > 64)
+        return refused(1, 0);
+    int64_t fault = rising'''
+FILL_POINT = '        point p = {areas[i], values[i], 0};\n'
+FILL_PLACE = '''\
+            return refused(fault, i);
+        if (i > 0'''
+FALLING = 'values[i] < values[i - 1] && falling == count'
+FALLING_AT = '            falling = i - 1;\n'
+FILL_FAULT = '''\
+    int64_t fault = rising_fault(areas, values, count);
+    if (fault)
+        return fault;
+'''
+FILL_START = FILL_FAULT + '''\
+    chord before = chord_at(areas, values, 0), after = before;
+    for (size_t i = 0; i < count; i++) {
+        uint64_t slope;
+'''
+FILL_ROW_5 = '''\
+        if (slope > 10000)
+            return refused(5, i);
+'''
+FILL_STORE = '        filled[i] = (int32_t)slope;\n'
+FILL_END = '    memcpy(slopes, filled, count * sizeof slopes[0]);\n'
+FILL_RESULT = '    return (int64_t)count;'
+
+# Rows 3 and 4 not together: each area before any value.
+AREAS_FIRST = '''\
+    for (size_t i = 0; i < count; i++) {
+        point p = {areas[i], 0, 0};
+        if (point_fault(p, i == 0 ? 0 : areas[i - 1], i == 0))
+            return refused(3, i);
+    }
+'''
+# A slope above the range to the left of a falling segment before that.
+SLOPES_ON_THE_WAY = FILL_START.replace(
+    '(fault)', '(fault && -fault >> 32 != 6)') + '''\
+        if (fault && i == (uint32_t)-fault)
+            return fault;
+'''
+LAST_SLOPE_FIRST = FILL_START.replace(FILL_FAULT, FILL_FAULT + '''\
+    if (count > 2 && end_slope(chord_at(areas, values, count - 2),
+                               chord_at(areas, values, count - 3)) > 10000)
+        return refused(5, count - 1);
+''')
+
+FILL_ROWS = [
+    # row 1: each list, and lengths cut to one or two bytes
+    (FILL_LENGTHS, '    if (values_len != count)\n'),
+    (FILL_LENGTHS, '    if (slopes_len != count)\n'),
+    (FILL_LENGTHS, FILL_LENGTHS.replace('slopes_len !=', 'slopes_len <')),
+    (FILL_LENGTHS, FILL_LENGTHS.replace('slopes_len !=', 'slopes_len >')),
+    (FILL_LENGTHS, FILL_LENGTHS.replace('slopes_len', '(uint8_t)slopes_len')),
+    (FILL_LENGTHS, FILL_LENGTHS.replace('slopes_len', '(uint16_t)slopes_len')),
+    (FILL_COUNT, FILL_COUNT.replace('< 2', '< 1')),
+    (FILL_COUNT, FILL_COUNT.replace('< 2', '< 3')),
+    (FILL_COUNT, FILL_COUNT.replace('> 64', '>= 64')),
+    (FILL_COUNT, FILL_COUNT.replace('> 64', '> 65')),
+    # rows 3 and 4: their order, and the place
+    (FILL_POINT, '''\
+        if (values[i] > 200000)
+            return refused(4, i);
+''' + FILL_POINT),
+    ('    size_t falling = count;\n',
+     '    size_t falling = count;\n' + AREAS_FIRST),
+    (FILL_PLACE, FILL_PLACE.replace('(fault, i)', '(fault, 0)')),
+    # row 6: its place, level segments, later points
+    (FALLING_AT, '            falling = i;\n'),
+    (FALLING_AT, '            return refused(6, i - 1);\n'),
+    (FALLING, 'values[i] < values[i - 1]'),
+    (FALLING, 'values[i] <= values[i - 1] && falling == count'),
+    (FALLING, 'values[i] + 1 < values[i - 1] && falling == count'),
+    # row 5: before row 6, its limit, slopes cut before it is tried
+    (FILL_START, SLOPES_ON_THE_WAY),
+    (FILL_ROW_5, FILL_ROW_5.replace('> 10000', '>= 10000')),
+    (FILL_ROW_5, FILL_ROW_5.replace('> 10000', '> 10001')),
+    (FILL_ROW_5, FILL_ROW_5.replace('slope >', '(uint32_t)slope >')),
+    (FILL_ROW_5, FILL_ROW_5.replace('slope >', '(int32_t)slope >')),
+    (FILL_ROW_5, FILL_ROW_5.replace('slope >', '(uint16_t)slope >')),
+    ('        uint64_t slope;\n', '        uint32_t slope;\n'),
+    # row 5: not at every point, its place, the last before the inner ones
+    (FILL_ROW_5, FILL_ROW_5.replace('10000', '10000 && i + 1 < count')),
+    (FILL_ROW_5, FILL_ROW_5.replace('(5, i)', '(5, 0)')),
+    (FILL_ROW_5, FILL_ROW_5.replace('(5, i)', '(5, i + 1)')),
+    (FILL_START, LAST_SLOPE_FIRST),
+    (FILL_ROW_5, '        slope = slope > 10000 ? 10000 : slope;\n'),
+]
+
+FILL_LIST = [
+    # written before a refusal, and on one
+    (FILL_STORE, '        filled[i] = slopes[i] = (int32_t)slope;\n'),
+    (FILL_FAULT, FILL_FAULT.replace('return', 'return slopes[0] = 0,')),
+    (FILL_LENGTHS, FILL_LENGTHS + '        memset(slopes, 0, 4 * slopes_len);\n'
+     + FILL_LENGTHS),
+    # an entry too few, one too many, zeros left out
+    (FILL_END, FILL_END.replace('count', '(count - 1)')),
+    (FILL_END, FILL_END.replace('slopes, filled, count',
+                                'slopes + 1, filled + 1, (count - 1)')),
+    (FILL_END, FILL_END + '    slopes[count] = 0;\n'),
+    (FILL_END, FILL_END + '    slopes[-1] = 0;\n'),
+    (FILL_END, '''\
+    for (size_t i = 0; i < count; i++)
+        if (filled[i])
+            slopes[i] = filled[i];
+'''),
+    (FILL_STORE, '        filled[i] = (int8_t)slope;\n'),
+    # what the list held: tried by row 5, kept if it is a slope, looked at
+    (FILL_START, '''\
+    for (size_t i = 0; i < count; i++)
+        if (slopes[i] < -10000 || slopes[i] > 10000)
+            return refused(5, i);
+''' + FILL_START),
+    (FILL_STORE, FILL_STORE + '''\
+        if (slopes[i] > 0 && slopes[i] <= 10000)
+            filled[i] = slopes[i];
+'''),
+    (FILL_STORE, '''\
+        filled[i] = (int32_t)slope + (slopes[i] == INT32_MIN);
+'''),
+    # touching a list without entries, one to be read, and an entry beside
+    (FILL_LENGTHS, '    (void)*(volatile int32_t *)slopes;\n' + FILL_LENGTHS),
+    (FILL_END, '    *(volatile uint32_t *)values = values[0];\n' + FILL_END),
+    (FILL_END, '    (void)*(const volatile uint32_t *)(areas + count);\n'
+     + FILL_END),
+    # the result
+    (FILL_RESULT, '    return (int64_t)count - 1;'),
+    (FILL_RESULT, '    return 256 + (int64_t)count;'),
+]
+
+INNER_LEVEL = '    if (l.rise == 0 || r.rise == 0)\n        return 0;\n'
+INNER = '''\
+    return 100 * l.rise * r.rise * (l.gap + r.gap) /
+           (l.gap * r.gap * (l.rise + r.rise));
+'''
+OWN_LEVEL = '    if (own.rise == 0)\n        return 0;\n'
+OTHER_LEVEL = '        return 200 * own.rise / own.gap;\n'
+END = '''\
+    return 100 * own.rise * (own.rise + other.rise) * other.gap /
+           (own.gap * (own.gap + other.gap) * other.rise);
+'''
+TWO_POINTS = '''\
+        if (count == 2)
+            slope = 100 * after.rise / after.gap;
+        else if (i == 0)
+'''
+FIRST = 'end_slope(after, chord_at(areas, values, 1))'
+LAST = 'end_slope(before, chord_at(areas, values, i - 2))'
+
+# The chord slopes of the formulas in doubles, and in rounded hundredths.
+DOUBLES = '''\
+    double p = (double)%s.rise / (double)%s.gap;
+    double q = (double)%s.rise / (double)%s.gap;
+    double across = (double)(%s.rise + %s.rise) / (double)(%s.gap + %s.gap);
+'''
+ROUNDED = '''\
+    uint64_t p = 100 * %s.rise / %s.gap, q = 100 * %s.rise / %s.gap;
+    uint64_t across = 100 * (%s.rise + %s.rise) / (%s.gap + %s.gap);
+'''
+
+
+def of_chords(form, one, other):
+    return form % ((one, one, other, other) + (one, other) * 2)
+
+
+def quotient(formula, result):
+    """The formula with another end: n and d are its two parts."""
+    above, below = formula.strip()[len('return '):-1].split(' /\n')
+    return '    uint64_t n = %s, d = %s;\n    return %s;\n' % (
+        above, below.strip(), result)
+
+
+FILL_SLOPES = [
+    # inner slopes: without weights, weights exchanged, other means
+    (INNER, '    return 200 * l.rise * r.rise /\n'
+     '           (l.rise * r.gap + r.rise * l.gap);\n'),
+    (INNER, '    return 100 * l.rise * r.rise * (l.gap + r.gap) /\n'
+     '           (l.gap * l.gap * r.rise + r.gap * r.gap * l.rise);\n'),
+    (INNER, '    return 100 * (l.rise * r.gap * r.gap + r.rise * l.gap * l.gap) /\n'
+     '           (l.gap * r.gap * (l.gap + r.gap));\n'),
+    (INNER, '    return 100 * (l.rise + r.rise) / (l.gap + r.gap);\n'),
+    # one side level, both sides level
+    (INNER_LEVEL, INNER_LEVEL.replace('|| r.rise', '&& r.rise').replace(
+        '0;', '0;\n    if (l.rise == 0)\n        return 100 * r.rise / r.gap;')),
+    (INNER_LEVEL, ''),
+    # ends: chords exchanged, the last not mirrored, gaps exchanged
+    (FIRST, 'end_slope(chord_at(areas, values, 1), after)'),
+    (LAST, 'end_slope(chord_at(areas, values, i - 2), before)'),
+    (LAST, 'end_slope(chord_at(areas, values, 0), chord_at(areas, values, 1))'),
+    (LAST, '100 * before.rise / before.gap'),
+    (END, END.replace('* other.gap /', '* own.gap /')),
+    (END, '    return 50 * own.rise * (own.rise * other.gap + other.rise * own.gap)'
+     ' /\n           (own.gap * own.gap * other.rise);\n'),
+    # ends: the formula of the arithmetic mean
+    (END, '''\
+    uint64_t a = own.rise * other.gap * (2 * own.gap + other.gap);
+    uint64_t b = other.rise * own.gap * own.gap;
+    return a > b ? 100 * (a - b) / (own.gap * other.gap *
+                                    (own.gap + other.gap)) : 0;
+'''),
+    # ends beside a level segment, or level themselves
+    (OTHER_LEVEL, OTHER_LEVEL.replace('200', '100')),
+    (OTHER_LEVEL, '        return 2 * (100 * own.rise / own.gap);\n'),
+    (OTHER_LEVEL, '        return 0;\n'),
+    (OTHER_LEVEL, '        return 10000;\n'),
+    (OWN_LEVEL, OWN_LEVEL.replace('0;', '100 * other.rise / other.gap;')),
+    # two points: twice the chord, no rule of their own
+    (TWO_POINTS, TWO_POINTS.replace('100', '200')),
+    (TWO_POINTS, '        if (i == 0)\n'),
+    # rounded to the nearest, and up; above the range by a part of a hundredth
+    (TWO_POINTS, TWO_POINTS.replace('100 * after.rise /',
+                                    '(100 * after.rise + after.gap / 2) /')),
+    (OTHER_LEVEL, '        return (200 * own.rise + own.gap / 2) / own.gap;\n'),
+    *[(formula, quotient(formula, result)) for formula in (INNER, END)
+      for result in ('(n + d / 2) / d', '(n + d - 1) / d',
+                     'n > 10000 * d ? 10001 : n / d')],
+    (TWO_POINTS, TWO_POINTS.replace('100 * after.rise /', '''\
+after.rise > 100 * after.gap ? 10001 : 100 * after.rise /''')),
+    # chord slopes rounded first, in doubles, in 32 bits
+    (INNER, of_chords(ROUNDED, 'l', 'r')
+     + '    return across ? p * q / across : 0;\n'),
+    (END, of_chords(ROUNDED, 'own', 'other')
+     + '    return q ? p * across / q : 2 * p;\n'),
+    (INNER, of_chords(DOUBLES, 'l', 'r')
+     + '    return (uint64_t)(100 * (p * q / across));\n'),
+    (END, of_chords(DOUBLES, 'own', 'other')
+     + '    return (uint64_t)(100 * (p * across / q));\n'),
+    ('    uint64_t rise, gap;\n', '    uint32_t rise, gap;\n'),
+]
+
 # For the comparison.
 COMPARED = [
     ('of points and segments', POINTS),
@@ -408,6 +647,9 @@ COMPARED = [
     ('of curve_open', OPEN),
     ('of curve_write, its refusals and its buffer', WRITE_ORDER),
     ('of curve_write, the bytes of its file', WRITE_BYTES),
+    ('of curve_fill_slopes, its refusals', FILL_ROWS),
+    ('of curve_fill_slopes, its list', FILL_LIST),
+    ('of curve_fill_slopes, the slopes', FILL_SLOPES),
 ]
 
 # Lengths cut to 32 bits.
@@ -423,6 +665,9 @@ FAR = [
     ('slopes_len < count)', '(uint32_t)slopes_len < count)'),
     ('scratch_len < 12 * count', '(uint32_t)scratch_len < 12 * count'),
     ('out_len < length', '(uint32_t)out_len < length'),
+    ('size_t count = areas_len;', 'size_t count = (uint32_t)areas_len;'),
+    ('values_len != count ||', '(uint32_t)values_len != count ||'),
+    ('slopes_len != count)', '(uint32_t)slopes_len != count)'),
 ]
 
 # Memory that is kept between calls.
@@ -436,4 +681,5 @@ SHARED = [
      '    area = start + (uint64_t)step * i;\n'),
     (WRITE_LENGTH, WRITE_LENGTH.replace('size_t length',
                                         'static size_t length;\n    length')),
+    ('    int32_t filled[64];\n', '    static int32_t filled[64];\n'),
 ]
