@@ -772,16 +772,16 @@ class MakingWithoutSlopes(MakingCase):
                             ' (%s, 0 points)' % self.text)
 
     def test_mixed(self):
-        has, none = 'a slope, but the point in line %d has none (%s)', self.MIXED
-        missing = 'the slope is missing (the point in line %d has one; %s)'
+        first_has_none = 'a slope, but the point in line %%d has none (%s)' % self.MIXED
+        first_has_one = 'the slope is missing (the point in line %%d has one; %s)' % self.MIXED
         for text, line, column, message in [
-                ('shape 1\n0 0\n10 10 5\n', 3, 7, has % (2, none)),
-                ('shape 1\n#\n0 0\n10 10\n\n40;100;"7"', 6, 9, has % (3, none)),
-                ('shape 1\n0 0\n10 10 x\n', 3, 7, has % (2, none)),
-                ('shape 1\narea value slope\n0 0\n10 10 0\n', 4, 7, has % (3, none)),
-                ('shape 1\n0 0 5\n10 10\n', 3, 6, missing % (2, none)),
+                ('shape 1\n0 0\n10 10 5\n', 3, 7, first_has_none % 2),
+                ('shape 1\n#\n0 0\n10 10\n\n40;100;"7"', 6, 9, first_has_none % 3),
+                ('shape 1\n0 0\n10 10 x\n', 3, 7, first_has_none % 2),
+                ('shape 1\narea value slope\n0 0\n10 10 0\n', 4, 7, first_has_none % 3),
+                ('shape 1\n0 0 5\n10 10\n', 3, 6, first_has_one % 2),
                 ('shape 1\narea,value,slope\n0,0,5\n10,10,5\n40,100,', 5, 7,
-                 missing % (3, none)),
+                 first_has_one % 3),
                 # What stands before the slope comes first.
                 ('shape 1\n0 0\n1x 10 5', 3, 1, "the area is not a whole number: '1x'"),
                 ('shape 1\n0 0 5\n10 -1', 3, 4, "the value must have no sign: '-1'"),
