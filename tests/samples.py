@@ -19,6 +19,7 @@ import time
 
 import curves
 import exact_fractions as ref
+import harmonic
 from curve_file import curve_file
 
 SAMPLES = os.path.join(os.path.dirname(os.path.abspath(__file__)), '..',
@@ -63,14 +64,24 @@ def sample_files():
 
 # ---- the files ----
 
+def filled(points):
+    """Points without slopes, as (area, value), with those of the exact rule."""
+    areas, values = zip(*points)
+    _, _, slopes = harmonic.fill_slopes(areas, values, len(areas))
+    return list(zip(areas, values, slopes))
+
+
 def text_file(path):
     """The curve file of a text as the samples have it: no commas."""
     with open(path, encoding='ascii') as file:
         lines = [line.split('#')[0].split() for line in file]
-    (name, code), *points = [words for words in lines if words]
+    (name, code), *rows = [words for words in lines if words]
     if name != 'shape':
         raise ValueError(path)
-    return curve_file([tuple(map(int, words)) for words in points], int(code))
+    points = [tuple(map(int, words)) for words in rows]
+    if code == '1' and len(points[0]) == 2:
+        points = filled(points)
+    return curve_file(points, int(code))
 
 
 def expected_files():
@@ -113,6 +124,8 @@ def test_files():
     dip = ref.ratesheet(stored['dips-below-zero.trf'])
     expect('dips below zero', ' -' in dip, True)
     expect('points of points-64', stored['points-64.trf'][6], 64)
+    filled_slopes = ref.file_lists(stored['without-slopes.trf'])[2]
+    expect('without slopes', filled_slopes, (577, 376, 269, 0, 0, 208, 165))
     expect('document 01', stored['document-01.trf'].hex(),
            '54524601000202' 'f40100001027000000000000'
            '58020000b036000010270000')

@@ -2,8 +2,8 @@
 
     PYTHONPATH=python FACTOR_CURVES_LIBRARY=... python3 -m unittest tests/test_python.py
 
-Expected answers are exact_fractions.py's, or those of documents 01 and 02; expected files are
-curve_file.py's.
+Expected answers are exact_fractions.py's and harmonic.py's, or those of documents 01 and 02;
+expected files are curve_file.py's.
 """
 
 import copy
@@ -32,6 +32,7 @@ sys.path.insert(0, HERE)
 import curves
 import exact_fractions as ref
 import factor_curves as fc
+import harmonic
 from curve_file import curve_file
 from factor_curves import _calls, _library
 
@@ -60,7 +61,7 @@ def wanted(reference, *words):
         return given
     if reference is ref.pair:
         return ('ok', fc.Pair(*given[1:]))
-    return ('ok', given[2])                     # a sheet: its entries
+    return ('ok', given[2])                     # the entries of a sheet, filled slopes
 
 
 def opened(data):
@@ -376,6 +377,112 @@ class Writing(unittest.TestCase):
         self.assertEqual(files, [curve_file(curve.points, curve.shape) for curve in made])
 
 
+def filling(areas, values):
+    """The reference's answer, where the list for the slopes is as long as the areas."""
+    return wanted(harmonic.fill_slopes, areas, values, len(areas))
+
+
+class Filling(unittest.TestCase):
+    """The slopes that are filled are those of the exact fractions."""
+
+    # Areas, values and slopes, or the refusal, by the request's words.
+    EXAMPLES = [
+        ([0, 10, 30, 35], [0, 10, 10, 40], ('ok', [200, 0, 0, 1200])),
+        ([0, 3, 6, 10], [0, 1, 3, 3], ('ok', [25, 44, 0, 0])),
+        ([0, 10, 40], [0, 10, 100], ('ok', [83, 120, 750])),
+        ([0, 2000, 4000], [0, 1, 2], ('ok', [0, 0, 0])),
+        ([5, 8], [7, 7], ('ok', [0, 0])),
+        ([5, 8], [7, 8], ('ok', [33, 33])),
+        ([0, 1], [0, 100], ('ok', [10000, 10000])),
+        ([0, 1], [0, 101], ('refused', 5, 0)),
+        ([0, 101], [0, 10101], ('ok', [10000, 10000])),     # the rounded slope counts
+        ([0, 100], [0, 10001], ('refused', 5, 0)),
+    ]
+    REFUSED = [
+        ([], [], 1, 0), ([0], [0], 1, 0), ([0, 1, 2], [0, 1], 1, 0), ([0, 1], [0, 1, 2], 1, 0),
+        (range(65), range(65), 1, 0), (range(65), range(64), 1, 0), (range(64), range(65), 1, 0),
+        ([20001], [0], 1, 0), ([0, 20001, 1], [9, 0], 1, 0),            # 1 before 3 and 6
+        ([20001, 20002], [9, 0], 3, 0), ([0, 0], [9, 0], 3, 1), ([5, 4], [0, 1], 3, 1),
+        ([0, 2001], [0, 1], 3, 1), ([0, LARGEST], [LARGEST, 0], 4, 0),
+        ([0, 1], [0, 200001], 4, 1), ([0, 1, 1], [0, 200001, 0], 4, 1),
+        ([0, 1, 1], [0, 0, 200001], 3, 2), ([0, 1, 2], [9, 0, 200001], 4, 2),
+        ([0, 1], [1, 0], 6, 0), ([0, 1, 2, 3], [0, 5, 4, 3], 6, 1),
+        ([0, 1, 2, 3], [0, 1, 2, 1], 6, 2), ([0, 1, 2], [0, 200000, 199999], 6, 1),  # before 5
+        ([0, 10, 11, 12], [0, 10, 310, 610], 5, 2), ([0, 10, 20, 21], [0, 10, 20, 90], 5, 3),
+        ([0, 1, 11], [0, 70, 80], 5, 0), ([0, 1, 2], [0, 51, 51], 5, 0),
+    ]
+
+    def test_examples(self):
+        for areas, values, given in self.EXAMPLES:
+            self.assertEqual(filling(areas, values), given)
+            self.assertEqual(answer(fc.fill_slopes, areas, values), given)
+
+    def test_refused(self):
+        for areas, values, number, place in self.REFUSED:
+            given = ('refused', number, place)
+            self.assertEqual(filling(areas, values), given)
+            self.assertEqual(answer(fc.fill_slopes, areas, values), given)
+            self.assertEqual(answer(fc.Curve.rising, areas, values), given)
+
+    def test_rising_curves(self):
+        """Also that the exact fractions accept the curve with these slopes."""
+        rng, seen = random.Random('filling'), set()
+        for _ in range(400):
+            areas, values, _ = lists(curves.rising_curve(rng, curves.some_count(rng)))
+            given = filling(areas, values)
+            self.assertEqual(answer(fc.fill_slopes, areas, values), given, (areas, values))
+            seen.add(given[1] if given[0] == 'refused' else 0)
+            if given[0] == 'ok':
+                self.assertEqual(ref.check(areas, values, given[1], 1), ('ok', len(areas) - 1))
+                curve = fc.Curve.rising(areas, values)
+                self.assertEqual(curve, fc.Curve(zip(areas, values, given[1]), 1))
+        self.assertEqual(seen, {0, 5})
+
+    def test_faults(self):
+        rng, seen = random.Random('faults of filling'), set()
+        for points, _ in curves.random_curves('faults of filling', 300):
+            change = rng.choice([curves.past_limit, curves.shapeless_points])
+            areas, values, _ = curves.lists(change(rng, points))
+            if rng.random() < 0.1:
+                areas = areas[:-1]
+            given = filling(areas, values)
+            self.assertEqual(answer(fc.fill_slopes, areas, values), given, (areas, values))
+            seen.add(given[1] if given[0] == 'refused' else 0)
+        self.assertEqual(seen, {0, 1, 3, 4, 5, 6})
+
+    def test_curve(self):
+        class Tariff(fc.Curve):
+            pass
+        areas, values = [0, 10, 40], [0, 10, 100]
+        points = [(0, 0, 83), (10, 10, 120), (40, 100, 750)]
+        for curve in (fc.Curve.rising(areas, values), fc.Curve.rising(iter(areas), iter(values)),
+                      fc.Curve.rising(map(Index, areas), tuple(map(Index, values))),
+                      Tariff.rising(areas, values)):
+            self.assertEqual((curve.points, curve.shape), (tuple(points), fc.RISING))
+            self.assertEqual(curve.to_bytes(), curve_file(points, 1))
+        self.assertIs(type(curve), Tariff)
+        self.assertEqual((areas, values), ([0, 10, 40], [0, 10, 100]))
+
+    def test_result(self):
+        slopes = fc.fill_slopes(iter([0, 10, 40]), (0, 10, 100))
+        self.assertEqual(slopes, [83, 120, 750])
+        self.assertEqual({type(slope) for slope in slopes}, {int})
+
+    def test_slope_list(self):
+        """Its length counts under 1, and a refusal leaves it; a caller in C lends it."""
+        call = _library.library().curve_fill_slopes
+        areas, values = _calls._areas_and_values([0, 10, 40], [0, 10, 100])
+        falling = _calls._areas_and_values([0, 10, 40], [0, 10, 9])[1]
+        steep = _calls._areas_and_values([0, 10, 40], [0, 10, 9000])[1]
+        for column, length, given, after in [
+                (values, 3, 3, [83, 120, 750, 7]), (values, 2, -2**32, [7] * 4),
+                (values, 4, -2**32, [7] * 4), (falling, 3, -6 * 2**32 - 1, [7] * 4),
+                (steep, 3, -5 * 2**32 - 2, [7] * 4)]:
+            out = (ctypes.c_int32 * 4)(7, 7, 7, 7)
+            self.assertEqual(call(areas, 3, column, 3, out, length), given)
+            self.assertEqual(list(out), after)
+
+
 class Index:
     """A whole number that is no int."""
 
@@ -426,6 +533,11 @@ class Numbers(unittest.TestCase):
                     zip(*self.put(columns, f, a, n)), 2), message
                 yield kind, lambda n, f=field, a=at: fc.Curve.from_lists(
                     *self.put(columns, f, a, n), 2), message
+                if name != 'slopes':
+                    yield kind, lambda n, f=field, a=at: fc.fill_slopes(
+                        *self.put(columns, f, a, n)[:2]), message
+                    yield kind, lambda n, f=field, a=at: fc.Curve.rising(
+                        *self.put(columns, f, a, n)[:2]), message
 
     @staticmethod
     def put(columns, field, at, number):

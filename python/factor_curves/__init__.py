@@ -17,19 +17,26 @@ ten-thousandth: 10800 is the factor 1.08. What the library does not accept is ra
     ...
     factor_curves.Refused: refused 7 at 0: an area is outside the curve
 
+The slopes of a rising curve can be filled by the harmonic rule:
+
+    >>> Curve.rising([0, 10, 40], [0, 10, 100]).slopes
+    (83, 120, 750)
+
 A curve file holds one curve, and each curve has one file:
 
     >>> Curve.from_bytes(curve.to_bytes()) == curve
     True
 
-The functions check, read, pair, sheet, write, open_bytes and desk_reading are the library's calls
-on plain lists and bytes. The library is looked for and loaded at the first call; importing the
-package does not need it. `python3 -m factor_curves --help` says what the command line offers.
+The functions check, read, pair, sheet, write, fill_slopes, open_bytes and desk_reading are the
+library's calls on plain lists and bytes. The library is looked for and loaded at the first call;
+importing the package does not need it. `python3 -m factor_curves --help` says what the command
+line offers.
 """
 
 from ._calls import (CONVEX, COUNT_MAX, ENTRIES_MAX, FILE_MAX, POINTS_MAX, RISING,
                      SCRATCH_ENOUGH, SHAPE_NAMES, Lists, Pair, Refusal, Refused, check,
-                     desk_reading, open_bytes, pair, read, refusal_words, sheet, write)
+                     desk_reading, fill_slopes, open_bytes, pair, read, refusal_words, sheet,
+                     write)
 from ._curve import Curve, Point
 from ._library import LibraryNotFound
 
@@ -38,7 +45,8 @@ __version__ = "0.2.0"
 __all__ = [
     'CONVEX', 'COUNT_MAX', 'ENTRIES_MAX', 'FILE_MAX', 'POINTS_MAX', 'RISING', 'SCRATCH_ENOUGH',
     'SHAPE_NAMES', 'Curve', 'LibraryNotFound', 'Lists', 'Pair', 'Point', 'Refusal', 'Refused',
-    'check', 'desk_reading', 'open_bytes', 'pair', 'read', 'refusal_words', 'sheet', 'write',
+    'check', 'desk_reading', 'fill_slopes', 'open_bytes', 'pair', 'read', 'refusal_words',
+    'sheet', 'write',
 ]
 
 for _name in ('Curve', 'LibraryNotFound', 'Lists', 'Pair', 'Point', 'Refusal', 'Refused'):

@@ -6,8 +6,8 @@ import re
 import sys
 from typing import Any, List, NoReturn, Optional
 
-from . import (ENTRIES_MAX, FILE_MAX, SHAPE_NAMES, Curve, LibraryNotFound, Refusal, Refused,
-               __version__, write)
+from . import (ENTRIES_MAX, FILE_MAX, SHAPE_NAMES, Curve, LibraryNotFound, Lists, Refusal,
+               Refused, __version__, fill_slopes, write)
 from ._text import Mistake, Text, read_text
 
 PROGRAM = 'factor-curves'
@@ -27,6 +27,7 @@ examples:
   factor-curves sheet samples/rising.trf --start 500 --step 100 --count 5
   factor-curves show - < samples/rising.trf
   factor-curves make samples/rising.csv -o rising.trf
+  factor-curves make samples/without-slopes.txt -o filled.trf
   factor-curves plot samples/rising.trf samples/dips-below-zero.trf -o curves.svg
 
 exit status: 0 done; 1 the curve, an area or the sheet is refused; 2 wrong usage, a mistake in a
@@ -44,6 +45,9 @@ each point, in whole numbers:
 Fields are separated by blanks, commas or semicolons; # begins a comment. A CSV file may have the
 names area, value, slope in a line before the first point. If the text has a mistake or the curve
 is refused, nothing is written. What `factor-curves show` prints is such a text.
+
+A rising curve may be without slopes: then each line has area and value only, and the names may be
+area, value. The slopes are filled by the harmonic rule, and a message on standard error says so.
 '''
 
 
@@ -233,7 +237,18 @@ def where(text: Text, refusal: Refused) -> str:
         return number_of(len(text.point_lines), 'point')
     if refusal.number == Refusal.SHAPE:
         return 'line %d' % text.shape_line
-    return 'line %d' % text.point_lines[refusal.place or 0]
+    line = 'line %d' % text.point_lines[refusal.place or 0]
+    if refusal.number == Refusal.SLOPE and not text.has_slopes:
+        return line + '; the text has no slopes, this one was filled by the harmonic rule'
+    return line
+
+
+def with_slopes(text: Text) -> Lists:
+    """The curve of a text; slopes that it does not have are filled."""
+    lists = text.lists
+    if text.has_slopes:
+        return lists
+    return lists._replace(slopes=tuple(fill_slopes(lists.areas, lists.values)))
 
 
 def make(options: argparse.Namespace) -> None:
@@ -245,10 +260,12 @@ def make(options: argparse.Namespace) -> None:
     except Mistake as mistake:
         raise Failure(USAGE, '%s:%s' % (path, mistake)) from None
     try:
-        data = write(*text.lists)
+        data = write(*with_slopes(text))
     except Refused as refusal:
         raise Failure(REFUSED, '%s (%s, %s)' % (refusal, path, where(text, refusal))) from None
     put_file(options.output, data)
+    if not text.has_slopes:
+        say('%s: %s has no slopes; they were filled by the harmonic rule' % (PROGRAM, path))
 
 
 def plot(options: argparse.Namespace) -> None:

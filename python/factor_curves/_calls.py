@@ -39,7 +39,7 @@ class Refusal(enum.IntEnum):
     SHAPE = 2           #: the shape code is neither 1 nor 2
     AREA = 3            #: a point's area; the place is the point
     VALUE = 4           #: a point's value; the place is the point
-    SLOPE = 5           #: a point's slope; the place is the point
+    SLOPE = 5           #: a point's slope; the place is the point; fill_slopes: after 6
     SEGMENT = 6         #: a segment without the shape; the place is its left point
     BUFFER = 12         #: a file does not fit into the buffer; the package lends enough
     SHEET = 8           #: step 0, no entries or more than 1,024
@@ -104,19 +104,24 @@ def unsigned(value: Any, name: str) -> int:
     return _whole(value, name, _UNSIGNED)
 
 
-def _numbers(values: Iterable[int], name: str, limits: Tuple[int, int]) -> List[int]:
-    return [_whole(value, '%s[%d]' % (name, index), limits)
-            for index, value in enumerate(values)]
+def _array(kind: Any, values: Iterable[int], name: str, limits: Tuple[int, int]) -> Any:
+    """A C array of this type, whose limits these are."""
+    numbers = [_whole(value, '%s[%d]' % (name, index), limits)
+               for index, value in enumerate(values)]
+    return (kind * len(numbers))(*numbers)
+
+
+def _areas_and_values(areas: Iterable[int], values: Iterable[int]) -> Tuple[Any, Any]:
+    return (_array(ctypes.c_uint32, areas, 'areas', _UNSIGNED),
+            _array(ctypes.c_uint32, values, 'values', _UNSIGNED))
 
 
 def arguments(areas: Iterable[int], values: Iterable[int], slopes: Iterable[int],
               shape: int) -> Tuple[Any, ...]:
     """What each call on a curve begins with: three lists with their lengths, the shape code."""
-    x = _numbers(areas, 'areas', _UNSIGNED)
-    y = _numbers(values, 'values', _UNSIGNED)
-    d = _numbers(slopes, 'slopes', _SIGNED)
-    return ((ctypes.c_uint32 * len(x))(*x), len(x), (ctypes.c_uint32 * len(y))(*y), len(y),
-            (ctypes.c_int32 * len(d))(*d), len(d), unsigned(shape, 'shape'))
+    x, y = _areas_and_values(areas, values)
+    d = _array(ctypes.c_int32, slopes, 'slopes', _SIGNED)
+    return x, len(x), y, len(y), d, len(d), unsigned(shape, 'shape')
 
 
 def _file(data: BytesLike) -> bytes:
@@ -215,6 +220,14 @@ def write(areas: Iterable[int], values: Iterable[int], slopes: Iterable[int],
           shape: int) -> bytes:
     """The bytes of the curve's file, 7 and 12 for each point; open_bytes is the way back."""
     return write_at(arguments(areas, values, slopes, shape))
+
+
+def fill_slopes(areas: Iterable[int], values: Iterable[int]) -> List[int]:
+    """A slope for each point of a rising curve, by the harmonic rule, rounded down."""
+    x, y = _areas_and_values(areas, values)
+    out = (ctypes.c_int32 * len(x))()
+    _result(library().curve_fill_slopes(x, len(x), y, len(y), out, len(out)))
+    return list(out)
 
 
 # ---- the calls on a file's bytes ----

@@ -70,6 +70,12 @@ class Curve:
         return cls(zip(*lists), shape)
 
     @classmethod
+    def rising(cls: Type[_Self], areas: Iterable[int], values: Iterable[int]) -> _Self:
+        """The rising curve of two lists; its slopes are filled by the harmonic rule."""
+        lists = list(areas), list(values)
+        return cls.from_lists(*lists, _calls.fill_slopes(*lists), _calls.RISING)
+
+    @classmethod
     def from_bytes(cls: Type[_Self], data: BytesLike) -> _Self:
         """The curve of a curve file, given its bytes."""
         return cls.from_lists(*_calls.open_bytes(data))

@@ -26,6 +26,7 @@ _FUNCTIONS: Dict[str, Tuple[Any, List[Any]]] = {
     'curve_sheet': (ctypes.c_int64, _CURVE + [ctypes.c_uint32, ctypes.c_uint32, _SIGNED, _SIZE]),
     'curve_open': (ctypes.c_int64, [_BYTES, _SIZE] + _LISTS),
     'curve_write': (ctypes.c_int64, _CURVE + [_MEMORY, _SIZE]),
+    'curve_fill_slopes': (ctypes.c_int64, _LISTS),
     'desk_reading': (ctypes.c_int32, [_BYTES, _SIZE, ctypes.c_uint32, _MEMORY, _SIZE]),
     'curve_refusal_words': (ctypes.c_char_p, [ctypes.c_int]),
 }

@@ -1,19 +1,21 @@
 """Reads the text of a curve, which the command make takes and show prints.
 
-A line `shape N`, then a line with area, value and slope for each point. Fields are separated by
-blanks and tabs; or by commas in a line that has one; or by semicolons in a line that has one, so
-that a comma is then part of a field. `#` begins a comment, and empty lines do not count. Of what
-spreadsheets write, fields in quotation marks, empty fields at the end of a line, a line with the
-names of the columns before the first point, a byte order mark and every line end are taken.
+A line `shape N`, then a line with area, value and slope for each point; of a rising curve, all
+points may be without slopes. Fields are separated by blanks and tabs; or by commas in a line that
+has one; or by semicolons in a line that has one, so that a comma is then part of a field. `#`
+begins a comment, and empty lines do not count. Of what spreadsheets write, fields in quotation
+marks, empty fields at the end of a line, a line with the names of the columns before the first
+point, a byte order mark and every line end are taken.
 """
 
 import codecs
 import re
 from typing import List, NamedTuple, Optional
 
-from ._calls import Lists
+from ._calls import RISING, Lists
 
 NAMES = ['area', 'value', 'slope']
+NAMES_WITHOUT_SLOPE = NAMES[:2]
 
 _LIMITS = {'shape': (0, 2**32 - 1), 'area': (0, 2**32 - 1), 'value': (0, 2**32 - 1),
            'slope': (-2**31, 2**31 - 1)}
@@ -26,6 +28,9 @@ _QUOTED_COMMENT = re.compile('"[ \t]*#')
 _QUOTED = re.compile('"[^"]*"')
 _CELLS = {each: re.compile('((?:"[^"]*"|[^%s"])*)(?:%s|$)' % (each, each)) for each in ';,'}
 _WORDS = re.compile('((?:"[^"]*"|[^ \t"])+)')
+
+_ONLY_RISING = 'only the slopes of a rising curve, shape 1, can be filled'
+_ALL_OR_NONE = 'either all points have slopes or none'
 
 # What a field that is no whole number looks like, and what to say about it.
 _HINTS = [
@@ -67,11 +72,19 @@ class Field(NamedTuple):
 
 
 class Text(NamedTuple):
-    """The curve of a text, whether it is accepted or not, and the lines where it stands."""
+    """The curve of a text, whether it is accepted or not, and the lines where it stands.
+
+    The list of slopes is empty if the text has none.
+    """
 
     lists: Lists
     shape_line: int
     point_lines: List[int]
+
+    @property
+    def has_slopes(self) -> bool:
+        """Whether each point has a slope; otherwise none has."""
+        return len(self.lists.slopes) == len(self.point_lines)
 
 
 # ---- from bytes to fields ----
@@ -154,6 +167,7 @@ class _Reader:
     def __init__(self) -> None:
         self.shape: Optional[int] = None
         self.shape_line = 0
+        self.names: List[str] = []
         self.names_line = 0
         self.point_lines: List[int] = []
         self.columns: List[List[int]] = [[], [], []]
@@ -163,8 +177,8 @@ class _Reader:
         first, words = fields[0], [field.text.lower() for field in fields]
         if words[0] == 'shape':
             self.take_shape(fields)
-        elif words == NAMES:
-            self.take_names(first)
+        elif words in (NAMES, NAMES_WITHOUT_SLOPE):
+            self.take_names(first, words)
         elif set(words) & set(NAMES):
             raise first.mistake('the names of the columns must be area, value, slope')
         elif first.text[:1].isalpha():
@@ -178,27 +192,58 @@ class _Reader:
         if len(fields) > 2:
             raise fields[2].mistake('a shape line has one number; this is a second one: '
                                     + fields[2].shown())
-        self.shape = _figure('shape', (fields + [_after(fields)])[1])
+        code = (fields + [_after(fields)])[1]
+        self.shape = _figure('shape', code)
         self.shape_line = fields[0].line
+        if self.lacks_slopes():
+            raise code.mistake('the columns in line %d are area and value, but %s'
+                               % (self.names_line, _ONLY_RISING))
 
-    def take_names(self, first: Field) -> None:
+    def take_names(self, first: Field, names: List[str]) -> None:
         if self.names_line:
             raise first.mistake('the names of the columns stand in line %d already'
                                 % self.names_line)
         if self.point_lines:
             raise first.mistake('the names of the columns must come before the first point')
-        self.names_line = first.line
+        self.names, self.names_line = names, first.line
+        if self.lacks_slopes():
+            raise first.mistake('the names of the columns must be area, value, slope (%s)'
+                                % _ONLY_RISING)
+
+    def lacks_slopes(self) -> bool:
+        """Whether the names are those without a slope, and the shape is not rising."""
+        return self.names == NAMES_WITHOUT_SLOPE and self.shape not in (None, RISING)
 
     def take_point(self, fields: List[Field]) -> None:
         if self.shape is None:
             raise fields[0].mistake('no line `shape N` before the first point')
+        if len(fields) > 2 and self.names == NAMES_WITHOUT_SLOPE:
+            raise fields[2].mistake('the columns in line %d are area and value; this is a third'
+                                    ' field: %s' % (self.names_line, fields[2].shown()))
         if len(fields) > 3:
             raise fields[3].mistake('a point has area, value and slope; this is a fourth field: '
                                     + fields[3].shown())
         padded = fields + [_after(fields)] * (3 - len(fields))
-        for column, name, field in zip(self.columns, NAMES, padded):
+        for column, name, field in zip(self.columns, NAMES_WITHOUT_SLOPE, padded):
             column.append(_figure(name, field))
+        self.take_slope(padded[2])
         self.point_lines.append(fields[0].line)
+
+    def take_slope(self, field: Field) -> None:
+        """The slope of a point, or the place where it is missing."""
+        slopes = self.columns[2]
+        if field.text:
+            if self.point_lines and not slopes:
+                raise field.mistake('a slope, but the point in line %d has none (%s)'
+                                    % (self.point_lines[0], _ALL_OR_NONE))
+            slopes.append(_figure('slope', field))
+        elif slopes and self.shape == RISING:
+            raise field.mistake('the slope is missing (the point in line %d has one; %s)'
+                                % (self.point_lines[0], _ALL_OR_NONE))
+        elif slopes:
+            raise field.mistake('the slope is missing')
+        elif self.shape != RISING:
+            raise field.mistake('the slope is missing (%s)' % _ONLY_RISING)
 
 
 def read_text(data: bytes) -> Text:
