@@ -7,8 +7,8 @@
 use mathlib.Core.Path.{_≡_, refl}
 use mathlib.Core.Bool.{_&&_, or-true}
 use mathlib.Core.Logic.{_⊎_, inl, inr}
-use Prim.Native.Nat.{ℕ, zero, suc, _+_, _*_, _/_}
-use native.Mathlib.Nat.{mul-one, one-mul, zero-mul}
+use Prim.Native.Nat.{ℕ, zero, suc, _+_, _*_, _/_, _<_}
+use native.Mathlib.Nat.{mul-one, one-mul, mul-zero, zero-mul, mul-pos}
 use native.Mathlib.Omega.{arith}
 use borrow.Author.Tests.{eq-eqb, ne-eqb, lt-leb}
 use lib.Dec.{eqb, leb}
@@ -30,18 +30,31 @@ pub chord-figure : (F h : ℕ) → hundredths (pos F over pos h) ≡ pos (F * 10
 unfolding hundredths floor floorDiv _over_ whole _*ℚ_
 chord-figure F h = rw (mul-one h)
 
+one-is-0 : (a b : ℕ) → a * b ≡ 0 → (a ≡ 0) ⊎ (b ≡ 0)
+one-is-0 zero b e = inl refl
+one-is-0 (suc a) zero e = inr refl
+one-is-0 (suc a) (suc b) e =
+    let some : 0 < suc a * suc b = mul-pos (omega arith) (omega arith) in
+    absurd (omega arith)
+
 module _ (F₀ h₀ F₁ h₁ : ℕ) where
-  pub inner-flat : (F₀ ≡ 0) ⊎ (F₁ ≡ 0) →
+  pub inner-flat : F₀ * F₁ ≡ 0 →
       hundredths (inner-slope (pos F₀ over pos h₀) (pos F₁ over pos h₁) (pos (F₀ + F₁) over pos (h₀ + h₁))) ≡ pos 0
   unfolding hundredths inner-slope floor floorDiv whole _*ℚ_
-  inner-flat (inl e) = rw (flat-test F₀ h₀, eq-eqb F₀ 0 e)
-  inner-flat (inr e) = rw (flat-test F₀ h₀, flat-test F₁ h₁, eq-eqb F₁ 0 e, or-true (eqb F₀ 0))
+  inner-flat e =
+      elim (one-is-0 F₀ F₁ e) [
+        | inl z ↦ rw (flat-test F₀ h₀, eq-eqb F₀ 0 z)
+        | inr z ↦ rw (flat-test F₀ h₀, flat-test F₁ h₁, eq-eqb F₁ 0 z, or-true (eqb F₀ 0))
+      ]
 
-  pub inner-figure : (F₀ ≡ 0 → ⊥) → (F₁ ≡ 0 → ⊥) →
+  pub inner-figure : (F₀ * F₁ ≡ 0 → ⊥) →
       hundredths (inner-slope (pos F₀ over pos h₀) (pos F₁ over pos h₁) (pos (F₀ + F₁) over pos (h₀ + h₁)))
       ≡ pos (F₀ * F₁ * (h₀ + h₁) * 100 / (h₀ * h₁ * (F₀ + F₁)))
   unfolding hundredths inner-slope floor floorDiv _over_ whole _*ℚ_ _/ℚ_
-  inner-figure m n = rw (flat-test F₀ h₀, flat-test F₁ h₁, ne-eqb F₀ 0 m, ne-eqb F₁ 0 n, mul-one (h₀ * h₁ * (F₀ + F₁)))
+  inner-figure n =
+      let m₀ : F₀ ≡ 0 → ⊥ = λ z. n (rw z (zero-mul F₁)) in
+      let m₁ : F₁ ≡ 0 → ⊥ = λ z. n (rw z (mul-zero F₀)) in
+      rw (flat-test F₀ h₀, flat-test F₁ h₁, ne-eqb F₀ 0 m₀, ne-eqb F₁ 0 m₁, mul-one (h₀ * h₁ * (F₀ + F₁)))
 
   pub end-flat : F₀ ≡ 0 →
       hundredths (end-slope (pos F₀ over pos h₀) (pos F₁ over pos h₁) (pos (F₀ + F₁) over pos (h₀ + h₁))) ≡ pos 0

@@ -1,7 +1,8 @@
 -- How large the products of two chords' sizes are: 18 bits hold a rise, 11 a gap.
 -- Assumes nothing.
+use mathlib.Core.Path.{_≡_}
 use Prim.Native.Nat.{ℕ, _+_, _*_, _^_, _<_}
-use native.Mathlib.Nat.{mul-pos}
+use native.Mathlib.Nat.{zero-mul, mul-pos, pos-of-ne-zero}
 use native.Mathlib.Omega.{arith}
 use Rattle.exact.proofs.Magnitude.{product-size}
 use Rattle.harmonic.specs.Inner.{Beside}
@@ -33,8 +34,10 @@ module _ {c d : Chord} (k : Beside c d) where
   end-bottom = product-size 23 18 end-gaps (omega arith)
 
 -- what is divided by is not 0
-pub inner-some : {a b f : ℕ} (g : ℕ) → 0 < a → 0 < b → 0 < f → 0 < a * b * (f + g)
-inner-some g h k m = mul-pos (mul-pos h k) (omega arith)
+pub inner-some : {a b : ℕ} (f g : ℕ) → 0 < a → 0 < b → (f * g ≡ 0 → ⊥) → 0 < a * b * (f + g)
+inner-some f g h k n =
+    let some : 0 < f = pos-of-ne-zero (λ z. n (rw z (zero-mul g))) in
+    mul-pos (mul-pos h k) (omega arith)
 
 pub end-some : {a f : ℕ} (b : ℕ) → 0 < a → 0 < f → 0 < a * (a + b) * f
 end-some b h k = mul-pos (mul-pos h (omega arith)) k

@@ -41,14 +41,11 @@ fn inner_figure(left: Chord, right: Chord) -> u64
     requires { ⌜ Beside left right ⌝ }
     ensures { λ r. ⌜ pos r ≡ hundredths (inner-slope (chord-of left) (chord-of right) (across left right)) ⌝ }
 {
-    if left.rise == 0 {
+    let rises = left.rise * right.rise;
+    if rises == 0 {
         return 0;
     }
-    if right.rise == 0 {
-        return 0;
-    }
-    left.rise * right.rise * (left.gap + right.gap) * 100
-        / (left.gap * right.gap * (left.rise + right.rise))
+    rises * (left.gap + right.gap) * 100 / (left.gap * right.gap * (left.rise + right.rise))
 }
 
 // The figure at an end, of the chord there and the one beside it.

@@ -1,7 +1,6 @@
 -- `harmonic::inner_figure` meets its contract.
 -- Assumes nothing.
 use mathlib.Core.Path.{sym}
-use mathlib.Core.Logic.{inl, inr}
 use native.Mathlib.Omega.{arith}
 use borrow.Author.Needs.{needs}
 use Rattle.harmonic.proofs.Quotients.{inner-flat, inner-figure}
@@ -10,16 +9,14 @@ use Rattle.harmonic.proofs.inner_figure.Statement.{statement}
 use Rattle.harmonic.proofs.inner_figure.Tie as tie
 
 returns : tie.Need-returns
-returns c = sym (inner-flat _ _ _ _ (inl (c .if1 .taken)))
+returns c = sym (inner-flat _ _ _ _ (c .if1 .taken))
 
 returns-2 : tie.Need-returns-2
-returns-2 c = sym (inner-flat _ _ _ _ (inr (c .if2 .taken)))
-
-returns-3 : tie.Need-returns-3
-returns-3 c = sym (inner-figure _ _ _ _ (search needs) (search needs))
+returns-2 c = sym (inner-figure _ _ _ _ (search needs))
 
 pub inner-figure-spec : {M : Type 1} → statement M
 inner-figure-spec =
     tie.close
-    (tie.spec returns returns-2 (omega (arith, rises-size)) (search needs) (omega (arith, inner-top)) (omega (arith, inner-top))
-    (omega (arith, gaps-size)) (search needs) (omega (arith, inner-bottom)) (λ c. inner-some _ (omega arith) (omega arith) (omega arith)) returns-3)
+    (tie.spec (omega (arith, rises-size)) returns (search needs) (omega (arith, inner-top)) (omega (arith, inner-top))
+    (omega (arith, gaps-size)) (search needs) (omega (arith, inner-bottom))
+    (λ c. inner-some _ _ (omega arith) (omega arith) (search needs)) returns-2)
