@@ -1,6 +1,6 @@
 // Slopes that nobody supplies, by the harmonic rule.
 ghost use mathlib.Core.Path.{_≡_};
-ghost use mathlib.Core.Bool.{true, cond};
+ghost use mathlib.Core.Bool.{true};
 ghost use mathlib.Core.List.{_++_};
 ghost use Prim.Native.Nat.{_+_, _-_, _≤_, _<_};
 ghost use lib.IntN.{pos};
@@ -63,18 +63,26 @@ fn end_figure(first: Chord, second: Chord) -> u64
         / (first.gap * (first.gap + second.gap) * second.rise)
 }
 
-// The figure at the first point, or at the last.
-fn figure_at_end(areas: &[u32], values: &[u32], first: bool) -> u64
+// The figure at the first point.
+fn first_figure(areas: &[u32], values: &[u32]) -> u64
     requires { ⌜ Climbing (now areas) (now values) ⌝ }
-    ensures { λ r. ⌜ pos r ≡ figure (now (areas .entry)) (now (values .entry)) (cond first 0 (length (now (areas .entry)) - 1)) ⌝ }
+    ensures { λ r. ⌜ pos r ≡ figure (now (areas .entry)) (now (values .entry)) 0 ⌝ }
+{
+    let own = chord_at(areas, values, 0);
+    if areas.len() == 2 {
+        return own.rise * 100 / own.gap;
+    }
+    end_figure(own, chord_at(areas, values, 1))
+}
+
+// The figure at the last point: of two points, that at the first.
+fn last_figure(areas: &[u32], values: &[u32], first: u64) -> u64
+    requires { ⌜ Climbing (now areas) (now values) × (pos first ≡ figure (now areas) (now values) 0) ⌝ }
+    ensures { λ r. ⌜ pos r ≡ figure (now (areas .entry)) (now (values .entry)) (length (now (areas .entry)) - 1) ⌝ }
 {
     let n = areas.len();
     if n == 2 {
-        let only = chord_at(areas, values, 0);
-        return only.rise * 100 / only.gap;
-    }
-    if first {
-        return end_figure(chord_at(areas, values, 0), chord_at(areas, values, 1));
+        return first;
     }
     end_figure(
         chord_at(areas, values, n - 2),
@@ -90,7 +98,7 @@ fn fill_figures(areas: &[u32], values: &[u32], out: &mut [i32]) -> usize
     ensures list { λ r. ⌜ (length (now (areas .entry)) ≤ r →
         now (out .exit) ≡ figures (now (areas .entry)) (now (values .entry)) ++ drop (length (now (areas .entry))) (now (out .entry))) ⌝ }
 {
-    let first = figure_at_end(areas, values, true);
+    let first = first_figure(areas, values);
     if first > FIGURE_MOST {
         return 0;
     }
@@ -108,7 +116,7 @@ fn fill_figures(areas: &[u32], values: &[u32], out: &mut [i32]) -> usize
         left = right;
         i += 1;
     }
-    let last = figure_at_end(areas, values, false);
+    let last = last_figure(areas, values, first);
     if last > FIGURE_MOST {
         return end;
     }

@@ -77,17 +77,17 @@ entry c = c .before .before .before .before
 
 -- the first figure is in the first entry
 first-filled : (c : tie.Else1 Inv-loop μ-loop) → (let k = entry c .args in
-    Filled (k .areas .now) (k .values .now) (k .out .now) (set (k .out .now) 0 (toZ w32 (ofZ w32 (pos (c .before .figure-at-end .result))))) 1)
+    Filled (k .areas .now) (k .values .now) (k .out .now) (set (k .out .now) 0 (toZ w32 (ofZ w32 (pos (c .before .first-figure .result))))) 1)
 first-filled c =
     let n = entry c .pre .0 .counted .least in
-    goes-on _ _ 0 _ starts (omega (arith, entry c .pre .1)) (c .before .figure-at-end .ensures) (omega arith)
+    goes-on _ _ 0 _ starts (omega (arith, entry c .pre .1)) (c .before .first-figure .ensures) (omega arith)
 
 returns : tie.Need-returns Inv-loop μ-loop
 returns c =
     let s = c .before .before .before .before in
     let n = s .pre .0 .counted .least in (
       each-first _ 5 0 _ (λ j h. absurd (omega arith))
-          (λ h. steep-at _ _ 0 _ (c .before .figure-at-end .ensures) (c .if1 .taken)),
+          (λ h. steep-at _ _ 0 _ (c .before .first-figure .ensures) (c .if1 .taken)),
       λ h. absurd (omega arith),
     )
 
@@ -150,7 +150,7 @@ returns-2 c =
     )
 
 -- the last figure
-module _ (c : tie.After-figure-at-end2 Inv-loop μ-loop) where
+module _ (c : tie.After-last-figure Inv-loop μ-loop) where
   abbrev at-loop : tie.At-loop Inv-loop μ-loop
   at-loop = c .before .before
 
@@ -173,17 +173,17 @@ module _ (c : tie.After-figure-at-end2 Inv-loop μ-loop) where
 returns-3 : tie.Need-returns-3 Inv-loop μ-loop
 returns-3 c =
     let l = c .before in (
-      each-first _ 5 _ _ (filled-to-end l .gentle) (λ h. steep-at _ _ _ _ (l .figure-at-end2 .ensures) (c .if3 .taken)),
+      each-first _ 5 _ _ (filled-to-end l .gentle) (λ h. steep-at _ _ _ _ (l .last-figure .ensures) (c .if3 .taken)),
       λ h. absurd (omega (arith, end-inside l .0)),
     )
 
 all-filled : (c : tie.Else3 Inv-loop μ-loop) → (let k = started (c .before) .args in let l = c .before in
     Filled (k .areas .now) (k .values .now) (k .out .now)
-    (set (at-loop l .loop .out) (end l) (toZ w32 (ofZ w32 (pos (l .figure-at-end2 .result))))) (length (k .areas .now)))
+    (set (at-loop l .loop .out) (end l) (toZ w32 (ofZ w32 (pos (l .last-figure .result))))) (length (k .areas .now)))
 all-filled c =
     let l = c .before in
     filled-at (end-inside l .0)
-    (goes-on _ _ (end l) _ (filled-to-end l) (end-inside l .1) (l .figure-at-end2 .ensures) (omega arith))
+    (goes-on _ _ (end l) _ (filled-to-end l) (end-inside l .1) (l .last-figure .ensures) (omega arith))
 
 returns-4 : tie.Need-returns-4 Inv-loop μ-loop
 returns-4 c =
@@ -201,7 +201,8 @@ fill-figures-spec =
     (λ c κs. record { one = c .before .before .loop .inv .before .sized; other = c .chord-at2 .ensures .sized })
     (λ c. size (c .before .before .before .before)) returns-2 (λ c. record { sfits = omega arith }) (λ c. omega arith)
     (λ c. inside (c .before .before .before .before)) (λ c. omega arith) (λ c. omega arith) loop-again
-    (λ c κs. entry (in-entry (c .before)) .pre .0) (λ c. size (at-loop (c .before))) returns-3
+    (λ c κs. (entry (in-entry (c .before)) .pre .0, in-entry (c .before) .before .first-figure .ensures))
+    (λ c. size (at-loop (c .before))) returns-3
     (λ c. record { sfits = omega arith }) (λ c. omega (arith, started (c .before) .pre .0 .counted .most))
     (λ c. omega (arith, size (at-loop (c .before)), end-inside (c .before) .1))
     (λ c. omega (arith, started (c .before) .pre .0 .counted .most)) (λ c. all-filled c .filling .size) returns-4)
