@@ -4,3 +4,6 @@ pub mod Sizes
 pub mod Chords
 pub mod Rising
 pub mod Answers
+pub mod Figures
+pub mod Laws
+pub mod Examples

@@ -2,4 +2,6 @@
 pub mod Rule
 pub mod Fill
 pub mod Calls
+pub mod Laws
+pub mod Examples
 pub mod Inner
