@@ -19,7 +19,6 @@ import time
 
 import curves
 import exact_fractions as ref
-import harmonic
 from curve_file import curve_file
 
 SAMPLES = os.path.join(os.path.dirname(os.path.abspath(__file__)), '..',
@@ -67,7 +66,7 @@ def sample_files():
 def filled(points):
     """Points without slopes, as (area, value), with those of the exact rule."""
     areas, values = zip(*points)
-    _, _, slopes = harmonic.fill_slopes(areas, values, len(areas))
+    _, _, slopes = ref.fill_slopes(areas, values, len(areas))
     return list(zip(areas, values, slopes))
 
 

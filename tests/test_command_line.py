@@ -2,7 +2,7 @@
 
     PYTHONPATH=python FACTOR_CURVES_LIBRARY=... python3 -m unittest tests/test_command_line.py
 
-Expected answers are exact_fractions.py's and harmonic.py's, expected files curve_file.py's.
+Expected answers are exact_fractions.py's, expected files curve_file.py's.
 """
 
 import glob
@@ -28,7 +28,6 @@ sys.path.insert(0, HERE)
 
 import curves
 import exact_fractions as ref
-import harmonic
 from curve_file import curve_file
 from factor_curves import __main__ as program
 from factor_curves import refusal_words
@@ -732,7 +731,7 @@ class MakingWithoutSlopes(MakingCase):
         for _ in range(250):
             areas, values, _ = zip(*curves.rising_curve(rng, curves.some_count(rng)))
             text, _, lines = some_text(rng, list(zip(areas, values)), 1)
-            given = harmonic.fill_slopes(areas, values, len(areas))
+            given = ref.fill_slopes(areas, values, len(areas))
             seen.add(given[0])
             if given[0] == 'ok':
                 self.assert_filled(text, list(zip(areas, values, given[2])))
@@ -745,7 +744,7 @@ class MakingWithoutSlopes(MakingCase):
         for points, _ in curves.random_curves('refused without slopes', 250):
             change = rng.choice([curves.past_limit, curves.shapeless_points])
             areas, values, _ = curves.lists(change(rng, points))
-            given = harmonic.fill_slopes(areas, values, len(areas))
+            given = ref.fill_slopes(areas, values, len(areas))
             if given[0] == 'refused':
                 text, _, lines = some_text(rng, list(zip(areas, values)), 1)
                 self.assert_refused_at(text, *given[1:], lines)

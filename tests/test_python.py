@@ -2,7 +2,7 @@
 
     PYTHONPATH=python FACTOR_CURVES_LIBRARY=... python3 -m unittest tests/test_python.py
 
-Expected answers are exact_fractions.py's and harmonic.py's, or those of documents 01 and 02;
+Expected answers are exact_fractions.py's, or those of documents 01 and 02;
 expected files are curve_file.py's.
 """
 
@@ -32,7 +32,6 @@ sys.path.insert(0, HERE)
 import curves
 import exact_fractions as ref
 import factor_curves as fc
-import harmonic
 from curve_file import curve_file
 from factor_curves import _calls, _library
 
@@ -379,7 +378,7 @@ class Writing(unittest.TestCase):
 
 def filling(areas, values):
     """The reference's answer, where the list for the slopes is as long as the areas."""
-    return wanted(harmonic.fill_slopes, areas, values, len(areas))
+    return wanted(ref.fill_slopes, areas, values, len(areas))
 
 
 class Filling(unittest.TestCase):
