@@ -5,7 +5,7 @@ ghost use lib.ListN.{length};
 ghost use Rattle.harmonic.specs.Fill.{fill-answer, slopes-after};
 ghost use Rattle.exports.specs.Exports.{c-number};
 use exports::refusal;
-use harmonic::Supplied;
+use slopes::Supplied;
 
 #[no_mangle]
 pub extern "C" fn curve_fill_slopes(areas: &[u32], values: &[u32], slopes: &mut [i32]) -> i64
@@ -14,7 +14,7 @@ pub extern "C" fn curve_fill_slopes(areas: &[u32], values: &[u32], slopes: &mut 
     ensures slopes { λ _. ⌜ now (slopes .exit)
         ≡ slopes-after (now (areas .entry)) (now (values .entry)) (now (slopes .entry)) ⌝ }
 {
-    match harmonic::fill_slopes(areas, values, slopes) {
+    match slopes::fill_slopes(areas, values, slopes) {
         Supplied::Refused(number, place) => refusal(number, place),
         Supplied::Points(n) => n as i64,
     }

@@ -13,8 +13,7 @@ use lib.ListN.{length, getD}
 use Rattle.exact.specs.Fraction.{_over_}
 use Rattle.exact.proofs.Order.{difference-of-≤}
 use Rattle.harmonic.specs.Rule.{inner-slope, end-slope, chord-between, slope}
-use Rattle.harmonic.specs.Inner.{Climbing, ChordAt, chord-of, across}
-use Rattle.harmonic.specs.declared.Chord.{Chord}
+use Rattle.harmonic.specs.Inner.{Climbing, ChordAt, slope-of, across, Chord}
 
 difference : (m n F : ℕ) → m ≡ n + F → pos m -ℤ pos n ≡ pos F
 difference m n F e = difference-of-≤ {m = m} {n = n} (omega arith) ∙ ap pos (omega arith)
@@ -44,7 +43,7 @@ module _ {areas values : List ℕ} (k : Climbing areas values) where
       }
 
   chord-slope : {c : Chord} (i j : ℕ) → j ≡ i + 1 → j < length areas → ChordAt areas values i c →
-      chord-between areas values i j ≡ chord-of c
+      chord-between areas values i j ≡ slope-of c
   chord-slope i j e h c =
       let s = k .climbs i (omega arith) in
       rw e (between areas values i (i + 1) _ _ (omega (arith, s .rises, c .rise)) (omega (arith, s .ordered, c .gap)))
@@ -62,13 +61,13 @@ module _ {areas values : List ℕ} (k : Climbing areas values) where
 
   -- ---- the rule's cases
 
-  pub slope-of-two : {c : Chord} (i : ℕ) → length areas ≡ 2 → ChordAt areas values 0 c → slope areas values i ≡ chord-of c
+  pub slope-of-two : {c : Chord} (i : ℕ) → length areas ≡ 2 → ChordAt areas values 0 c → slope areas values i ≡ slope-of c
   unfolding slope
   slope-of-two i e c = rw (eq-eqb (length areas) 2 e) (chord-slope 0 1 (omega arith) (omega arith) c)
 
   module _ (more : length areas ≡ 2 → ⊥) {c d : Chord} (i : ℕ) where
     pub slope-at-first : i ≡ 0 → ChordAt areas values 0 c → ChordAt areas values 1 d →
-        slope areas values i ≡ end-slope (chord-of c) (chord-of d) (across c d)
+        slope areas values i ≡ end-slope (slope-of c) (slope-of d) (across c d)
     unfolding slope
     slope-at-first e m n =
         let size = k .counted .least in
@@ -83,7 +82,7 @@ module _ {areas values : List ℕ} (k : Climbing areas values) where
     pub slope-at-last : (g h : ℕ) → h ≡ g + 1 → i ≡ h + 1 → i + 1 ≡ length areas →
         ChordAt areas values h c →
         ChordAt areas values g d →
-        slope areas values i ≡ end-slope (chord-of c) (chord-of d) (across c d)
+        slope areas values i ≡ end-slope (slope-of c) (slope-of d) (across c d)
     unfolding slope
     slope-at-last g h e f end m n =
         let before : i - 1 ≡ h = omega arith in
@@ -101,7 +100,7 @@ module _ {areas values : List ℕ} (k : Climbing areas values) where
         )
 
     pub slope-inside : (h : ℕ) → i ≡ h + 1 → i + 1 < length areas → ChordAt areas values h c → ChordAt areas values i d →
-        slope areas values i ≡ inner-slope (chord-of c) (chord-of d) (across c d)
+        slope areas values i ≡ inner-slope (slope-of c) (slope-of d) (across c d)
     unfolding slope
     slope-inside h e inner m n =
         let before : i - 1 ≡ h = omega arith in

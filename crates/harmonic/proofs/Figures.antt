@@ -22,8 +22,7 @@ use Rattle.exact.proofs.Tests.{compare}
 use Rattle.exact.proofs.Order as Z
 use Rattle.exact.proofs.Fractions.{NonNeg, positivity}
 use Rattle.harmonic.specs.Rule.{inner-slope, end-slope, hundredths, slope, figure}
-use Rattle.harmonic.specs.Inner.{Climbing, Sized, chord-of, across}
-use Rattle.harmonic.specs.declared.Chord.{Chord}
+use Rattle.harmonic.specs.Inner.{Climbing, Sized, slope-of, across, Chord}
 use Rattle.harmonic.proofs.Quotients.{flat-test, chord-figure, inner-flat, end-flat}
 use Rattle.harmonic.proofs.Chords.{chord, is-chord, slope-of-two, slope-at-first, slope-at-last, slope-inside}
 
@@ -45,13 +44,13 @@ module _ (areas values : List ℕ) (i : ℕ) where
   Only P = (j : ℕ) → j + 1 < length areas → BesidePoint j i → P j
 
   data Kind : Type 0 where
-    single : (own : ℕ) → Sized (c own) → slope areas values i ≡ chord-of (c own) → Only (λ j. j ≡ own) → Kind
+    single : (own : ℕ) → Sized (c own) → slope areas values i ≡ slope-of (c own) → Only (λ j. j ≡ own) → Kind
     at-end : (own other : ℕ) → Sized (c own) → Sized (c other) →
-        slope areas values i ≡ end-slope (chord-of (c own)) (chord-of (c other)) (across (c own) (c other)) →
+        slope areas values i ≡ end-slope (slope-of (c own)) (slope-of (c other)) (across (c own) (c other)) →
         Only (λ j. j ≡ own) →
         Kind
     between : (left right : ℕ) → Sized (c left) → Sized (c right) →
-        slope areas values i ≡ inner-slope (chord-of (c left)) (chord-of (c right)) (across (c left) (c right)) →
+        slope areas values i ≡ inner-slope (slope-of (c left)) (slope-of (c right)) (across (c left) (c right)) →
         Only (λ j. (j ≡ left) ⊎ (j ≡ right)) →
         Kind
 
@@ -98,7 +97,7 @@ pub record Regular (x : Fraction) : Type 0 where
 regular-0 : Regular 0ℚ
 regular-0 = record { proper = search positivity; nonneg = search positivity }
 
-regular-chord : {c : Chord} → Sized c → Regular (chord-of c)
+regular-chord : {c : Chord} → Sized c → Regular (slope-of c)
 regular-chord {c} m =
     let h = Z.pos-<-of-< (m .some) in
     record { proper = search positivity; nonneg = search positivity }
@@ -109,7 +108,7 @@ module _ {c d : Chord} (m : Sized c) (n : Sized d) where
       let h : pos 0 <ℤ pos (c .gap + d .gap) = Z.pos-<-of-< (omega (arith, m .some)) in
       record { proper = search positivity; nonneg = search positivity }
 
-  regular-end : Regular (end-slope (chord-of c) (chord-of d) (across c d))
+  regular-end : Regular (end-slope (slope-of c) (slope-of d) (across c d))
   unfolding end-slope
   regular-end =
       let rc = regular-chord m in
@@ -127,7 +126,7 @@ module _ {c d : Chord} (m : Sized c) (n : Sized d) where
             ])
       ]
 
-  regular-inner : Regular (inner-slope (chord-of c) (chord-of d) (across c d))
+  regular-inner : Regular (inner-slope (slope-of c) (slope-of d) (across c d))
   unfolding inner-slope
   regular-inner =
       let rc = regular-chord m in

@@ -1,6 +1,5 @@
 -- Laws of the harmonic rule.
 pub mod Quotients
-pub mod Sizes
 pub mod Chords
 pub mod Rising
 pub mod Answers

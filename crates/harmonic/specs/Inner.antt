@@ -1,9 +1,9 @@
--- What contracts of inner functions cite. Nothing here need be believed: the call's contract cites document 02's definitions.
+-- What laws and contracts of inner functions cite. Nothing here need be believed: the call's contract cites Rule and Fill.
 --   rated-rows           rows 3, 4 and 6; Counted, row 1 is passed; flat-points, points with slopes 0
 --   Climbs, Climbing     what rows 1, 3, 4 and 6 leave of two neighbouring points, of all points
---   Sized, Beside        the sizes of a chord, of two
+--   Chord                a chord; Sized, Beside, the sizes of one, of two
 --   ChordAt              the chord that begins at an index
---   chord-of             a chord's slope; across, the slope across two chords
+--   slope-of             a chord's slope; across, the slope across two chords
 -- Assumes nothing.
 use mathlib.Core.Path.{_≡_}
 use mathlib.Core.List.{List}
@@ -15,7 +15,6 @@ use Rattle.exact.specs.Fraction.{Fraction, _over_}
 use Rattle.model.specs.Answer.{Answer, _then_, row-at-each}
 use Rattle.model.specs.Points.{points-least, points-most, gap-most, value-most, Point, points}
 use Rattle.harmonic.specs.Fill.{area-and-value-rows, falls}
-use Rattle.harmonic.specs.declared.Chord.{Chord}
 
 -- rows 3 and 4, then 6
 abbrev pub rated-rows : List ℕ → List ℕ → Answer (Unit {0})
@@ -43,6 +42,11 @@ pub record Climbing (areas values : List ℕ) : Type 0 where
   pub counted : Counted areas values
   pub climbs : (i : ℕ) → i + 1 < length areas → Climbs areas values i
 
+-- a chord, by its rise and the gap that it spans
+pub record Chord : Type 0 where
+  pub rise : ℕ
+  pub gap : ℕ
+
 -- the sizes of a chord
 pub record Sized (c : Chord) : Type 0 where
   pub rise : c .rise ≤ value-most
@@ -58,8 +62,8 @@ pub record ChordAt (areas values : List ℕ) (i : ℕ) (c : Chord) : Type 0 wher
   pub gap : c .gap ≡ getD areas (i + 1) 0 - getD areas i 0
   pub sized : Sized c
 
-abbrev pub chord-of : Chord → Fraction
-chord-of c = pos (c .rise) over pos (c .gap)
+abbrev pub slope-of : Chord → Fraction
+slope-of c = pos (c .rise) over pos (c .gap)
 
 abbrev pub across : Chord → Chord → Fraction
 across left right = pos (left .rise + right .rise) over pos (left .gap + right .gap)

@@ -1,7 +1,6 @@
 -- Slopes by the harmonic rule, in document 02's order.
 pub mod Rule
 pub mod Fill
-pub mod Calls
 pub mod Laws
 pub mod Examples
 pub mod Inner

@@ -11,7 +11,7 @@ use mir.Facts.{toZ-ofZ, toZ-pos}
 use Rattle.model.specs.Answer.{refused}
 use Rattle.model.proofs.Numbered.{Numbered}
 use Rattle.harmonic.specs.Fill.{fill-answer}
-use Rattle.harmonic.specs.Calls.{supplied-answer}
+use Rattle.slopes.specs.Calls.{supplied-answer}
 use Rattle.exports.proofs.Numbers.{c-refused, c-given, in-fill}
 use Rattle.export_fill_slopes.proofs.curve_fill_slopes.Statement.{statement}
 use Rattle.export_fill_slopes.proofs.curve_fill_slopes.Tie as tie

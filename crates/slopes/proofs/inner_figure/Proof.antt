@@ -1,12 +1,12 @@
--- `harmonic::inner_figure` meets its contract.
+-- `slopes::inner_figure` meets its contract.
 -- Assumes nothing.
 use mathlib.Core.Path.{sym}
 use native.Mathlib.Omega.{arith}
 use borrow.Author.Needs.{needs}
 use Rattle.harmonic.proofs.Quotients.{inner-flat, inner-figure}
-use Rattle.harmonic.proofs.Sizes.{rises-size, gaps-size, inner-top, inner-bottom, inner-some}
-use Rattle.harmonic.proofs.inner_figure.Statement.{statement}
-use Rattle.harmonic.proofs.inner_figure.Tie as tie
+use Rattle.slopes.proofs.Sizes.{rises-size, gaps-size, inner-top, inner-bottom, inner-some}
+use Rattle.slopes.proofs.inner_figure.Statement.{statement}
+use Rattle.slopes.proofs.inner_figure.Tie as tie
 
 returns : tie.Need-returns
 returns c = sym (inner-flat _ _ _ _ (c .if1 .taken))

@@ -1,12 +1,12 @@
--- `harmonic::first_figure` meets its contract: the chords that are read are those of the rule's case.
+-- `slopes::first_figure` meets its contract: the chords that are read are those of the rule's case.
 -- Assumes nothing.
 use mathlib.Core.Path.{refl, sym, _∙_, ap}
 use native.Mathlib.Omega.{arith}
 use Rattle.harmonic.specs.Rule.{hundredths}
 use Rattle.harmonic.proofs.Quotients.{chord-figure}
 use Rattle.harmonic.proofs.Chords.{slope-of-two, slope-at-first}
-use Rattle.harmonic.proofs.first_figure.Statement.{statement}
-use Rattle.harmonic.proofs.first_figure.Tie as tie
+use Rattle.slopes.proofs.first_figure.Statement.{statement}
+use Rattle.slopes.proofs.first_figure.Tie as tie
 
 returns : tie.Need-returns
 returns c =

@@ -1,12 +1,12 @@
--- `harmonic::end_figure` meets its contract.
+-- `slopes::end_figure` meets its contract.
 -- Assumes nothing.
 use mathlib.Core.Path.{sym}
 use native.Mathlib.Omega.{arith}
 use borrow.Author.Needs.{needs}
 use Rattle.harmonic.proofs.Quotients.{end-flat, far-flat, end-figure}
-use Rattle.harmonic.proofs.Sizes.{end-rises, end-gaps, end-top, end-bottom, end-some}
-use Rattle.harmonic.proofs.end_figure.Statement.{statement}
-use Rattle.harmonic.proofs.end_figure.Tie as tie
+use Rattle.slopes.proofs.Sizes.{end-rises, end-gaps, end-top, end-bottom, end-some}
+use Rattle.slopes.proofs.end_figure.Statement.{statement}
+use Rattle.slopes.proofs.end_figure.Tie as tie
 
 returns : tie.Need-returns
 returns c = sym (end-flat _ _ _ _ (c .if1 .taken))

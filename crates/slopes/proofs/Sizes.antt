@@ -5,8 +5,7 @@ use Prim.Native.Nat.{ℕ, _+_, _*_, _^_, _<_}
 use native.Mathlib.Nat.{zero-mul, mul-pos, pos-of-ne-zero}
 use native.Mathlib.Omega.{arith}
 use Rattle.exact.proofs.Magnitude.{product-size}
-use Rattle.harmonic.specs.Inner.{Beside}
-use Rattle.harmonic.specs.declared.Chord.{Chord}
+use Rattle.harmonic.specs.Inner.{Chord, Beside}
 
 module _ {c d : Chord} (k : Beside c d) where
   pub rises-size : c .rise * d .rise < 2 ^ 36

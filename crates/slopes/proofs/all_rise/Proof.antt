@@ -1,4 +1,4 @@
--- `harmonic::all_rise` meets its contract. The loop's invariant: no row refuses the points to `left`, with slopes 0, or the
+-- `slopes::all_rise` meets its contract. The loop's invariant: no row refuses the points to `left`, with slopes 0, or the
 -- segments between them.
 -- Assumes nothing.
 use mathlib.Core.Path.{_≡_, refl, sym, _∙_}
@@ -14,10 +14,10 @@ use Rattle.model.specs.Inner.{point-at}
 use Rattle.model.specs.Check.{bad-code}
 use Rattle.point.specs.Inner.{earlier, point-of}
 use Rattle.rows.proofs.Passing.{Passing, passing-starts, passing-goes-on, accepted-of}
 use Rattle.harmonic.specs.Inner.{flat-points}
 use Rattle.harmonic.proofs.Rising.{flat-size, flat-rows}
-use Rattle.harmonic.proofs.all_rise.Statement.{statement}
-use Rattle.harmonic.proofs.all_rise.Tie as tie
+use Rattle.slopes.proofs.all_rise.Statement.{statement}
+use Rattle.slopes.proofs.all_rise.Tie as tie
 
 abbrev Inv-loop : tie.InvT-loop
 Inv-loop areas values p₀ last left₀ p left =

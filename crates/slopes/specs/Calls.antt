@@ -2,8 +2,8 @@
 -- Assumes nothing.
 use Prim.Native.Nat.{ℕ}
 use Rattle.model.specs.Answer.{Answer, gives, refused}
-use Rattle.harmonic.specs.declared.Supplied.{Supplied}
-use Rattle.harmonic.specs.declared.Supplied.the-variants as supplied
+use Rattle.slopes.specs.declared.Supplied.{Supplied}
+use Rattle.slopes.specs.declared.Supplied.the-variants as supplied
 
 unfoldable pub supplied-answer : Supplied → Answer ℕ
 supplied-answer (supplied.Points count) = gives count

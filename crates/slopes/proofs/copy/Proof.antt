@@ -1,4 +1,4 @@
--- `harmonic::copy` meets its contract. The loop's invariant: the first i entries are copied.
+-- `slopes::copy` meets its contract. The loop's invariant: the first i entries are copied.
 -- Assumes nothing.
 use mathlib.Core.Path.{_≡_, refl, _∙_}
 use mathlib.Core.List.{List, _++_, append-nil}
@@ -12,8 +12,8 @@ use lib.ListN.{length, getD, take, drop, length-set}
 use lib.Seq.{paste-suc, drop-length}
 use mir.Syntax.{w32}
 use mir.Facts.{toZ-ofZ}
-use Rattle.harmonic.proofs.copy.Statement.{statement}
-use Rattle.harmonic.proofs.copy.Tie as tie
+use Rattle.slopes.proofs.copy.Statement.{statement}
+use Rattle.slopes.proofs.copy.Tie as tie
 
 record Copied (from to₀ to : List ℤ) (i : ℕ) : Type 0 where
   pub most : i ≤ length to₀

@@ -1,4 +1,4 @@
--- `harmonic::fill_slopes` meets its contract.
+-- `slopes::fill_slopes` meets its contract.
 -- Assumes nothing.
 use mathlib.Core.Path.{_≡_, refl, sym, _∙_, ap}
 use mathlib.Core.Bool.{false}
@@ -16,14 +16,14 @@ use Rattle.model.specs.Inner.{Alike}
 use Rattle.model.proofs.Filling.{tabulate-length}
 use Rattle.model.proofs.Rows.{alike-of-row-1, count-of-row-1}
 use Rattle.rows.proofs.Faults.{a-fault, no-fault}
 use Rattle.harmonic.specs.Rule.{figure, figures}
 use Rattle.harmonic.specs.Fill.{fill-answer}
 use Rattle.harmonic.specs.Inner.{rated-rows, Counted}
-use Rattle.harmonic.specs.Calls.{supplied-answer}
+use Rattle.slopes.specs.Calls.{supplied-answer}
 use Rattle.harmonic.proofs.Rising.{climbing-of}
 use Rattle.harmonic.proofs.Answers.{answer-refused, answer-after}
-use Rattle.harmonic.proofs.fill_slopes.Statement.{statement}
-use Rattle.harmonic.proofs.fill_slopes.Tie as tie
+use Rattle.slopes.proofs.fill_slopes.Statement.{statement}
+use Rattle.slopes.proofs.fill_slopes.Tie as tie
 
 returns : tie.Need-returns
 unfolding fill-answer supplied-answer filled row _then_

@@ -1,4 +1,4 @@
--- `harmonic::fill_figures` meets its contract. The loop's invariant: the first i figures are in the first i entries, and none of
+-- `slopes::fill_figures` meets its contract. The loop's invariant: the first i figures are in the first i entries, and none of
 -- them is too steep.
 -- Assumes nothing.
 use mathlib.Core.Path.{_≡_, refl, sym, _∙_, ap}
@@ -17,13 +17,14 @@ use mir.Val.{toZ, ofZ}
 use Rattle.exact.proofs.Tests.{compare}
 use Rattle.model.proofs.Places.{each-first}
 use Rattle.model.proofs.Filling.{Filling, filling-starts, filling-goes-on, filled-up}
 use Rattle.harmonic.specs.Rule.{hundredths, figure}
 use Rattle.harmonic.specs.Fill.{too-steep}
 use Rattle.harmonic.specs.Inner.{ChordAt}
-use Rattle.harmonic.specs.declared.Chord.{Chord}
+use Rattle.slopes.specs.Inner.{chord-of}
+use Rattle.slopes.specs.declared.Chord.{Chord}
 use Rattle.harmonic.proofs.Chords.{slope-inside}
-use Rattle.harmonic.proofs.fill_figures.Statement.{statement}
-use Rattle.harmonic.proofs.fill_figures.Tie as tie
+use Rattle.slopes.proofs.fill_figures.Statement.{statement}
+use Rattle.slopes.proofs.fill_figures.Tie as tie
 
 record Filled (areas values : List ℕ) (out₀ out : List ℤ) (i : ℕ) : Type 0 where
   pub filling : Filling (figure areas values) i out₀ out
@@ -64,7 +65,7 @@ record Filling-up (areas values : List ℕ) (out₀ out : List ℤ) (end i : ℕ
   pub most : i ≤ end
   pub some : 1 ≤ i
   pub filled : (found : List ℤ) → Filled areas values found out₀ 1 → Filled areas values found out i
-  pub before : ChordAt areas values (i - 1) left
+  pub before : ChordAt areas values (i - 1) (chord-of left)
 
 abbrev Inv-loop : tie.InvT-loop
 Inv-loop areas values out₀ first end left₀ i₀ out left i = Filling-up areas values out₀ out end i left

@@ -1,4 +1,4 @@
--- `harmonic::rated_fault` meets its contract.
+-- `slopes::rated_fault` meets its contract.
 -- Assumes nothing.
 use mathlib.Core.Path.{refl, sym, _∙_}
 use borrow.Author.Needs.{needs}
@@ -6,9 +6,9 @@ use lib.IntN.{pos}
 use lib.ListN.{replicate}
 use lib.Seq.{length-take-le}
 use Rattle.rows.proofs.Faults.{no-fault}
 use Rattle.harmonic.proofs.Rising.{zeros-rows}
-use Rattle.harmonic.proofs.rated_fault.Statement.{statement}
-use Rattle.harmonic.proofs.rated_fault.Tie as tie
+use Rattle.slopes.proofs.rated_fault.Statement.{statement}
+use Rattle.slopes.proofs.rated_fault.Tie as tie
 
 returns : tie.Need-returns
 returns c = no-fault 0 refl ∙ sym (c .before .all-rise .ensures (c .if1 .taken))

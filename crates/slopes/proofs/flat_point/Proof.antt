@@ -1,10 +1,10 @@
--- `harmonic::flat_point` meets its contract.
+-- `slopes::flat_point` meets its contract.
 -- Assumes nothing.
 use mathlib.Core.Path.{sym}
 use borrow.Author.Needs.{needs}
 use Rattle.harmonic.proofs.Rising.{flat-at}
-use Rattle.harmonic.proofs.flat_point.Statement.{statement}
-use Rattle.harmonic.proofs.flat_point.Tie as tie
+use Rattle.slopes.proofs.flat_point.Statement.{statement}
+use Rattle.slopes.proofs.flat_point.Tie as tie
 
 returns : tie.Need-returns
 returns c =

@@ -1,11 +1,11 @@
--- `harmonic::chord_at` meets its contract.
+-- `slopes::chord_at` meets its contract.
 -- Assumes nothing.
 use native.Mathlib.Omega.{arith}
 use borrow.Author.Needs.{needs}
 use Rattle.harmonic.specs.Inner.{Climbs}
 use Rattle.harmonic.proofs.Chords.{is-chord}
-use Rattle.harmonic.proofs.chord_at.Statement.{statement}
-use Rattle.harmonic.proofs.chord_at.Tie as tie
+use Rattle.slopes.proofs.chord_at.Statement.{statement}
+use Rattle.slopes.proofs.chord_at.Tie as tie
 
 -- what the rows leave of the two points
 climbs-at : (c : tie.Start) → Climbs (c .args .areas .now) (c .args .values .now) (c .args .i)

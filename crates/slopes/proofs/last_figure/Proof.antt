@@ -1,13 +1,13 @@
--- `harmonic::last_figure` meets its contract.
+-- `slopes::last_figure` meets its contract.
 -- Assumes nothing.
 use mathlib.Core.Path.{sym, _∙_, ap}
 use Prim.Native.Nat.{_-_, _≤_}
 use native.Mathlib.Omega.{arith}
 use lib.ListN.{length}
 use Rattle.harmonic.specs.Rule.{hundredths}
 use Rattle.harmonic.proofs.Chords.{is-chord, slope-of-two, slope-at-last}
-use Rattle.harmonic.proofs.last_figure.Statement.{statement}
-use Rattle.harmonic.proofs.last_figure.Tie as tie
+use Rattle.slopes.proofs.last_figure.Statement.{statement}
+use Rattle.slopes.proofs.last_figure.Tie as tie
 
 returns : tie.Need-returns
 returns c =

@@ -1,0 +1,2 @@
+-- Sizes of products.
+pub mod Sizes
