@@ -12,7 +12,9 @@ returns : tie.Need-returns
 returns c = sym (end-flat _ _ _ _ (c .if1 .taken))
 
 returns-2 : tie.Need-returns-2
-returns-2 c = sym (far-flat _ _ _ _ (search needs) (search needs))
+returns-2 c =
+    let k = c .before .before .before .before .before .before .args in
+    sym (far-flat (k .first .rise) (k .first .gap) (k .second .rise) (k .second .gap) (search needs) (search needs))
 
 returns-3 : tie.Need-returns-3
 returns-3 c = sym (end-figure _ _ _ _ (search needs) (search needs))
