@@ -14,7 +14,7 @@ pub extern "C" fn curve_fill_slopes(areas: &[u32], values: &[u32], slopes: &mut 
     ensures slopes { λ _. ⌜ now (slopes .exit)
         ≡ slopes-after (now (areas .entry)) (now (values .entry)) (now (slopes .entry)) ⌝ }
 {
-    match slopes::fill_slopes(areas, areas, slopes) {
+    match slopes::fill_slopes(areas, values, slopes) {
         Supplied::Refused(number, place) => refusal(number, place),
         Supplied::Points(n) => n as i64,
     }
