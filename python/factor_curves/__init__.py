@@ -40,7 +40,7 @@ from ._calls import (CONVEX, COUNT_MAX, ENTRIES_MAX, FILE_MAX, POINTS_MAX, RISIN
 from ._curve import Curve, Point
 from ._library import LibraryNotFound
 
-__version__ = "0.2.0"
+__version__ = "0.3.0"
 
 __all__ = [
     'CONVEX', 'COUNT_MAX', 'ENTRIES_MAX', 'FILE_MAX', 'POINTS_MAX', 'RISING', 'SCRATCH_ENOUGH',
