@@ -3,19 +3,17 @@
 --   Regular        a slope with a denominator above 0 that is not negative; regular, each slope is
 --   not-negative   no figure is below 0; level, a figure beside a flat chord is 0
 -- Assumes nothing.
-use mathlib.Core.Path.{_≡_, refl, sym, _∙_, ap, subst}
-use mathlib.Core.Bool.{true, false}
+use mathlib.Core.Path.{_≡_, refl, _∙_, ap}
 use mathlib.Core.List.{List}
 use mathlib.Core.Logic.{_⊎_, inl, inr}
-use Prim.Native.Nat.{ℕ, zero, suc, _+_, _-_, _*_, _/_, _<_}
+use Prim.Native.Nat.{ℕ, zero, suc, _+_, _-_, _<_}
 use native.Mathlib.Nat.{zero-mul, mul-zero, zero-div, pos-of-ne-zero}
 use native.Mathlib.Omega.{arith}
-use borrow.Author.Tests.{eqb-true, eq-eqb, ne-eqb}
-use lib.Dec.{eqb}
+use borrow.Author.Tests.{eq-eqb, ne-eqb}
 use lib.IntN.{pos}
 use lib.ListN.{length}
 use lib.Signed.{_≤ℤ_, _<ℤ_}
-use Rattle.exact.specs.Fraction.{Fraction, Proper, _over_, whole, _*ℚ_}
+use Rattle.exact.specs.Fraction.{Fraction, Proper, whole, _*ℚ_}
 use Rattle.exact.specs.Rounding.{floorDiv, floor}
 use Rattle.model.specs.Shape.{0ℚ}
 use Rattle.exact.proofs.Tests.{compare}

@@ -9,12 +9,11 @@ use native.Mathlib.Omega.{arith}
 use lib.IntN.{ℤ, pos}
 use lib.ListN.{length, getD}
 use lib.Seq.{drop-length}
-use lib.Signed.{_≤ℤ_}
 use Rattle.exact.proofs.Tests.{≤-of-ltZ-false}
 use Rattle.exact.proofs.Fractions.{positivity}
 use Rattle.exact.proofs.Floor.{floor-greatest}
 use Rattle.model.specs.Answer.{gives, filled}
-use Rattle.model.specs.Points.{slope-most, segments}
+use Rattle.model.specs.Points.{segments}
 use Rattle.model.specs.Check.{check-answer, on-lists}
 use Rattle.model.proofs.Filling.{tabulate-length, tabulate-at}
 use Rattle.model.proofs.Indexed.{segments-length}

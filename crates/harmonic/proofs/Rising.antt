@@ -4,7 +4,7 @@
 --   climbing-of    what these rows leave
 -- Assumes nothing.
 use mathlib.Core.Path.{_≡_, refl, sym, _∙_, ap}
-use mathlib.Core.Bool.{Bool, true, false, not, _&&_}
+use mathlib.Core.Bool.{Bool, true, false, not}
 use mathlib.Core.List.{List, [], _∷_}
 use mathlib.Core.Logic.{inl, inr}
 use mathlib.Core.Option.{Option, none, some}
@@ -18,7 +18,7 @@ use lib.ListN.{length, getD, take, replicate, length-replicate, getD-replicate}
 use lib.Signed.{_≤ℤ_, leZ}
 use Rattle.exact.proofs.Order as Z
 use Rattle.exact.proofs.Tests.{compare, T-true}
-use Rattle.model.specs.Answer.{Answer, gives, row, _then_, row-at-each}
+use Rattle.model.specs.Answer.{gives, row, _then_, row-at-each}
 use Rattle.model.specs.Points.{points-least, points-most, slope-most, Point, points, Segment, Shape, rising, shape-of}
 use Rattle.model.specs.Shape.{has-shape}
 use Rattle.model.specs.Check.{lengths-differ, bad-count, bad-code, bad-slope, point-rows, curve-rows, on-lists}

@@ -3,14 +3,14 @@
 use mathlib.Core.Path.{_≡_, refl, sym, _∙_, ap}
 use mathlib.Core.Bool.{false}
 use mathlib.Core.List.{List, _++_, append-nil}
-use Prim.Native.Nat.{ℕ, _≤_, _<_}
+use Prim.Native.Nat.{ℕ}
 use native.Mathlib.Omega.{arith}
 use borrow.Author.Needs.{needs}
 use borrow.Author.Tests.{lt-ltb, le-ltb}
 use lib.IntN.{ℤ}
 use lib.ListN.{length, take, drop}
 use lib.Seq.{take-at, drop-length}
-use Rattle.model.specs.Answer.{gives, refused, row, _then_, filled}
+use Rattle.model.specs.Answer.{gives, row, _then_, filled}
 use Rattle.model.specs.Check.{lengths-differ, bad-count}
 use Rattle.model.specs.Inner.{Alike}
 use Rattle.model.proofs.Filling.{tabulate-length}
