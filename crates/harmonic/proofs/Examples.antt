@@ -11,6 +11,7 @@ use Rattle.harmonic.specs.Fill.{area-and-value-rows, falls, too-steep, f
 use Rattle.harmonic.specs.Examples.{FillExamples}
 
 pub fill-examples : FillExamples
-unfolding _over_ whole _+ℚ_ _*ℚ_ _/ℚ_ leℚ eqℚ floorDiv floor round row _then_ row-at-each filled lengths-differ bad-count bad-area bad-value
-    tabulate inner-slope end-slope hundredths chord-between slope area-and-value-rows falls too-steep fill-answer
+unfolding _over_ whole _+ℚ_ _*ℚ_ _/ℚ_ leℚ eqℚ floorDiv floor round row _then_ row-at-each filled
+    lengths-differ bad-count bad-area bad-value tabulate inner-slope end-slope hundredths chord-between slope
+    area-and-value-rows falls too-steep fill-answer
 fill-examples = (refl, refl, refl, refl, refl, refl, refl)

@@ -68,7 +68,8 @@ module _ (areas values : List ℕ) (slopes : List ℤ) (n : ℕ) (e : fill-answe
   passes =
       let rows = suited-rows (g .counted) (figures areas values) (sym (figures-size areas values)) suits ∙ g .rated in
       let k = accepts areas values (figures areas values) 1 0 0 (no-fault 0 refl ∙ sym rows) refl in
-      rw after (on-points k (λ ps. gives (length (segments ps))) ∙ ap gives (segments-length _ ∙ omega (arith, k .size, g .number)))
+      let number = segments-length _ ∙ omega (arith, k .size, g .number) in
+      rw after (on-points k (λ ps. gives (length (segments ps))) ∙ ap gives number)
 
   entry : (i : ℕ) → i < n → getD (slopes-after areas values slopes) i (pos 0) ≡ figure areas values i
   entry i h = rw after (figure-at areas values i (omega (arith, g .number)))
@@ -89,5 +90,7 @@ filled-slopes areas values slopes n e =
           rw (entry areas values slopes n e i h) (floor-greatest _ (search positivity));
       not-negative = λ i h. rw (entry areas values slopes n e i h) (not-negative k i (inside i h));
       again = again areas values slopes n e;
-      same = after areas values (slopes-after areas values slopes) n (again areas values slopes n e) ∙ sym (after areas values slopes n e);
+      same =
+          after areas values (slopes-after areas values slopes) n (again areas values slopes n e)
+          ∙ sym (after areas values slopes n e);
     }

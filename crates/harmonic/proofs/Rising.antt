@@ -59,8 +59,10 @@ rows-3-to-5 i before [] values slopes e f good = refl
 rows-3-to-5 i before (a ∷ areas) [] slopes e f good = absurd (omega arith)
 rows-3-to-5 i before (a ∷ areas) (v ∷ values) [] e f good = absurd (omega arith)
 rows-3-to-5 i before (a ∷ areas) (v ∷ values) (s ∷ slopes) e f good =
-    let later = rows-3-to-5 (suc i) (some a) areas values slopes (omega arith) (omega arith) (λ j h. good (suc j) (omega arith)) in
-    rw (good 0 (omega arith), later)
+    rw (
+      good 0 (omega arith),
+      rows-3-to-5 (suc i) (some a) areas values slopes (omega arith) (omega arith) (λ j h. good (suc j) (omega arith)),
+    )
 
 -- ---- row 6
 

@@ -98,8 +98,8 @@ fn fill_figures(areas: &[u32], values: &[u32], out: &mut [i32]) -> usize
     requires { ⌜ Climbing (now areas) (now values) × (length (now areas) ≤ length (now out)) ⌝ }
     ensures place { λ r. ⌜ first-answer 5 r (length (now (areas .entry)))
         ≡ row-at-each (too-steep (now (areas .entry)) (now (values .entry))) 5 0 (length (now (areas .entry))) ⌝ }
-    ensures list { λ r. ⌜ (length (now (areas .entry)) ≤ r →
-        now (out .exit) ≡ figures (now (areas .entry)) (now (values .entry)) ++ drop (length (now (areas .entry))) (now (out .entry))) ⌝ }
+    ensures list { λ r. ⌜ (length (now (areas .entry)) ≤ r → now (out .exit)
+        ≡ figures (now (areas .entry)) (now (values .entry)) ++ drop (length (now (areas .entry))) (now (out .entry))) ⌝ }
 {
     let first = first_figure(areas, values);
     if first > FIGURE_MOST {

@@ -60,14 +60,14 @@ module _ (areas values : List ℕ) where
             ];
       }
 
-record Filling-up (areas values : List ℕ) (out₀ out : List ℤ) (end i : ℕ) (left : Chord) : Type 0 where
+record FillingUp (areas values : List ℕ) (out₀ out : List ℤ) (end i : ℕ) (left : Chord) : Type 0 where
   pub most : i ≤ end
   pub some : 1 ≤ i
   pub filled : (found : List ℤ) → Filled areas values found out₀ 1 → Filled areas values found out i
   pub before : ChordAt areas values (i - 1) (chord-of left)
 
 abbrev Inv-loop : tie.InvT-loop
-Inv-loop areas values out₀ first end left₀ i₀ out left i = Filling-up areas values out₀ out end i left
+Inv-loop areas values out₀ first end left₀ i₀ out left i = FillingUp areas values out₀ out end i left
 
 abbrev μ-loop : tie.MeasureT-loop
 μ-loop areas values out₀ first end left₀ i₀ out left i = end - i
@@ -77,7 +77,8 @@ entry c = c .before .before .before .before
 
 -- the first figure is in the first entry
 first-filled : (c : tie.Else1 Inv-loop μ-loop) → (let k = entry c .args in
-    Filled (k .areas .now) (k .values .now) (k .out .now) (set (k .out .now) 0 (toZ w32 (ofZ w32 (pos (c .before .first-figure .result))))) 1)
+    Filled (k .areas .now) (k .values .now) (k .out .now)
+    (set (k .out .now) 0 (toZ w32 (ofZ w32 (pos (c .before .first-figure .result))))) 1)
 first-filled c =
     let n = entry c .pre .0 .counted .least in
     goes-on _ _ 0 _ starts (omega (arith, entry c .pre .1)) (c .before .first-figure .ensures) (omega arith)
@@ -118,7 +119,9 @@ inside c =
     let s = entry (in-entry c) in
     omega (arith, size c, k .most, s .pre .1, s .pre .0 .counted .least)
 
-figure-is : (c : tie.After-inner-figure Inv-loop μ-loop) → (let l = c .before .before .before in let k = entry (in-entry l) .args in
+figure-is : (c : tie.After-inner-figure Inv-loop μ-loop) →
+    (let l = c .before .before .before in
+    let k = entry (in-entry l) .args in
     pos (c .inner-figure .result) ≡ figure (k .areas .now) (k .values .now) (l .loop .i))
 figure-is c =
     let l = c .before .before .before in
@@ -160,7 +163,8 @@ module _ (c : tie.After-last-figure Inv-loop μ-loop) where
   abbrev end : ℕ
   end = length (started .args .areas .now) - 1
 
-  filled-to-end : Filled (started .args .areas .now) (started .args .values .now) (started .args .out .now) (at-loop .loop .out) end
+  filled-to-end : (let k = started .args in
+      Filled (k .areas .now) (k .values .now) (k .out .now) (at-loop .loop .out) end)
   filled-to-end =
       let e : at-loop .loop .i ≡ end = omega (arith, at-loop .loop .inv .most, c .before .loop-test .left) in
       filled-at e (filled-to at-loop)

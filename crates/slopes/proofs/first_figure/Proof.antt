@@ -24,7 +24,8 @@ returns-2 c =
 pub first-figure-spec : {M : Type 1} → statement M
 first-figure-spec =
     tie.close
-    (tie.spec (λ c κs. (c .before .before .pre, omega (arith, c .before .before .pre .counted .least))) (omega arith) (omega arith)
+    (tie.spec (λ c κs. (c .before .before .pre, omega (arith, c .before .before .pre .counted .least)))
+    (omega arith) (omega arith)
     returns
     (λ c κs. let k = c .before .before .before .before .pre in (k, omega (arith, k .counted .least, c .if1 .left)))
     (λ c κs. record { one = c .before .before .chord-at .ensures .sized; other = c .chord-at2 .ensures .sized }) returns-2)
