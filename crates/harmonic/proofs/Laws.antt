@@ -13,7 +13,7 @@ use Rattle.exact.proofs.Tests.{≤-of-ltZ-false}
 use Rattle.exact.proofs.Fractions.{positivity}
 use Rattle.exact.proofs.Floor.{floor-greatest}
 use Rattle.model.specs.Answer.{gives, filled}
-use Rattle.model.specs.Points.{segments}
+use Rattle.model.specs.Points.{points, segments}
 use Rattle.model.specs.Check.{check-answer, on-lists}
 use Rattle.model.proofs.Filling.{tabulate-length, tabulate-at}
 use Rattle.model.proofs.Indexed.{segments-length}
@@ -68,7 +68,8 @@ module _ (areas values : List ℕ) (slopes : List ℤ) (n : ℕ) (e : fill-answe
   passes =
       let rows = suited-rows (g .counted) (figures areas values) (sym (figures-size areas values)) suits ∙ g .rated in
       let k = accepts areas values (figures areas values) 1 0 0 (no-fault 0 refl ∙ sym rows) refl in
-      let number = segments-length _ ∙ omega (arith, k .size, g .number) in
+      let ps = points areas values (figures areas values) in
+      let number : length (segments ps) ≡ n - 1 = omega (arith, segments-length ps, k .size, g .number) in
       rw after (on-points k (λ ps. gives (length (segments ps))) ∙ ap gives number)
 
   entry : (i : ℕ) → i < n → getD (slopes-after areas values slopes) i (pos 0) ≡ figure areas values i

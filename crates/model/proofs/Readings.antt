@@ -16,7 +16,8 @@ use Rattle.model.specs.Readings.{bow, ten, TenReadings, kink, FurtherRea
 
 computed : TenReadings × FurtherReadings
 unfolding _over_ whole _+ℚ_ _-ℚ_ _*ℚ_ _/ℚ_ leℚ ltℚ eqℚ floorDiv floor round row _then_ row-at-each
-    gradient points segments shape-of chord p q P Q rational r-rising r-convex rising-curve convex-curve curve interpolant rises bends fits has-shape
+    gradient points segments shape-of chord p q P Q rational r-rising r-convex rising-curve convex-curve curve interpolant
+    rises bends fits has-shape
     lengths-differ bad-count bad-code bad-area bad-value bad-slope point-rows segment-rows curve-rows check-answer on-lists
     taken value-in outside exact-value reading read-answer bad-sheet tabulate sheet-answer sheet-list
     bow ten kink
