@@ -63,9 +63,10 @@ unfolding bad-code
 returns-3 c = λ e.
     let s = c .before .before in
     let k = start s .pre in
-    let least = rw (size s) (k .least) in
-    let most = rw (size s) (k .most) in
-    sym (flat-rows k) ∙ accepted-of (ps s) 1 least most refl (omega (arith, size s)) (c .before .loop .inv .3) .none-applies
+    let accepted =
+    accepted-of (ps s) 1 (rw (size s) (k .least)) (rw (size s) (k .most)) refl (omega (arith, size s))
+    (c .before .loop .inv .3) in
+    sym (flat-rows k) ∙ accepted .none-applies
 
 pub all-rise-spec : {M : Type 1} → statement M
 all-rise-spec =
