@@ -14,11 +14,12 @@ ghost use Rattle.slopes.specs.Calls.{supplied-answer};
 ghost use Rattle.harmonic.specs.Inner.{flat-points, Counted, rated-rows, Climbing, Beside, ChordAt, slope-of, across};
 ghost use Rattle.slopes.specs.Inner.{chord-of};
 use point::Point;
+use point::SLOPE_MOST;
 use rows::Fault;
 use rows::POINTS_MOST;
 
 // The largest figure, compared in 64 bits: before row 5 a figure can be above 2^32.
-const FIGURE_MOST: u64 = 10000;
+const FIGURE_MOST: u64 = SLOPE_MOST as u64;
 
 // A chord, by its rise and the gap that it spans.
 pub struct Chord {
