@@ -3,11 +3,11 @@
 --   Regular        a slope with a denominator above 0 that is not negative; regular, each slope is
 --   not-negative   no figure is below 0; level, a figure beside a flat chord is 0
 -- Assumes nothing.
-use mathlib.Core.Path.{_≡_, refl, _∙_, ap}
+use mathlib.Core.Path.{_≡_, _∙_, ap}
 use mathlib.Core.List.{List}
 use mathlib.Core.Logic.{_⊎_, inl, inr}
-use Prim.Native.Nat.{ℕ, zero, suc, _+_, _-_, _<_}
-use native.Mathlib.Nat.{zero-mul, mul-zero, zero-div, pos-of-ne-zero}
+use Prim.Native.Nat.{ℕ, _+_, _-_, _<_}
+use native.Mathlib.Nat.{zero-mul, mul-zero, zero-div, eq-zero-or-pos}
 use native.Mathlib.Omega.{arith}
 use borrow.Author.Tests.{eq-eqb, ne-eqb}
 use lib.IntN.{pos}
@@ -23,10 +23,6 @@ use Rattle.harmonic.specs.Rule.{inner-slope, end-slope, hundredths, slop
 use Rattle.harmonic.specs.Inner.{Climbing, Sized, slope-of, across, Chord}
 use Rattle.harmonic.proofs.Quotients.{flat-test, chord-figure, inner-flat, end-flat}
 use Rattle.harmonic.proofs.Chords.{chord, is-chord, slope-of-two, slope-at-first, slope-at-last, slope-inside}
-
-zero-or-not : (n : ℕ) → (n ≡ 0) ⊎ (n ≡ 0 → ⊥)
-zero-or-not zero = inl refl
-zero-or-not (suc n) = inr (λ e. omega arith)
 
 -- ---- the rule's cases
 
@@ -59,13 +55,13 @@ module _ {areas values : List ℕ} (k : Climbing areas values) where
   kind : (i : ℕ) → i < length areas → Kind areas values i
   kind i h =
       let least = k .counted .least in
-      elim (zero-or-not (length areas - 2)) [
+      elim (eq-zero-or-pos (length areas - 2)) [
         | inl two ↦
             let e : length areas ≡ 2 = omega arith in
             single 0 (sized 0 (omega arith)) (slope-of-two k i e (is-chord k 0 (omega arith))) (λ j b _. omega arith)
         | inr more ↦
-            let m : length areas ≡ 2 → ⊥ = λ e. more (omega arith) in
-            elim (zero-or-not i) [
+            let m : length areas ≡ 2 → ⊥ = λ e. omega arith in
+            elim (eq-zero-or-pos i) [
               | inl first ↦
                   at-end 0 1 (sized 0 (omega arith)) (sized 1 (omega arith))
                   (slope-at-first k m i first (is-chord k 0 (omega arith)) (is-chord k 1 (omega arith)))
@@ -112,15 +108,15 @@ module _ {c d : Chord} (m : Sized c) (n : Sized d) where
       let rc = regular-chord m in
       let rd = regular-chord n in
       let ra = regular-across in
-      elim (zero-or-not (c .rise)) [
+      elim (eq-zero-or-pos (c .rise)) [
         | inl z ↦ rw (flat-test (c .rise) (c .gap), eq-eqb (c .rise) 0 z) regular-0
         | inr some ↦
-            rw (flat-test (c .rise) (c .gap), ne-eqb (c .rise) 0 some, flat-test (d .rise) (d .gap))
-            (elim (zero-or-not (d .rise)) [
+            rw (flat-test (c .rise) (c .gap), ne-eqb (c .rise) 0 (λ (z : c .rise ≡ 0). omega arith), flat-test (d .rise) (d .gap))
+            (elim (eq-zero-or-pos (d .rise)) [
               | inl z ↦ rw (eq-eqb (d .rise) 0 z) (record { proper = search positivity; nonneg = search positivity })
               | inr other ↦
-                  let up = Z.pos-<-of-< (pos-of-ne-zero other) in
-                  rw (ne-eqb (d .rise) 0 other) (record { proper = search positivity; nonneg = search positivity })
+                  let up = Z.pos-<-of-< (other) in
+                  rw (ne-eqb (d .rise) 0 (λ (z : d .rise ≡ 0). omega arith)) (record { proper = search positivity; nonneg = search positivity })
             ])
       ]
 
@@ -131,15 +127,15 @@ module _ {c d : Chord} (m : Sized c) (n : Sized d) where
       let rd = regular-chord n in
       let ra = regular-across in
       rw (flat-test (c .rise) (c .gap), flat-test (d .rise) (d .gap))
-      (elim (zero-or-not (c .rise)) [
+      (elim (eq-zero-or-pos (c .rise)) [
         | inl z ↦ rw (eq-eqb (c .rise) 0 z) regular-0
         | inr some ↦
             let up : pos 0 <ℤ pos (c .rise + d .rise) =
-            Z.pos-<-of-< (let s = pos-of-ne-zero some in omega arith) in
-            rw (ne-eqb (c .rise) 0 some)
-            (elim (zero-or-not (d .rise)) [
+            Z.pos-<-of-< (omega arith) in
+            rw (ne-eqb (c .rise) 0 (λ (z : c .rise ≡ 0). omega arith))
+            (elim (eq-zero-or-pos (d .rise)) [
               | inl z ↦ rw (eq-eqb (d .rise) 0 z) regular-0
-              | inr other ↦ rw (ne-eqb (d .rise) 0 other) (record { proper = search positivity; nonneg = search positivity })
+              | inr other ↦ rw (ne-eqb (d .rise) 0 (λ (z : d .rise ≡ 0). omega arith)) (record { proper = search positivity; nonneg = search positivity })
             ])
       ])
 

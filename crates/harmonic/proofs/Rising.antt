@@ -4,7 +4,7 @@
 --   climbing-of    what these rows leave
 -- Assumes nothing.
 use mathlib.Core.Path.{_≡_, refl, sym, _∙_, ap}
-use mathlib.Core.Bool.{Bool, true, false, not}
+use mathlib.Core.Bool.{Bool, false, not, Bool·not-not}
 use mathlib.Core.List.{List, [], _∷_}
 use mathlib.Core.Logic.{inl, inr}
 use mathlib.Core.Option.{Option, none, some}
@@ -75,11 +75,7 @@ module _ (ps : List Point) (shape : Shape) (shapeless : ℕ → Bool)
       let h : i + 1 < length ps = omega arith in
       let later = rows-from m (i + 1) (omega arith) in
       sym (segment-turn ps shape i _ _ h refl refl (sym (is i h)))
-      ∙ (rw (not-not (shapeless i), later, add-one i))
-    where
-      not-not : (b : Bool) → not (not b) ≡ b
-      not-not true = refl
-      not-not false = refl
+      ∙ (rw (Bool·not-not (shapeless i), later, add-one i))
 
 -- a segment between such slopes rises unless it falls
 rises : (s : Segment) → pos 0 ≤ℤ s .left .slope → pos 0 ≤ℤ s .right .slope →

@@ -1,7 +1,7 @@
 -- `slopes::fill_slopes` meets its contract.
 -- Assumes nothing.
 use mathlib.Core.Path.{_≡_, refl, sym, _∙_, ap}
-use mathlib.Core.Bool.{false}
+use mathlib.Core.Bool.{true, false}
 use mathlib.Core.List.{List, _++_, append-nil}
 use Prim.Native.Nat.{ℕ}
 use native.Mathlib.Omega.{arith}
@@ -27,7 +27,11 @@ use Rattle.slopes.proofs.fill_slopes.Tie as tie
 
 returns : tie.Need-returns
 unfolding fill-answer supplied-answer filled row _then_
-returns c = (rw (sym (c .before .lengths-differ .ensures) ∙ c .if1 .taken), refl)
+returns c =
+    let k = c .before .before .before .before .args in
+    let e : lengths-differ (length (k .areas .now)) (length (k .values .now)) (length (k .slopes .now)) ≡ true =
+    sym (c .before .lengths-differ .ensures) ∙ c .if1 .taken in
+    (rw e, refl)
 
 -- row 1 is passed
 module _ (c : tie.Else1) where
