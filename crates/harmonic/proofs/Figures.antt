@@ -9,7 +9,6 @@ use mathlib.Core.Logic.{_⊎_, inl, inr}
 use Prim.Native.Nat.{ℕ, _+_, _-_, _<_}
 use native.Mathlib.Nat.{zero-mul, mul-zero, zero-div, eq-zero-or-pos}
 use native.Mathlib.Omega.{arith}
-use borrow.Author.Tests.{eq-eqb, ne-eqb}
 use lib.IntN.{pos}
 use lib.ListN.{length}
 use lib.Signed.{_≤ℤ_, _<ℤ_}
@@ -21,7 +20,7 @@ use Rattle.exact.proofs.Order as Z
 use Rattle.exact.proofs.Fractions.{NonNeg, positivity}
 use Rattle.harmonic.specs.Rule.{inner-slope, end-slope, hundredths, slope, figure}
 use Rattle.harmonic.specs.Inner.{Climbing, Sized, slope-of, across, Chord}
-use Rattle.harmonic.proofs.Quotients.{flat-test, chord-figure, inner-flat, end-flat}
+use Rattle.harmonic.proofs.Quotients.{is-flat, not-flat, chord-figure, inner-flat, end-flat}
 use Rattle.harmonic.proofs.Chords.{chord, is-chord, slope-of-two, slope-at-first, slope-at-last, slope-inside}
 
 -- ---- the rule's cases
@@ -109,14 +108,14 @@ module _ {c d : Chord} (m : Sized c) (n : Sized d) where
       let rd = regular-chord n in
       let ra = regular-across in
       elim (eq-zero-or-pos (c .rise)) [
-        | inl z ↦ rw (flat-test (c .rise) (c .gap), eq-eqb (c .rise) 0 z) regular-0
+        | inl z ↦ rw (is-flat (c .rise) (c .gap) z) regular-0
         | inr some ↦
-            rw (flat-test (c .rise) (c .gap), ne-eqb (c .rise) 0 (λ (z : c .rise ≡ 0). omega arith), flat-test (d .rise) (d .gap))
+            rw (not-flat (c .rise) (c .gap) some)
             (elim (eq-zero-or-pos (d .rise)) [
-              | inl z ↦ rw (eq-eqb (d .rise) 0 z) (record { proper = search positivity; nonneg = search positivity })
+              | inl z ↦ rw (is-flat (d .rise) (d .gap) z) (record { proper = search positivity; nonneg = search positivity })
               | inr other ↦
-                  let up = Z.pos-<-of-< (other) in
-                  rw (ne-eqb (d .rise) 0 (λ (z : d .rise ≡ 0). omega arith)) (record { proper = search positivity; nonneg = search positivity })
+                  let up = Z.pos-<-of-< other in
+                  rw (not-flat (d .rise) (d .gap) other) (record { proper = search positivity; nonneg = search positivity })
             ])
       ]
 
@@ -126,18 +125,17 @@ module _ {c d : Chord} (m : Sized c) (n : Sized d) where
       let rc = regular-chord m in
       let rd = regular-chord n in
       let ra = regular-across in
-      rw (flat-test (c .rise) (c .gap), flat-test (d .rise) (d .gap))
-      (elim (eq-zero-or-pos (c .rise)) [
-        | inl z ↦ rw (eq-eqb (c .rise) 0 z) regular-0
+      elim (eq-zero-or-pos (c .rise)) [
+        | inl z ↦ rw (is-flat (c .rise) (c .gap) z) regular-0
         | inr some ↦
-            let up : pos 0 <ℤ pos (c .rise + d .rise) =
-            Z.pos-<-of-< (omega arith) in
-            rw (ne-eqb (c .rise) 0 (λ (z : c .rise ≡ 0). omega arith))
+            rw (not-flat (c .rise) (c .gap) some)
             (elim (eq-zero-or-pos (d .rise)) [
-              | inl z ↦ rw (eq-eqb (d .rise) 0 z) regular-0
-              | inr other ↦ rw (ne-eqb (d .rise) 0 (λ (z : d .rise ≡ 0). omega arith)) (record { proper = search positivity; nonneg = search positivity })
+              | inl z ↦ rw (is-flat (d .rise) (d .gap) z) regular-0
+              | inr other ↦
+                  let up : pos 0 <ℤ pos (c .rise + d .rise) = Z.pos-<-of-< (omega arith) in
+                  rw (not-flat (d .rise) (d .gap) other) (record { proper = search positivity; nonneg = search positivity })
             ])
-      ])
+      ]
 
 -- ---- figures
 
