@@ -101,23 +101,33 @@ module _ {c d : Chord} (m : Sized c) (n : Sized d) where
       let h : pos 0 <ℤ pos (c .gap + d .gap) = Z.pos-<-of-< (omega (arith, m .some)) in
       record { proper = search positivity; nonneg = search positivity }
 
+  -- the first chord is flat, or only the second, or neither
+  by-rises : {A : Type 0} →
+      (c .rise ≡ 0 → A) →
+      (0 < c .rise → d .rise ≡ 0 → A) →
+      (0 < c .rise → 0 < d .rise → A) →
+      A
+  by-rises first second neither =
+      elim (eq-zero-or-pos (c .rise)) [
+        | inl z ↦ first z
+        | inr up ↦ elim (eq-zero-or-pos (d .rise)) [ inl z ↦ second up z | inr up′ ↦ neither up up′ ]
+      ]
+
   regular-end : Regular (end-slope (slope-of c) (slope-of d) (across c d))
   unfolding end-slope
   regular-end =
       let rc = regular-chord m in
       let rd = regular-chord n in
       let ra = regular-across in
-      elim (eq-zero-or-pos (c .rise)) [
-        | inl z ↦ rw (is-flat (c .rise) (c .gap) z) regular-0
-        | inr some ↦
-            rw (not-flat (c .rise) (c .gap) some)
-            (elim (eq-zero-or-pos (d .rise)) [
-              | inl z ↦ rw (is-flat (d .rise) (d .gap) z) (record { proper = search positivity; nonneg = search positivity })
-              | inr other ↦
-                  let up = Z.pos-<-of-< other in
-                  rw (not-flat (d .rise) (d .gap) other) (record { proper = search positivity; nonneg = search positivity })
-            ])
-      ]
+      by-rises
+      (λ z. rw (is-flat (c .rise) (c .gap) z) regular-0)
+      (λ up z.
+      rw (not-flat (c .rise) (c .gap) up, is-flat (d .rise) (d .gap) z)
+      (record { proper = search positivity; nonneg = search positivity }))
+      (λ up up′.
+      let above = Z.pos-<-of-< up′ in
+      rw (not-flat (c .rise) (c .gap) up, not-flat (d .rise) (d .gap) up′)
+      (record { proper = search positivity; nonneg = search positivity }))
 
   regular-inner : Regular (inner-slope (slope-of c) (slope-of d) (across c d))
   unfolding inner-slope
@@ -125,17 +135,13 @@ module _ {c d : Chord} (m : Sized c) (n : Sized d) where
       let rc = regular-chord m in
       let rd = regular-chord n in
       let ra = regular-across in
-      elim (eq-zero-or-pos (c .rise)) [
-        | inl z ↦ rw (is-flat (c .rise) (c .gap) z) regular-0
-        | inr some ↦
-            rw (not-flat (c .rise) (c .gap) some)
-            (elim (eq-zero-or-pos (d .rise)) [
-              | inl z ↦ rw (is-flat (d .rise) (d .gap) z) regular-0
-              | inr other ↦
-                  let up : pos 0 <ℤ pos (c .rise + d .rise) = Z.pos-<-of-< (omega arith) in
-                  rw (not-flat (d .rise) (d .gap) other) (record { proper = search positivity; nonneg = search positivity })
-            ])
-      ]
+      by-rises
+      (λ z. rw (is-flat (c .rise) (c .gap) z) regular-0)
+      (λ up z. rw (not-flat (c .rise) (c .gap) up, is-flat (d .rise) (d .gap) z) regular-0)
+      (λ up up′.
+      let above : pos 0 <ℤ pos (c .rise + d .rise) = Z.pos-<-of-< (omega arith) in
+      rw (not-flat (c .rise) (c .gap) up, not-flat (d .rise) (d .gap) up′)
+      (record { proper = search positivity; nonneg = search positivity }))
 
 -- ---- figures
 

@@ -1,6 +1,6 @@
 -- Rows 3 to 6 of a rising curve, by its areas and values: slopes that suit the values decide none of them.
 --   Suits          slopes from 0 to 10,000, and 0 at both ends of a level segment; zeros-suit, slopes that are all 0
---   suited-rows    rows 1 to 6 of points with such slopes are rows 3, 4 and 6; unsloped-rows, zeros-rows, with slopes 0
+--   suited-rows    rows 1 to 6 of points with such slopes are rows 3, 4 and 6; zero-slope-rows, zeros-rows, with slopes 0
 --   climbing-of    what these rows leave
 -- Assumes nothing.
 use mathlib.Core.Path.{_≡_, refl, sym, _∙_, ap}
@@ -33,7 +33,7 @@ use Rattle.model.proofs.Accepted.{chained-of}
 use Rattle.model.proofs.Lists.{Fields, fields-of, fields-length, fields-at}
 use Rattle.shape.proofs.Tests.{climbing-shape, level-shape, falling-shape}
 use Rattle.rows.proofs.Faults.{segments-from, segment-turn, segment-end}
-use Rattle.harmonic.specs.Inner.{unsloped-points, rated-rows, Counted, Climbing}
+use Rattle.harmonic.specs.Inner.{zero-slope-points, rated-rows, Counted, Climbing}
 use Rattle.harmonic.specs.Fill.{area-and-value-rows, falls}
 
 pub record Suits (values : List ℕ) (slopes : List ℤ) : Type 0 where
@@ -166,18 +166,18 @@ module _ {areas values : List ℕ} (k : Counted areas values) where
   zeros-size : length areas ≡ length (replicate (length areas) (pos 0))
   zeros-size = sym (length-replicate (length areas) (pos 0))
 
-  unsloped-fields : Fields (unsloped-points areas values) areas values (replicate (length areas) (pos 0))
-  unsloped-fields = fields-of areas values _ (record { values-too = k .same-length; slopes-too = zeros-size })
+  zero-slope-fields : Fields (zero-slope-points areas values) areas values (replicate (length areas) (pos 0))
+  zero-slope-fields = fields-of areas values _ (record { values-too = k .same-length; slopes-too = zeros-size })
 
-  pub unsloped-size : length (unsloped-points areas values) ≡ length areas
-  unsloped-size = fields-length unsloped-fields
+  pub zero-slope-size : length (zero-slope-points areas values) ≡ length areas
+  zero-slope-size = fields-length zero-slope-fields
 
-  pub unsloped-at : (i : ℕ) → i < length areas →
-      point-at (unsloped-points areas values) i ≡ record { area = getD areas i 0; value = getD values i 0; slope = pos 0 }
-  unsloped-at i h = fields-at unsloped-fields i ∙ (rw (getD-replicate (length areas) i (pos 0) (pos 0) h))
+  pub zero-slope-at : (i : ℕ) → i < length areas →
+      point-at (zero-slope-points areas values) i ≡ record { area = getD areas i 0; value = getD values i 0; slope = pos 0 }
+  zero-slope-at i h = fields-at zero-slope-fields i ∙ (rw (getD-replicate (length areas) i (pos 0) (pos 0) h))
 
-  pub unsloped-rows : curve-rows (unsloped-points areas values) 1 ≡ rated-rows areas values
-  unsloped-rows = suited-curve _ zeros-size (zeros-suit values (length areas) (sym (k .same-length)))
+  pub zero-slope-rows : curve-rows (zero-slope-points areas values) 1 ≡ rated-rows areas values
+  zero-slope-rows = suited-curve _ zeros-size (zeros-suit values (length areas) (sym (k .same-length)))
 
   -- as many zeros of a longer list of them
   pub zeros-rows : (n : ℕ) → length areas ≤ n →
@@ -189,13 +189,13 @@ module _ {areas values : List ℕ} (k : Counted areas values) where
   pub climbing-of : rated-rows areas values ≡ gives tt → Climbing areas values
   unfolding falls
   climbing-of pass =
-      let accepted = chained-of (record { none-applies = unsloped-rows ∙ pass }) in
+      let accepted = chained-of (record { none-applies = zero-slope-rows ∙ pass }) in
       let level = then-rest (area-and-value-rows 0 none areas values) _ pass in
       record {
         counted = k;
         climbs = λ i h.
-            let good = chained-at (Good (shape-of 1)) good-ordered accepted i (omega (arith, unsloped-size)) in
-            let ends = rw (unsloped-at i (omega arith), unsloped-at (suc i) (omega arith), ← add-one i) at (good .ends) in
+            let good = chained-at (Good (shape-of 1)) good-ordered accepted i (omega (arith, zero-slope-size)) in
+            let ends = rw (zero-slope-at i (omega arith), zero-slope-at (suc i) (omega arith), ← add-one i) at (good .ends) in
             record {
               ordered = ends .ordered;
               near = ends .near;

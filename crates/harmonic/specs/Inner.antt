@@ -1,5 +1,5 @@
 -- What laws and contracts of inner functions cite. Nothing here need be believed: the call's contract cites Rule and Fill.
---   rated-rows           rows 3, 4 and 6; Counted, row 1 is passed; unsloped-points, points with slopes 0
+--   rated-rows           rows 3, 4 and 6; Counted, row 1 is passed; zero-slope-points, points with slopes 0
 --   Climbs, Climbing     what rows 1, 3, 4 and 6 leave of two neighbouring points, of all points
 --   Chord                a chord; Sized, Beside, the sizes of one, of two
 --   ChordAt              the chord that begins at an index
@@ -28,8 +28,8 @@ pub record Counted (areas values : List ℕ) : Type 0 where
   pub most : length areas ≤ points-most
 
 -- the points with slopes that are all 0
-abbrev pub unsloped-points : List ℕ → List ℕ → List Point
-unsloped-points areas values = points areas values (replicate (length areas) (pos 0))
+abbrev pub zero-slope-points : List ℕ → List ℕ → List Point
+zero-slope-points areas values = points areas values (replicate (length areas) (pos 0))
 
 -- from the point at i to the next
 pub record Climbs (areas values : List ℕ) (i : ℕ) : Type 0 where

@@ -11,7 +11,7 @@ ghost use Rattle.point.specs.Inner.{point-of};
 ghost use Rattle.harmonic.specs.Rule.{inner-slope, end-slope, hundredths, figure, figures};
 ghost use Rattle.harmonic.specs.Fill.{too-steep, fill-answer};
 ghost use Rattle.slopes.specs.Calls.{supplied-answer};
-ghost use Rattle.harmonic.specs.Inner.{unsloped-points, Counted, rated-rows, Climbing, Beside, ChordAt, slope-of, across};
+ghost use Rattle.harmonic.specs.Inner.{zero-slope-points, Counted, rated-rows, Climbing, Beside, ChordAt, slope-of, across};
 ghost use Rattle.slopes.specs.Inner.{chord-of};
 use point::Point;
 use point::SLOPE_MOST;
@@ -141,9 +141,9 @@ fn copy(from: &[i32], to: &mut [i32])
 }
 
 // The point at i, with the slope 0.
-fn unsloped_point(areas: &[u32], values: &[u32], i: usize) -> Point
+fn zero_slope_point(areas: &[u32], values: &[u32], i: usize) -> Point
     requires { ⌜ Counted (now areas) (now values) × (i < length (now areas)) ⌝ }
-    ensures { λ r. ⌜ point-of r ≡ point-at (unsloped-points (now (areas .entry)) (now (values .entry))) i ⌝ }
+    ensures { λ r. ⌜ point-of r ≡ point-at (zero-slope-points (now (areas .entry)) (now (values .entry))) i ⌝ }
 {
     Point {
         area: areas[i],
@@ -157,7 +157,7 @@ fn all_rise(areas: &[u32], values: &[u32]) -> bool
     requires { ⌜ Counted (now areas) (now values) ⌝ }
     ensures { λ r. ⌜ (r ≡ true → rated-rows (now (areas .entry)) (now (values .entry)) ≡ gives tt) ⌝ }
 {
-    let mut p = unsloped_point(areas, values, 0);
+    let mut p = zero_slope_point(areas, values, 0);
     if point::point_fault(true, 0, p) != 0 {
         return false;
     }
@@ -165,7 +165,7 @@ fn all_rise(areas: &[u32], values: &[u32]) -> bool
     let mut left: usize = 0;
     while left < last {
         let right = left + 1;
-        let q = unsloped_point(areas, values, right);
+        let q = zero_slope_point(areas, values, right);
         if !rows::follows(1, p, q) {
             return false;
         }

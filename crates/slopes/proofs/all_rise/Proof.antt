@@ -14,14 +14,14 @@ use Rattle.model.specs.Inner.{point-at}
 use Rattle.model.specs.Check.{bad-code}
 use Rattle.point.specs.Inner.{earlier, point-of}
 use Rattle.rows.proofs.Passing.{Passing, passing-starts, passing-goes-on, accepted-of}
-use Rattle.harmonic.specs.Inner.{unsloped-points}
-use Rattle.harmonic.proofs.Rising.{unsloped-size, unsloped-rows}
+use Rattle.harmonic.specs.Inner.{zero-slope-points}
+use Rattle.harmonic.proofs.Rising.{zero-slope-size, zero-slope-rows}
 use Rattle.slopes.proofs.all_rise.Statement.{statement}
 use Rattle.slopes.proofs.all_rise.Tie as tie
 
 abbrev Inv-loop : tie.InvT-loop
 Inv-loop areas values p₀ last left₀ p left =
-    let ps = unsloped-points areas values in
+    let ps = zero-slope-points areas values in
     (left ≤ last) × (last + 1 ≡ length areas) × (point-of p ≡ point-at ps left) × Passing ps 1 left
 
 abbrev μ-loop : tie.MeasureT-loop
@@ -33,15 +33,15 @@ module _ (c : tie.Else1 Inv-loop μ-loop) where
   start = c .before .before .before .before .before
 
   abbrev ps : List Point
-  ps = unsloped-points (start .args .areas .now) (start .args .values .now)
+  ps = zero-slope-points (start .args .areas .now) (start .args .values .now)
 
   size : length ps ≡ length (start .args .areas .now)
-  size = unsloped-size (start .pre)
+  size = zero-slope-size (start .pre)
 
 loop-holds : tie.Need-loop-holds Inv-loop μ-loop
 unfolding earlier
 loop-holds c =
-    let p = c .before .before .unsloped-point .ensures in
+    let p = c .before .before .zero-slope-point .ensures in
     let f = rw p at (c .before .point-fault .ensures 0) in
     let n = start c .pre .least in
     (omega arith, omega arith, p, passing-starts (ps c) 1 (omega (arith, size c)) (c .if1 .left) f)
@@ -51,7 +51,7 @@ follows-requires c κs = let k = c .before .before .loop .inv in rw (k .2) (k .3
 
 loop-again : tie.Need-loop-again Inv-loop μ-loop
 loop-again c =
-    let q = c .before .before .unsloped-point2 .ensures in
+    let q = c .before .before .zero-slope-point2 .ensures in
     let l = c .before .before .before .before in
     let k = l .loop .inv in
     let t = c .before .before .before .loop-test .taken in
@@ -66,7 +66,7 @@ returns-3 c = λ e.
     let accepted =
     accepted-of (ps s) 1 (rw (size s) (k .least)) (rw (size s) (k .most)) refl (omega (arith, size s))
     (c .before .loop .inv .3) in
-    sym (unsloped-rows k) ∙ accepted .none-applies
+    sym (zero-slope-rows k) ∙ accepted .none-applies
 
 pub all-rise-spec : {M : Type 1} → statement M
 all-rise-spec =
