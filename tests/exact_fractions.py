@@ -112,7 +112,7 @@ def has_shape(areas, values, slopes, shape, segment):
         if F > 0:
             return slopes[left] >= 0 and slopes[right] >= 0
         return F == 0 and slopes[left] == 0 and slopes[right] == 0
-    if h * slopes[left] < 100 * F and h * slopes[right] > 100 * F:
+    if h * slopes[left] < 100 * F < h * slopes[right]:           # (3.22)
         return True
     return h * slopes[left] == 100 * F == h * slopes[right]
 
