@@ -16,7 +16,7 @@ module _ (h F : ℤ) (d₀ d₁ : Fraction) where
       ltℚ 0ℚ (whole F) && leℚ 0ℚ d₀ && leℚ 0ℚ d₁
       || eqℚ (whole F) 0ℚ && eqℚ d₀ 0ℚ && eqℚ d₁ 0ℚ
 
-  -- left slope below chord and chord below right slope, in the order of the report's (3.22); or all three are equal
+  -- left slope below chord and chord below right slope, in the order of the report's (TR/10/83) (3.22); or all three are equal
   unfoldable pub bends : Bool
   bends = ltℚ d₀ (F over h) && ltℚ (F over h) d₁ || eqℚ d₀ (F over h) && eqℚ (F over h) d₁
 

@@ -10,7 +10,7 @@ ghost use Rattle.point.specs.Inner.{segment-of};
 ghost use Rattle.shape.specs.Inner.{SlopesOver};
 use point::Point;
 
-// The slopes of a segment over the denominator 100 h: left end, chord, right end, in the order of the report's (3.22).
+// The slopes of a segment over the denominator 100 h: left end, chord, right end, in the order of (3.22).
 pub struct Slopes {
     pub left: i32,
     pub chord: i32,
@@ -60,7 +60,7 @@ fn rises(p: Point, q: Point) -> bool
     q.slope == 0
 }
 
-// Shape 2: d_i < Δ_i < d_{i+1}, as the report's (3.22) has it for one segment; or all three are equal.
+// Shape 2: d_i < Δ_i < d_{i+1}, as the report's (TR/10/83) (3.22) has it for one segment; or all three are equal.
 fn bends(p: Point, q: Point) -> bool
     requires { ⌜ Neighbours (segment-of p q) ⌝ }
     ensures { λ r. ⌜ r ≡ has-shape Shape.convex (segment-of p q) ⌝ }
