@@ -222,6 +222,13 @@ pub ≤-+ : {x y x' y' : Fraction} → Proper x → Proper y → Proper x' → P
     (field (x ∷ℚ y ∷ℚ x' ∷ℚ y' ∷ℚ []) (search ratios depth 20 fits 9999) tt)
     (search positivity)
 
+-- what is taken off stands on the other side
+pub ≤-from : {x y z : Fraction} → Proper x → Proper y → Proper z → x ≤ℚ y → z -ℚ y ≤ℚ z -ℚ x
+≤-from {x} {y} {z} px py pz h =
+    ≤-by (proper-- pz py) (proper-- pz px) (y -ℚ x) (proper-- py px)
+    (field (x ∷ℚ y ∷ℚ z ∷ℚ []) (search ratios depth 20 fits 9999) tt)
+    (nonneg-difference h)
+
 pub whole-≤-of-≤ : (a b : ℤ) → a ≤ℤ b → whole a ≤ℚ whole b
 unfolding whole
 whole-≤-of-≤ a b h = record { cross = Z.≤-* (Z.nonneg-pos 1) h }

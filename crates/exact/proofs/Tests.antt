@@ -5,7 +5,7 @@
 --   or-left, or-right     the parts of an `||` that is false
 --   compare               a ≤ x or x < a, with the test's result
 --   leZ-not-ltZ           a ≤ b is b < a, negated
---   ≤-of-ltZ-false        a < b is false → b ≤ a
+--   ≤-of-ltZ-false        a < b is false → b ≤ a; ltZ-false-of-≤, the converse
 -- Assumes nothing.
 use mathlib.Core.Path.{_≡_, refl}
 use mathlib.Core.Bool.{Bool, true, false, not, _||_, true≢false}
@@ -14,7 +14,7 @@ use Prim.Native.Nat.{ℕ, _≤_, _<_}
 use borrow.Author.Tests.{leb-true, leb-false, lt-ltb, le-ltb}
 use lib.Dec.{T, leb, ltb}
 use lib.IntN.{ℤ, pos, negsuc}
-use lib.Signed.{_≤ℤ_, leZ, ltZ, ltZ-no}
+use lib.Signed.{_≤ℤ_, leZ, ltZ, ltZ-no, clashℤ}
 
 pub true-or-false : (b : Bool) → (b ≡ true) ⊎ (b ≡ false)
 true-or-false true = inl refl
@@ -52,3 +52,7 @@ leZ-not-ltZ (negsuc a) (negsuc b) = leb-not-ltb b a
 
 pub ≤-of-ltZ-false : {a b : ℤ} → ltZ a b ≡ false → b ≤ℤ a
 ≤-of-ltZ-false e = ltZ-no (rw e tt)
+
+pub ltZ-false-of-≤ : {a b : ℤ} → b ≤ℤ a → ltZ a b ≡ false
+ltZ-false-of-≤ {a} {b} h =
+    elim (true-or-false (ltZ a b)) [ inl e ↦ clashℤ (record { lt = rw e tt }) h | inr e ↦ e ]

@@ -1,5 +1,6 @@
 -- An accepted curve, as a chain of segments that each have their shape.
---   count-of       2 to 64 points; code-of, a code of one byte; limits-of, each point keeps its limits
+--   count-of       2 to 64 points; code-of, a code from 1 to 4; points-pass, segments-pass, rows 3 to 6
+--   limits-of      each point keeps its limits
 --   neighbours-of-rows    points that pass rows 1 and 3 to 5 are a chain; good-of-rows, and row 6 too
 --   chained-of     the points of an accepted curve are a chain of good segments
 --   value-is       the exact value at an area is that of the segment where a walk from the left stops
@@ -17,9 +18,9 @@ use lib.Dec.{T}
 use lib.ListN.{length}
 use Rattle.exact.specs.Rounding.{round}
 use Rattle.model.specs.Answer.{gives, row, _then_}
-use Rattle.model.specs.Points.{points-least, points-most, area-most, Point, Segment, segments, Shape, shape-of}
-use Rattle.model.specs.Interpolant.{interpolant}
-use Rattle.model.specs.Shape.{has-shape}
+use Rattle.model.specs.Points.{points-least, points-most, area-most, Point, Segment, segments, Rule, rule-of}
+use Rattle.model.specs.Interpolant.{exact-curve}
+use Rattle.model.specs.Shape.{segment-test}
 use Rattle.model.specs.Check.{bad-count, bad-code, point-rows, segment-rows, curve-rows}
 use Rattle.model.specs.Read.{value-in, outside, exact-value, reading}
 use Rattle.model.specs.Inner.{Accepted, between, point-at, segment-at, areas-of, Limits, Neighbours, Good}
@@ -35,14 +36,14 @@ neighbour-chain i p (q ∷ ps) l e =
     let m = passed i (some (p .area)) q ps e in
     link (neighbours l m) (neighbour-chain (suc i) q ps (m .limits) (m .later))
 
-good-chain : (shape : Shape) (i : ℕ) {p : Point} {ps : List Point} → Chain Neighbours p ps →
-    segment-rows i shape (segments (p ∷ ps)) ≡ gives tt → Chain (Good shape) p ps
+good-chain : (rule : Rule) (i : ℕ) {p : Point} {ps : List Point} → Chain Neighbours p ps →
+    segment-rows i rule (segments (p ∷ ps)) ≡ gives tt → Chain (Good rule) p ps
 unfolding segments segment-rows
-good-chain shape i end e = end
-good-chain shape i (link {p = p} {q = q} n c) e =
-    let shaped = row-passed (not (has-shape shape (between p q))) 6 i _ e in
-    link (record { ends = n; shaped = subst⁻¹ T (not-false (has-shape shape (between p q)) shaped) tt })
-    (good-chain shape (suc i) c (then-rest (row (not (has-shape shape (between p q))) 6 i) _ e))
+good-chain rule i end e = end
+good-chain rule i (link {p = p} {q = q} n c) e =
+    let shaped = row-passed (not (segment-test rule (between p q))) 6 i _ e in
+    link (record { ends = n; shaped = subst⁻¹ T (not-false (segment-test rule (between p q)) shaped) tt })
+    (good-chain rule (suc i) c (then-rest (row (not (segment-test rule (between p q))) 6 i) _ e))
 
 -- rows 3 to 5, point by point
 limited : (i : ℕ) (before : Option ℕ) (ps : List Point) → point-rows i before ps ≡ gives tt → (j : ℕ) → j < length ps →
@@ -59,62 +60,66 @@ neighbours-of-rows (p ∷ q ∷ ps) h e =
     let m = passed 0 none p (q ∷ ps) e in
     chained (neighbour-chain 1 p (q ∷ ps) (m .limits) (m .later))
 
-pub good-of-rows : (shape : Shape) {ps : List Point} → Chained Neighbours ps → segment-rows 0 shape (segments ps) ≡ gives tt →
-    Chained (Good shape) ps
-good-of-rows shape (chained c) e = chained (good-chain shape 0 c e)
+pub good-of-rows : (rule : Rule) {ps : List Point} → Chained Neighbours ps → segment-rows 0 rule (segments ps) ≡ gives tt →
+    Chained (Good rule) ps
+good-of-rows rule (chained c) e = chained (good-chain rule 0 c e)
 
 module _ {ps : List Point} {code : ℕ} (k : Accepted ps code) where
   pub count-of : (points-least ≤ length ps) × (length ps ≤ points-most)
   unfolding curve-rows
   count-of = count-of-row-1 (length ps) (row-passed (bad-count (length ps)) 1 0 _ (k .none-applies))
 
-  after-1 : (row (bad-code code) 2 0 then point-rows 0 none ps then segment-rows 0 (shape-of code) (segments ps)) ≡ gives tt
+  after-1 : (row (bad-code code) 2 0 then point-rows 0 none ps then segment-rows 0 (rule-of code) (segments ps)) ≡ gives tt
   unfolding curve-rows
   after-1 = then-rest (row (bad-count (length ps)) 1 0) _ (k .none-applies)
 
-  after-2 : (point-rows 0 none ps then segment-rows 0 (shape-of code) (segments ps)) ≡ gives tt
+  after-2 : (point-rows 0 none ps then segment-rows 0 (rule-of code) (segments ps)) ≡ gives tt
   after-2 = then-rest (row (bad-code code) 2 0) _ after-1
 
-  pub code-of : code ≤ 255
+  pub code-of : (1 ≤ code) × (code ≤ 4)
   code-of = code-of-row-2 code (row-passed (bad-code code) 2 0 _ after-1)
 
+  pub points-pass : point-rows 0 none ps ≡ gives tt
+  points-pass = then-first (point-rows 0 none ps) _ after-2
+
+  pub segments-pass : segment-rows 0 (rule-of code) (segments ps) ≡ gives tt
+  segments-pass = then-rest (point-rows 0 none ps) _ after-2
+
   pub limits-of : (i : ℕ) → i < length ps → Limits (point-at ps i)
-  limits-of = limited 0 none ps (then-first (point-rows 0 none ps) _ after-2)
+  limits-of = limited 0 none ps points-pass
 
-  pub chained-of : Chained (Good (shape-of code)) ps
-  chained-of =
-      good-of-rows (shape-of code) (neighbours-of-rows ps (count-of .0) (then-first (point-rows 0 none ps) _ after-2))
-      (then-rest (point-rows 0 none ps) _ after-2)
+  pub chained-of : Chained (Good (rule-of code)) ps
+  chained-of = good-of-rows (rule-of code) (neighbours-of-rows ps (count-of .0) points-pass) segments-pass
 
-  pub stops-inside : (x : ℕ) → outside ps x ≡ false → Inside (Good (shape-of code)) (stop-in ps x) x
-  stops-inside = stop-in-inside (Good (shape-of code)) good-ordered chained-of
+  pub stops-inside : (x : ℕ) → outside ps x ≡ false → Inside (Good (rule-of code)) (stop-in ps x) x
+  stops-inside = stop-in-inside (Good (rule-of code)) good-ordered chained-of
 
   pub area-limit : (x : ℕ) → outside ps x ≡ false → x ≤ area-most
   area-limit x e =
       let i = stops-inside x e in
       le-trans (i .high) (i .good .ends .right .area)
 
-chained-value : {ps : List Point} (code : ℕ) → Chained (Good (shape-of code)) ps → (x : ℕ) →
-    exact-value ps code x ≡ interpolant (shape-of code) (stop-in ps x) x
+chained-value : {ps : List Point} (code : ℕ) → Chained (Good (rule-of code)) ps → (x : ℕ) →
+    exact-value ps code x ≡ exact-curve (rule-of code) (stop-in ps x) x
 unfolding exact-value value-in segments
 chained-value code (chained c) x =
-    ap (λ (s : Segment). interpolant (shape-of code) s x) (taken-is-stop (Good (shape-of code)) good-ordered x c)
+    ap (λ (s : Segment). exact-curve (rule-of code) s x) (taken-is-stop (Good (rule-of code)) good-ordered x c)
 
 pub value-is : {ps : List Point} {code : ℕ} → Accepted ps code → (x : ℕ) →
-    exact-value ps code x ≡ interpolant (shape-of code) (stop-in ps x) x
+    exact-value ps code x ≡ exact-curve (rule-of code) (stop-in ps x) x
 value-is {code = code} k x = chained-value code (chained-of k) x
 
 module _ {ps : List Point} {code i x : ℕ} (k : Accepted ps code) (t : Taken (areas-of ps) i x) where
   stop-is : stop-in ps x ≡ segment-at ps i
-  stop-is = stop-at (Good (shape-of code)) good-ordered (chained-of k) i x t
+  stop-is = stop-at (Good (rule-of code)) good-ordered (chained-of k) i x t
 
-  pub value-at-index : exact-value ps code x ≡ interpolant (shape-of code) (segment-at ps i) x
-  value-at-index = value-is k x ∙ ap (λ (s : Segment). interpolant (shape-of code) s x) stop-is
+  pub value-at-index : exact-value ps code x ≡ exact-curve (rule-of code) (segment-at ps i) x
+  value-at-index = value-is k x ∙ ap (λ (s : Segment). exact-curve (rule-of code) s x) stop-is
 
 module _ {ps : List Point} {code i x : ℕ} (k : Readable ps code i x) where
-  pub inside : Inside (Good (shape-of code)) (segment-at ps i) x
+  pub inside : Inside (Good (rule-of code)) (segment-at ps i) x
   inside = rw (stop-is (k .accepted) (k .taken)) at (stops-inside (k .accepted) x (k .within))
 
-  pub reading-is : reading ps code x ≡ round (interpolant (shape-of code) (segment-at ps i) x)
+  pub reading-is : reading ps code x ≡ round (exact-curve (rule-of code) (segment-at ps i) x)
   unfolding reading
   reading-is = ap round (value-at-index (k .accepted) (k .taken))

@@ -61,7 +61,7 @@ bend-kind h F {d₀} {d₁} t =
 
 -- ---- a curve v does what its closed form x does
 
-≤-of-closed : {v w x y : Fraction} → Closed v x → Closed w y → Proper x → Proper y → x ≤ℚ y → v ≤ℚ w
+pub ≤-of-closed : {v w x y : Fraction} → Closed v x → Closed w y → Proper x → Proper y → x ≤ℚ y → v ≤ℚ w
 ≤-of-closed a b p q h =
     Q.≤-trans (a .proper) p (b .proper) (Q.≤-of-≈ (a .same))
     (Q.≤-trans p q (b .proper) h (Q.≤-of-≈ (Q.≈-sym (b .same))))

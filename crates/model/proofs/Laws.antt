@@ -15,28 +15,30 @@ use native.Mathlib.Omega.{arith}
 use lib.IntN.{ℤ, pos, _+ℤ_, _-ℤ_, _*ℤ_}
 use lib.ListN.{length, getD, length-map, length-append, List·getD-map}
 use lib.Signed.{_≤ℤ_}
-use Rattle.exact.specs.Fraction.{Fraction, Proper, whole, _+ℚ_, _-ℚ_, _*ℚ_, _≤ℚ_, _<ℚ_}
+use Rattle.exact.specs.Fraction.{Fraction, Proper, whole, _+ℚ_, _-ℚ_, _*ℚ_, _≈ℚ_, _≤ℚ_}
 use Rattle.exact.specs.Rounding.{half}
 use Rattle.exact.specs.Inner.{HalfUp}
 use Rattle.exact.proofs.Order as Z
 use Rattle.exact.proofs.Field.{field, ratios, _∷ℚ_}
 use Rattle.exact.proofs.Fractions as Q
-use Rattle.exact.proofs.Fractions.{propers, positivity, <-of-whole-<}
+use Rattle.exact.proofs.Fractions.{Positive, NonNeg, propers, positivity, <-of-whole-<}
 use Rattle.exact.proofs.Rounding.{round-rounding, round-is-half-up, rounding-at-whole}
-use Rattle.model.specs.Points.{Point, Segment, Shape, rising, convex, shape-of}
-use Rattle.model.specs.Interpolant.{interpolant}
+use Rattle.model.specs.Points.{value-most, Point, Segment, Shape, rising, convex, Rule, plain, rule-of}
+use Rattle.model.specs.Interpolant.{interpolant, exact-curve}
 use Rattle.model.specs.Read.{reading}
-use Rattle.model.specs.Laws.{Curve, Area, exact, SegmentsMeet, ConvexChords}
+use Rattle.model.specs.Laws.{Curve, Area, exact, SegmentsMeet, chord-slope, ConvexChords, ConcaveChords}
 use Rattle.model.specs.Inner.{Accepted, origin, point-at, segment-at, areas-of, Good, Inside, Taken}
 use Rattle.model.proofs.ClosedForm.{Closed}
-use Rattle.model.proofs.Codes.{rising-of-1, convex-of-2}
+use Rattle.model.proofs.Curves.{≤-of-closed}
+use Rattle.model.proofs.Codes.{rule-of-1, rule-of-2}
 use Rattle.exact.proofs.Tests.{compare}
 use Rattle.model.proofs.Walk.{good-ordered}
-use Rattle.model.proofs.Segments.{interpolant-proper, interpolant-left, interpolant-right}
+use Rattle.model.proofs.Mirror.{curve-proper, curve-left, curve-right}
 use Rattle.model.proofs.Range.{Ranged, value-range, ReadingRange, reading-range}
 use Rattle.model.proofs.Relations.{rising-spreads, curve-slope, curve-slope-proper, Supports, convex-spreads}
 use Rattle.model.proofs.Relations.{Line, _under_, chord-proper, chord-≤-slope, slope-≤-chord}
 use Rattle.model.proofs.Indexed.{Chained, chained-at, stop-in, across-chained, point-at-append, segment-at-append}
+use Rattle.model.proofs.MirrorCurve.{mirror-accepted, mirror-curve, mirror-area}
 use Rattle.model.proofs.Accepted.{count-of, chained-of, stops-inside, value-is, value-at-index}
 
 module _ (c : Curve) where
@@ -46,27 +48,32 @@ module _ (c : Curve) where
   abbrev pub factor : ℕ → ℤ
   factor x = reading (c .points) (c .code) x
 
-  abbrev shape : Shape
-  shape = shape-of (c .code)
+  abbrev rule : Rule
+  rule = rule-of (c .code)
 
   -- the segment that an area takes
   abbrev segment-taken : ℕ → Segment
   segment-taken x = stop-in (c .points) x
 
-  segment-inside : (x : ℕ) → Area c x → Inside (Good shape) (segment-taken x) x
+  segment-inside : (x : ℕ) → Area c x → Inside (Good rule) (segment-taken x) x
   segment-inside x k = stops-inside curve-accepted x (k .within)
 
-  good-at : (i : ℕ) → suc i < length (c .points) → Good shape (segment-at (c .points) i)
-  good-at = chained-at (Good shape) good-ordered (chained-of curve-accepted)
+  good-at : (i : ℕ) → suc i < length (c .points) → Good rule (segment-at (c .points) i)
+  good-at = chained-at (Good rule) good-ordered (chained-of curve-accepted)
 
 -- ---- values and factors
 
 pub values-are-proper : (c : Curve) (x : ℕ) → Area c x → Proper (exact c x)
-values-are-proper c x k = rw (value-is (curve-accepted c) x) (interpolant-proper (segment-inside c x k))
+values-are-proper c x k = rw (value-is (curve-accepted c) x) (curve-proper (segment-inside c x k))
 
 pub factors-are-near : (c : Curve) (x : ℕ) → Area c x → HalfUp (exact c x) (factor c x)
 unfolding reading
 factors-are-near c x k = round-is-half-up (exact c x) (values-are-proper c x k)
+
+factors-keep-order : (c : Curve) (x y : ℕ) → Area c x → Area c y → exact c x ≤ℚ exact c y → factor c x ≤ℤ factor c y
+unfolding reading
+factors-keep-order c x y kx ky =
+    round-rounding .keeps-order (exact c x) (exact c y) (values-are-proper c x kx) (values-are-proper c y ky)
 
 pub factors-are-ranged : (c : Curve) (x : ℕ) → Area c x → ReadingRange (factor c x)
 unfolding reading
@@ -80,9 +87,9 @@ pub segments-meet : (c : Curve) → SegmentsMeet c
 segments-meet c before after p q e =
     let n = ap length e ∙ length-append before (p ∷ q ∷ after) in
     let s = ap (λ (ps : List Point). segment-at ps (length before)) e ∙ segment-at-append before after p q in
-    let g = subst (Good (shape c)) s (good-at c (length before) (omega arith)) in
-    let l = interpolant-left g in
-    let r = interpolant-right g in
+    let g = subst (Good (rule c)) s (good-at c (length before) (omega arith)) in
+    let l = curve-left g in
+    let r = curve-right g in
     (record { proper = l .proper; value = l .same }, record { proper = r .proper; value = r .same })
 
 module _ (c : Curve) where
@@ -105,7 +112,7 @@ module _ (c : Curve) where
         reached = record { inner = rw areas-length n; low = le-of-eq (areas-at i) };
         high = inl (rw (areas-at (suc i)) (g .ends .ordered));
       } in
-      rw (value-at-index (curve-accepted c) taken) (interpolant-left g)
+      rw (value-at-index (curve-accepted c) taken) (curve-left g)
 
   -- the last is the right end of the last segment
   rated-right : (k : ℕ) → suc (suc k) ≡ length (c .points) → Rated (suc k)
@@ -116,7 +123,7 @@ module _ (c : Curve) where
         reached = record { inner = rw areas-length n; low = rw (areas-at k) (le-of-lt (g .ends .ordered)) };
         high = inr (e ∙ sym areas-length);
       } in
-      rw (value-at-index (curve-accepted c) taken) (interpolant-right g)
+      rw (value-at-index (curve-accepted c) taken) (curve-right g)
 
   rated-last : (i : ℕ) → suc i ≡ length (c .points) → Rated i
   rated-last zero e = absurd (let n = count-of (curve-accepted c) .0 in omega arith)
@@ -141,23 +148,20 @@ rated-points-read c before after p e =
 -- ---- rising
 
 -- the value at x, on a curve of a known shape
-value-as : (c : Curve) {shape : Shape} → shape-of (c .code) ≡ shape → (x : ℕ) →
-    exact c x ≡ interpolant shape (segment-taken c x) x
-value-as c e x = value-is (curve-accepted c) x ∙ ap (λ (sh : Shape). interpolant sh (segment-taken c x) x) e
+value-as : (c : Curve) {shape : Shape} → rule c ≡ plain shape → (x : ℕ) → exact c x ≡ interpolant shape (segment-taken c x) x
+unfolding exact-curve
+value-as c e x = value-is (curve-accepted c) x ∙ ap (λ (r : Rule). exact-curve r (segment-taken c x) x) e
 
-chained-as : (c : Curve) {shape : Shape} → shape-of (c .code) ≡ shape → Chained (Good shape) (c .points)
-chained-as c e = subst (λ (sh : Shape). Chained (Good sh) (c .points)) e (chained-of (curve-accepted c))
+chained-as : (c : Curve) {shape : Shape} → rule c ≡ plain shape → Chained (Good (plain shape)) (c .points)
+chained-as c e = subst (λ (r : Rule). Chained (Good r) (c .points)) e (chained-of (curve-accepted c))
 
 rising-values : (c : Curve) → c .code ≡ 1 → (x y : ℕ) → Area c x → Area c y → x ≤ y → exact c x ≤ℚ exact c y
 rising-values c e x y kx ky h =
-    subst₂ (λ (v w : Fraction). v ≤ℚ w) (sym (value-as c (rising-of-1 e) x)) (sym (value-as c (rising-of-1 e) y))
-    (across-chained (Good rising) good-ordered rising-spreads (chained-as c (rising-of-1 e)) x y (kx .within) (ky .within) h)
+    subst₂ (λ (v w : Fraction). v ≤ℚ w) (sym (value-as c (rule-of-1 e) x)) (sym (value-as c (rule-of-1 e) y))
+    (across-chained (Good (plain rising)) good-ordered rising-spreads (chained-as c (rule-of-1 e)) x y (kx .within) (ky .within) h)
 
 pub rising-factors : (c : Curve) → c .code ≡ 1 → (x y : ℕ) → Area c x → Area c y → x ≤ y → factor c x ≤ℤ factor c y
-unfolding reading
-rising-factors c e x y kx ky h =
-    round-rounding .keeps-order (exact c x) (exact c y) (values-are-proper c x kx) (values-are-proper c y ky)
-    (rising-values c e x y kx ky h)
+rising-factors c e x y kx ky h = factors-keep-order c x y kx ky (rising-values c e x y kx ky h)
 
 -- ---- convex
 
@@ -168,11 +172,11 @@ module _ (c : Curve) (e : c .code ≡ 2) where
 
   supports-across : (x y : ℕ) → Area c x → Area c y → x ≤ y → Supports (segment-taken c x) x (segment-taken c y) y
   supports-across x y kx ky h =
-      across-chained (Good convex) good-ordered convex-spreads (chained-as c (convex-of-2 e)) x y (kx .within) (ky .within) h
+      across-chained (Good (plain convex)) good-ordered convex-spreads (chained-as c (rule-of-2 e)) x y (kx .within) (ky .within) h
 
   σ-proper : (x : ℕ) → Area c x → Proper (σ x)
   σ-proper x k =
-      curve-slope-proper (subst (λ (sh : Shape). Inside (Good sh) (segment-taken c x) x) (convex-of-2 e) (segment-inside c x k))
+      curve-slope-proper (subst (λ (r : Rule). Inside (Good r) (segment-taken c x) x) (rule-of-2 e) (segment-inside c x k))
 
   abbrev tangent-at : (x : ℕ) → Area c x → Line
   tangent-at x k =
@@ -181,11 +185,17 @@ module _ (c : Curve) (e : c .code ≡ 2) where
   -- the tangent at x is nowhere above the curve
   tangent-under : (x z : ℕ) (kx : Area c x) (kz : Area c z) → tangent-at x kx under tangent-at z kz
   tangent-under x z kx kz =
-      rw (value-as c (convex-of-2 e) x, value-as c (convex-of-2 e) z)
+      rw (value-as c (rule-of-2 e) x, value-as c (rule-of-2 e) z)
       (elim (compare x z) [
         | inl (h, t) ↦ supports-across x z kx kz h .rightwards
         | inr (h, t) ↦ supports-across z x kz kx (le-of-lt h) .leftwards
       ])
+
+chord-slope-proper : (c : Curve) (x y : ℕ) → Area c x → Area c y → x < y → Proper (chord-slope c x y)
+chord-slope-proper c x y kx ky h =
+    let p = values-are-proper c x kx in
+    let q = values-are-proper c y ky in
+    search (positivity, Z.pos-<-of-<)
 
 -- the chord to the left, the slopes at its right end and at the other's left end, the chord to the right
 pub convex-chords : (c : Curve) → ConvexChords c
@@ -213,34 +223,118 @@ module _ (v₀ v₁ v₂ s : Fraction) (x k : ℤ) (p₀ : Proper v₀) (p₁ : 
       (search ratios depth 30 fits 9999) tt)
       (Q.nonneg-+ (search propers) (search propers) (Q.nonneg-difference h) (Q.nonneg-difference m))
 
--- their roundings: r₀ and r₂ are less than half a unit below, r₁ is at most half a unit above
-module _ (v₀ v₁ v₂ : Fraction) (r₀ r₁ r₂ : ℤ) (p₀ : Proper v₀) (p₁ : Proper v₁) (p₂ : Proper v₂) where
-  abbrev margin : Fraction
-  margin =
-      (whole r₀ -ℚ (v₀ -ℚ half))
-      +ℚ ((whole r₂ -ℚ (v₂ -ℚ half)) +ℚ (whole (pos 2) *ℚ (v₁ +ℚ half -ℚ whole r₁) +ℚ (v₀ +ℚ v₂ -ℚ whole (pos 2) *ℚ v₁)))
+-- a whole number that is less than the next after y by what is above 0
+steps-≤ : {x y : ℤ} (p q n m : Fraction) → Proper p → Proper q → Proper n → Proper m →
+    Positive p → NonNeg q → NonNeg n → NonNeg m →
+    whole (y +ℤ pos 1) -ℚ whole x ≈ℚ p +ℚ (q +ℚ (n +ℚ m)) → x ≤ℤ y
+steps-≤ p q n m pp pq pn pm kp kq kn km e =
+    Z.≤-of-<-next (<-of-whole-< _ _ (Q.<-by (search propers) (search propers) _ (search propers) e
+    (Q.positive-+ pp (search propers) kp (Q.nonneg-+ pq (search propers) kq (Q.nonneg-+ pn pm kn km)))))
 
-  rounded-steps : v₀ -ℚ half <ℚ whole r₀ →
-      whole r₁ ≤ℚ v₁ +ℚ half →
-      v₂ -ℚ half <ℚ whole r₂ →
-      whole (pos 2) *ℚ v₁ ≤ℚ v₀ +ℚ v₂ →
-      (r₁ -ℤ r₀ -ℤ pos 1) ≤ℤ (r₂ -ℤ r₁)
-  rounded-steps h₀ h₁ h₂ m =
+-- three roundings: each is at most half a unit above its value and less than half a unit below
+module _ {v₀ v₁ v₂ : Fraction} {r₀ r₁ r₂ : ℤ} (p₀ : Proper v₀) (p₁ : Proper v₁) (p₂ : Proper v₂)
+    (k₀ : HalfUp v₀ r₀) (k₁ : HalfUp v₁ r₁) (k₂ : HalfUp v₂ r₂) where
+  convex-rounded : whole (pos 2) *ℚ v₁ ≤ℚ v₀ +ℚ v₂ → (r₁ -ℤ r₀ -ℤ pos 1) ≤ℤ (r₂ -ℤ r₁)
+  convex-rounded m =
       let q : Proper half = search positivity in
-      Z.≤-of-<-next (<-of-whole-< _ _ (Q.<-by (search propers) (search propers) margin (search positivity depth 9)
-      (field
-      (v₀ ∷ℚ v₁ ∷ℚ v₂ ∷ℚ r₀ ∷ r₁ ∷ r₂ ∷ [])
-      (search ratios depth 30 fits 9999) tt)
-      (Q.positive-+ (search propers) (search propers depth 9) (Q.positive-difference h₀)
-      (Q.nonneg-+ (search propers) (search propers depth 9) (Q.nonneg-of-positive (Q.positive-difference h₂))
-      (Q.nonneg-+ (search propers) (search propers) (Q.nonneg-* (search positivity) (Q.nonneg-difference h₁))
-      (Q.nonneg-difference m))))))
+      steps-≤ (whole r₀ -ℚ (v₀ -ℚ half)) (whole r₂ -ℚ (v₂ -ℚ half)) (whole (pos 2) *ℚ (v₁ +ℚ half -ℚ whole r₁))
+      (v₀ +ℚ v₂ -ℚ whole (pos 2) *ℚ v₁) (search propers) (search propers) (search propers) (search propers)
+      (Q.positive-difference (k₀ .above)) (Q.nonneg-of-positive (Q.positive-difference (k₂ .above)))
+      (Q.nonneg-* (search positivity) (Q.nonneg-difference (k₁ .below))) (Q.nonneg-difference m)
+      (field (v₀ ∷ℚ v₁ ∷ℚ v₂ ∷ℚ r₀ ∷ r₁ ∷ r₂ ∷ []) (search ratios depth 30 fits 9999) tt)
+
+  concave-rounded : v₀ +ℚ v₂ ≤ℚ whole (pos 2) *ℚ v₁ → (r₂ -ℤ r₁) ≤ℤ (r₁ -ℤ r₀ +ℤ pos 1)
+  concave-rounded m =
+      let q : Proper half = search positivity in
+      steps-≤ (whole (pos 2) *ℚ (whole r₁ -ℚ (v₁ -ℚ half))) (v₀ +ℚ half -ℚ whole r₀) (v₂ +ℚ half -ℚ whole r₂)
+      (whole (pos 2) *ℚ v₁ -ℚ (v₀ +ℚ v₂)) (search propers) (search propers) (search propers) (search propers)
+      (Q.positive-* (search positivity) (Q.positive-difference (k₁ .above)))
+      (Q.nonneg-difference (k₀ .below)) (Q.nonneg-difference (k₂ .below)) (Q.nonneg-difference m)
+      (field (v₀ ∷ℚ v₁ ∷ℚ v₂ ∷ℚ r₀ ∷ r₁ ∷ r₂ ∷ []) (search ratios depth 30 fits 9999) tt)
+
+-- three areas equally far apart
+module _ (c : Curve) (x k : ℕ) (k₀ : Area c x) (k₁ : Area c (x + k)) (k₂ : Area c (x + 2 * k)) where
+  p₀ : Proper (exact c x)
+  p₀ = values-are-proper c x k₀
+
+  p₁ : Proper (exact c (x + k))
+  p₁ = values-are-proper c (x + k) k₁
+
+  p₂ : Proper (exact c (x + 2 * k))
+  p₂ = values-are-proper c (x + 2 * k) k₂
+
+  convex-middle : c .code ≡ 2 → whole (pos 2) *ℚ exact c (x + k) ≤ℚ exact c x +ℚ exact c (x + 2 * k)
+  convex-middle e =
+      twice-middle-≤ _ _ _ _ (pos x) (pos k) p₀ p₁ p₂ (σ-proper c e (x + k) k₁)
+      (tangent-under c e (x + k) x k₁ k₀) (tangent-under c e (x + k) (x + 2 * k) k₁ k₂)
 
 pub convex-steps : (c : Curve) → c .code ≡ 2 → (x k : ℕ) → Area c x → Area c (x + k) → Area c (x + 2 * k) →
     (factor c (x + k) -ℤ factor c x -ℤ pos 1) ≤ℤ (factor c (x + 2 * k) -ℤ factor c (x + k))
 convex-steps c e x k k₀ k₁ k₂ =
     let p = values-are-proper c in
-    rounded-steps _ _ _ _ _ _ (p x k₀) (p (x + k) k₁) (p (x + 2 * k) k₂)
-    (factors-are-near c x k₀ .above) (factors-are-near c (x + k) k₁ .below) (factors-are-near c (x + 2 * k) k₂ .above)
-    (twice-middle-≤ _ _ _ _ (pos x) (pos k) (p x k₀) (p (x + k) k₁) (p (x + 2 * k) k₂) (σ-proper c e (x + k) k₁)
-    (tangent-under c e (x + k) x k₁ k₀) (tangent-under c e (x + k) (x + 2 * k) k₁ k₂))
+    let near = factors-are-near c in
+    convex-rounded (p x k₀) (p (x + k) k₁) (p (x + 2 * k) k₂) (near x k₀) (near (x + k) k₁) (near (x + 2 * k) k₂)
+    (convex-middle c x k k₀ k₁ k₂ e)
+
+-- ---- falling and concave: rising and convex, mirrored
+
+module _ (c : Curve) (m : 2 < c .code) where
+  abbrev mirror : Curve
+  mirror = mirror-curve c m
+
+  exact-is : (x : ℕ) → exact c x ≡ whole (pos value-most) -ℚ exact mirror x
+  exact-is = mirror-accepted c m .1
+
+  mirror-proper : (x : ℕ) → Area c x → Proper (exact mirror x)
+  mirror-proper x k = values-are-proper mirror x (mirror-area c m x k)
+
+  -- the slope of a chord changes sign
+  chord-flips : (x y : ℕ) → chord-slope c x y ≈ℚ whole (pos 0) -ℚ chord-slope mirror x y
+  chord-flips x y =
+      rw (exact-is x, exact-is y)
+      (field (exact mirror x ∷ℚ exact mirror y ∷ℚ pos x ∷ pos y ∷ []) (search ratios depth 30 fits 9999) tt)
+
+falling-values : (c : Curve) → c .code ≡ 3 → (x y : ℕ) → Area c x → Area c y → x ≤ y → exact c y ≤ℚ exact c x
+falling-values c e x y kx ky h =
+    let m : 2 < c .code = omega arith in
+    rw (exact-is c m x, exact-is c m y)
+    (Q.≤-from (mirror-proper c m x kx) (mirror-proper c m y ky) (search propers)
+    (rising-values (mirror c m) (omega arith) x y (mirror-area c m x kx) (mirror-area c m y ky) h))
+
+pub falling-factors : (c : Curve) → c .code ≡ 3 → (x y : ℕ) → Area c x → Area c y → x ≤ y → factor c y ≤ℤ factor c x
+falling-factors c e x y kx ky h = factors-keep-order c y x ky kx (falling-values c e x y kx ky h)
+
+pub concave-chords : (c : Curve) → ConcaveChords c
+concave-chords c e x₁ x₂ x₃ x₄ k₁ k₂ k₃ k₄ h m h' =
+    let l : 2 < c .code = omega arith in
+    let a = mirror-area c l in
+    let p = chord-slope-proper c x₁ x₂ k₁ k₂ h in
+    let p' = chord-slope-proper c x₃ x₄ k₃ k₄ h' in
+    let (q, q', o) = convex-chords (mirror c l) (omega arith) x₁ x₂ x₃ x₄ (a x₁ k₁) (a x₂ k₂) (a x₃ k₃) (a x₄ k₄) h m h' in
+    (p, p', ≤-of-closed (record { proper = p'; same = chord-flips c l x₃ x₄ }) (record { proper = p; same = chord-flips c l x₁ x₂ })
+    (search propers) (search propers) (Q.≤-from q q' (search propers) o))
+
+-- of three areas equally far apart, twice the middle value is at least the sum of the outer ones
+concave-middle : (c : Curve) (x k : ℕ) → Area c x → Area c (x + k) → Area c (x + 2 * k) → c .code ≡ 4 →
+    exact c x +ℚ exact c (x + 2 * k) ≤ℚ whole (pos 2) *ℚ exact c (x + k)
+concave-middle c x k k₀ k₁ k₂ e =
+    let l : 2 < c .code = omega arith in
+    let a = mirror-area c l in
+    let p₀ = mirror-proper c l x k₀ in
+    let p₁ = mirror-proper c l (x + k) k₁ in
+    let p₂ = mirror-proper c l (x + 2 * k) k₂ in
+    let v₀ = exact (mirror c l) x in
+    let v₁ = exact (mirror c l) (x + k) in
+    let v₂ = exact (mirror c l) (x + 2 * k) in
+    rw (exact-is c l x, exact-is c l (x + k), exact-is c l (x + 2 * k))
+    (Q.≤-by (search propers) (search propers) (v₀ +ℚ v₂ -ℚ whole (pos 2) *ℚ v₁) (search propers)
+    (field (v₀ ∷ℚ v₁ ∷ℚ v₂ ∷ℚ []) (search ratios depth 30 fits 9999) tt)
+    (Q.nonneg-difference (convex-middle (mirror c l) x k (a x k₀) (a (x + k) k₁) (a (x + 2 * k) k₂) (omega arith))))
+
+pub concave-steps : (c : Curve) → c .code ≡ 4 → (x k : ℕ) → Area c x → Area c (x + k) → Area c (x + 2 * k) →
+    (factor c (x + 2 * k) -ℤ factor c (x + k)) ≤ℤ (factor c (x + k) -ℤ factor c x +ℤ pos 1)
+concave-steps c e x k k₀ k₁ k₂ =
+    let p = values-are-proper c in
+    let near = factors-are-near c in
+    concave-rounded (p x k₀) (p (x + k) k₁) (p (x + 2 * k) k₂) (near x k₀) (near (x + k) k₁) (near (x + 2 * k) k₂)
+    (concave-middle c x k k₀ k₁ k₂ e)

@@ -7,11 +7,13 @@ pub mod Inside
 pub mod Curves
 pub mod Segments
 pub mod Relations
+pub mod Mirror
 pub mod Range
 pub mod Rows
 pub mod Lists
 pub mod Indexed
 pub mod Accepted
+pub mod MirrorCurve
 pub mod Outside
 pub mod Search
 pub mod Laws

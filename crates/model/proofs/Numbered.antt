@@ -18,7 +18,7 @@ use lib.ListN.{length}
 use mir.Facts.{and-yes}
 use Rattle.exact.proofs.Tests.{or-right}
 use Rattle.model.specs.Answer.{Answer, gives, refused, row, _then_, row-at-each}
-use Rattle.model.specs.Points.{Point, points, Segment, segments, Shape}
+use Rattle.model.specs.Points.{Point, points, Segment, segments, Rule}
 use Rattle.model.specs.Check.{point-rows, segment-rows, curve-rows, check-answer, on-lists}
 use Rattle.model.specs.Read.{read-answer}
 use Rattle.model.specs.Inner.{number-most}
@@ -65,11 +65,11 @@ in-points i before (p ∷ ps) h =
     in-then _ _ (in-row _ 4 i tt here) (λ _.
     in-then _ _ (in-row _ 5 i tt here) (λ _. in-points (suc i) (some (p .area)) ps (omega arith))))
 
-in-segments : (i : ℕ) (shape : Shape) (ss : List Segment) → i + length ss ≤ entries-most → Numbered (segment-rows i shape ss)
+in-segments : (i : ℕ) (rule : Rule) (ss : List Segment) → i + length ss ≤ entries-most → Numbered (segment-rows i rule ss)
 unfolding segment-rows
-in-segments i shape [] h = tt
-in-segments i shape (s ∷ ss) h =
-    in-then _ _ (in-row _ 6 i tt (omega arith)) (λ _. in-segments (suc i) shape ss (omega arith))
+in-segments i rule [] h = tt
+in-segments i rule (s ∷ ss) h =
+    in-then _ _ (in-row _ 6 i tt (omega arith)) (λ _. in-segments (suc i) rule ss (omega arith))
 
 pub in-curve : (ps : List Point) (code : ℕ) → Numbered (curve-rows ps code)
 unfolding curve-rows

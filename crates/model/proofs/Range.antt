@@ -1,6 +1,6 @@
--- Every exact value of an accepted curve is from −200,000 to 200,000. A rising curve is between its ends, at most value-most.
+-- Every exact value of an accepted curve is from −200,000 to 400,000. A rising curve is between its ends, at most value-most.
 -- A convex curve is not above its larger end, and not below its left tangent: that falls by at most slope-most / 100 for each of
--- at most gap-most tenths.
+-- at most gap-most tenths. So both are from −200,000 to 200,000, and their mirrors from 0 to 400,000.
 --   Ranged, value-range            that range, and that an exact value is in it
 --   ReadingRange, reading-range    so is a reading, by any rounding that keeps order and whole numbers
 -- Assumes nothing.
@@ -18,16 +18,21 @@ use Rattle.exact.proofs.Field.{field, ratios, _∷ℚ_}
 use Rattle.exact.proofs.Fractions as Q
 use Rattle.exact.proofs.Fractions.{NonNeg, propers, positivity}
 use Rattle.model.specs.Points.{gap-most, value-most, slope-most, gradient, Segment, Shape, rising, convex}
-use Rattle.model.specs.Interpolant.{interpolant}
+use Rattle.model.specs.Points.{mirror-segment, Rule, plain, mirrored}
+use Rattle.model.specs.Interpolant.{interpolant, exact-curve}
 use Rattle.model.specs.Shape.{0ℚ}
 use Rattle.model.specs.Inner.{Neighbours, Good, Inside}
 use Rattle.model.proofs.ClosedForm.{In}
 use Rattle.model.proofs.Inside.{Rises, Bends, end-left, end-right}
-use Rattle.model.proofs.Segments.{gap, segment-rises, segment-bends, distance-in}
+use Rattle.model.proofs.Segments.{gap, segment-rises, segment-bends, distance-in, interpolant-proper}
+use Rattle.model.proofs.Mirror.{mirror-inside}
 
-pub record Ranged (v : Fraction) : Type 0 where
-  pub low : whole (negℤ (pos 200000)) ≤ℚ v
-  pub high : v ≤ℚ whole (pos value-most)
+pub record Between (least most : ℤ) (v : Fraction) : Type 0 where
+  pub low : whole least ≤ℚ v
+  pub high : v ≤ℚ whole most
+
+abbrev pub Ranged : Fraction → Type 0
+Ranged = Between (negℤ (pos 200000)) (pos 400000)
 
 -- ---- fractions
 
@@ -117,16 +122,16 @@ gap-high s k = Z.≤-by _ spare (Z.nonneg-difference (Z.pos-≤-of-≤ (k .near)
     spare : pos gap-most -ℤ gap s ≡ pos (s .left .area) +ℤ pos gap-most -ℤ pos (s .right .area)
     spare = ring (pos (s .left .area) ∷ pos (s .right .area) ∷ []) (search terms depth 20 fits 9999) tt
 
-pub value-range : {shape : Shape} {s : Segment} {x : ℕ} →
-    Inside (Good shape) s x → Ranged (interpolant shape s x)
+plain-range : {shape : Shape} {s : Segment} {x : ℕ} →
+    Inside (Good (plain shape)) s x → Between (negℤ (pos 200000)) (pos value-most) (interpolant shape s x)
 unfolding interpolant gradient
-value-range {shape = rising} {s = s} r =
+plain-range {shape = rising} {s = s} r =
     let rises = segment-rises s (r .good) in
     record {
       low = rising-low rises (distance-in r) (record { le = tt });
       high = rising-high rises (distance-in r) (Z.pos-≤-of-≤ (r .good .ends .right .value));
     }
-value-range {shape = convex} {s = s} r =
+plain-range {shape = convex} {s = s} r =
     let k = r .good .ends in
     let i = distance-in r in
     let bends = segment-bends s (r .good) in
@@ -137,11 +142,35 @@ value-range {shape = convex} {s = s} r =
       high = convex-high bends i (Z.pos-≤-of-≤ (k .left .value)) (Z.pos-≤-of-≤ (k .right .value));
     }
 
+-- ---- and their mirrors
+
+pub value-range : {rule : Rule} {s : Segment} {x : ℕ} → Inside (Good rule) s x → Ranged (exact-curve rule s x)
+unfolding exact-curve
+value-range {rule = plain shape} i =
+    let r = plain-range i in
+    let p = interpolant-proper i in
+    record {
+      low = r .low;
+      high = Q.≤-trans p (search propers) (search propers) (r .high) (Q.whole-≤-of-≤ _ _ (record { le = tt }));
+    }
+value-range {rule = mirrored shape} {s = s} {x = x} i =
+    let r = plain-range (mirror-inside i) in
+    let p = interpolant-proper (mirror-inside i) in
+    let v = interpolant shape (mirror-segment s) x in
+    let above = Q.nonneg-difference (r .low) in
+    let below = Q.nonneg-difference (r .high) in
+    record {
+      low = Q.≤-by (search propers) (search propers) (whole (pos 200000) +ℚ (whole (pos value-most) -ℚ v)) (search propers)
+          (field (v ∷ℚ []) (search ratios depth 20 fits 9999) tt) (search positivity);
+      high = Q.≤-by (search propers) (search propers) (v -ℚ whole (negℤ (pos 200000))) (search propers)
+          (field (v ∷ℚ []) (search ratios depth 20 fits 9999) tt) above;
+    }
+
 -- ---- readings
 
 pub record ReadingRange (k : ℤ) : Type 0 where
   pub low : negℤ (pos 200000) ≤ℤ k
-  pub high : k ≤ℤ pos value-most
+  pub high : k ≤ℤ pos 400000
 
 pub reading-range : {rnd : Fraction → ℤ} → Rounding rnd →
     (v : Fraction) → Proper v → Ranged v → ReadingRange (rnd v)

@@ -1,30 +1,37 @@
--- K1 to K10 and further readings, by computation.
+-- K1 to K10, further readings and those of request 4, by computation.
 -- Assumes nothing.
 use mathlib.Core.Path.{refl}
 use Rattle.exact.specs.Fraction.{_over_, whole, _+ℚ_, _-ℚ_, _*ℚ_, _/ℚ_, leℚ, ltℚ, eqℚ}
 use Rattle.exact.specs.Rounding.{floorDiv, floor, round}
 use Rattle.model.specs.Answer.{row, _then_, row-at-each}
-use Rattle.model.specs.Points.{gradient, points, segments, shape-of}
+use Rattle.model.specs.Points.{gradient, points, segments, shape-of, mirror, rule-of}
 use Rattle.model.specs.Interpolant.{chord, p, q, P, Q, rational, r-rising, r-convex}
-use Rattle.model.specs.Interpolant.{rising-curve, convex-curve, curve, interpolant}
-use Rattle.model.specs.Shape.{rises, bends, fits, has-shape}
+use Rattle.model.specs.Interpolant.{rising-curve, convex-curve, curve, interpolant, exact-curve}
+use Rattle.model.specs.Shape.{rises, bends, fits, has-shape, segment-test}
 use Rattle.model.specs.Check.{lengths-differ, bad-count, bad-code, bad-area, bad-value, bad-slope}
 use Rattle.model.specs.Check.{point-rows, segment-rows, curve-rows, check-answer, on-lists}
 use Rattle.model.specs.Read.{taken, value-in, outside, exact-value, reading, read-answer}
 use Rattle.model.specs.Sheet.{bad-sheet, tabulate, sheet-answer, sheet-list}
-use Rattle.model.specs.Readings.{bow, ten, TenReadings, kink, FurtherReadings}
+use Rattle.model.specs.Readings.{bow, ten, TenReadings, kink, FurtherReadings, mirrored-bow, ten-mirrored, fall, arch, MirroredReadings}
 
-computed : TenReadings × FurtherReadings
+computed : TenReadings × FurtherReadings × MirroredReadings
 unfolding _over_ whole _+ℚ_ _-ℚ_ _*ℚ_ _/ℚ_ leℚ ltℚ eqℚ floorDiv floor round row _then_ row-at-each
-    gradient points segments shape-of chord p q P Q rational r-rising r-convex rising-curve convex-curve curve interpolant
-    rises bends fits has-shape
+    gradient points segments shape-of rule-of mirror chord p q P Q rational r-rising r-convex rising-curve convex-curve curve interpolant exact-curve
+    rises bends fits has-shape segment-test
     lengths-differ bad-count bad-code bad-area bad-value bad-slope point-rows segment-rows curve-rows check-answer on-lists
     taken value-in outside exact-value reading read-answer bad-sheet tabulate sheet-answer sheet-list
-    bow ten kink
-computed = (λ area. refl, (refl, refl, refl, refl, refl, refl, refl, refl))
+    bow ten kink mirrored-bow ten-mirrored fall arch
+computed = (
+  λ area. refl,
+  (refl, refl, refl, refl, refl, refl, refl, refl),
+  (λ area. refl, refl, refl, refl, refl, refl, refl, refl, refl, refl, refl, refl, refl),
+)
 
 pub ten-readings : TenReadings
 ten-readings = computed .0
 
 pub further-readings : FurtherReadings
 further-readings = computed .1
+
+pub mirrored-readings : MirroredReadings
+mirrored-readings = computed .2

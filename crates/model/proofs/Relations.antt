@@ -20,7 +20,7 @@ use Rattle.exact.proofs.Field.{field, ratios, _∷ℚ_}
 use Rattle.exact.proofs.Tests.{compare}
 use Rattle.exact.proofs.Fractions as Q
 use Rattle.exact.proofs.Fractions.{NonNeg, propers, positivity}
-use Rattle.model.specs.Points.{Point, Segment, Shape, rising, convex}
+use Rattle.model.specs.Points.{Point, Segment, Shape, rising, convex, plain}
 use Rattle.model.specs.Interpolant.{interpolant}
 use Rattle.model.specs.Inner.{between, Good, Inside}
 use Rattle.model.proofs.Segments.{distance, slope-at, segment-rises, segment-bends, distance-in, proper-gradient}
@@ -31,13 +31,13 @@ distance-between : (s : Segment) (x y : ℕ) → distance s y -ℤ distance s x 
 distance-between s x y = ring (pos (s .left .area) ∷ pos x ∷ pos y ∷ []) (search terms depth 20 fits 9999) tt
 
 -- both segments give the value of the point between them
-values-meet : {shape : Shape} {p q r : Point} → Good shape (between p q) → Good shape (between q r) →
+values-meet : {shape : Shape} {p q r : Point} → Good (plain shape) (between p q) → Good (plain shape) (between q r) →
     interpolant shape (between p q) (q .area) ≈ℚ interpolant shape (between q r) (q .area)
 values-meet k k' = Q.≈-trans (search propers) (interpolant-right k .same) (Q.≈-sym (interpolant-left k' .same))
 
 -- ---- rising
 
-pub rising-spreads : Spreads (Good rising) (λ s x s' y. interpolant rising s x ≤ℚ interpolant rising s' y)
+pub rising-spreads : Spreads (Good (plain rising)) (λ s x s' y. interpolant rising s x ≤ℚ interpolant rising s' y)
 unfolding interpolant
 rising-spreads =
     record {
@@ -114,10 +114,10 @@ opposites σ τ x y = field (σ ∷ℚ τ ∷ℚ x ∷ y ∷ []) (search ratios 
 abbrev pub curve-slope : Segment → ℕ → Fraction
 curve-slope s x = slope-at s (distance s x)
 
-pub curve-slope-proper : {s : Segment} {x : ℕ} → Inside (Good convex) s x → Proper (curve-slope s x)
+pub curve-slope-proper : {s : Segment} {x : ℕ} → Inside (Good (plain convex)) s x → Proper (curve-slope s x)
 curve-slope-proper {s} r = segment-bends s (r .good) .proper (distance-in r)
 
-abbrev pub line : {s : Segment} {x : ℕ} → Inside (Good convex) s x → Line
+abbrev pub line : {s : Segment} {x : ℕ} → Inside (Good (plain convex)) s x → Line
 line {s} {x} r =
     let v = interpolant convex s x in
     record { x = pos x; v = v; σ = curve-slope s x; v-proper = interpolant-proper r; σ-proper = curve-slope-proper r }
@@ -132,18 +132,18 @@ pub record Supports (s : Segment) (x : ℕ) (s' : Segment) (y : ℕ) : Type 0 wh
   pub leftwards : Under s' y s x
   pub slopes : curve-slope s x ≤ℚ curve-slope s' y
 
-under-inside : {s : Segment} {x y : ℕ} → Inside (Good convex) s x → Inside (Good convex) s y → Under s x s y
+under-inside : {s : Segment} {x y : ℕ} → Inside (Good (plain convex)) s x → Inside (Good (plain convex)) s y → Under s x s y
 unfolding interpolant
 under-inside {s} r r' = rw distance-between at (segment-bends s (r .good) .below (distance-in r) (distance-in r'))
 
 -- both segments have the slope of the point between them
-slopes-meet : {p q r : Point} → Good convex (between p q) → Good convex (between q r) →
+slopes-meet : {p q r : Point} → Good (plain convex) (between p q) → Good (plain convex) (between q r) →
     curve-slope (between p q) (q .area) ≈ℚ curve-slope (between q r) (q .area)
 slopes-meet {p} {q} {r} k k' =
     Q.≈-trans (proper-gradient q) (segment-bends (between p q) k .at-right)
     (Q.≈-sym (rw +ℤ-invr (segment-bends (between q r) k' .at-left)))
 
-pub convex-spreads : Spreads (Good convex) Supports
+pub convex-spreads : Spreads (Good (plain convex)) Supports
 convex-spreads =
     record {
       inside = λ {s} {x} {y} r r' h.

@@ -4,7 +4,7 @@
 --   row-passed                a row before a result does not apply; row-left, nor one that refuses nothing
 --   row-refused               where it refuses, it does so by its own number
 --   alike-of-row-1            the three lists are equally long
---   count-of-row-1            2 to 64 points; code-of-row-2, a code of one byte
+--   count-of-row-1            2 to 64 points; code-of-row-2, a code from 1 to 4
 --   Passed, passed            rows 3 to 5 at one point, and the rows of the points after it
 --   neighbours                two points that pass rows 3 to 5
 -- Assumes nothing.
@@ -76,16 +76,9 @@ unfolding bad-count
 count-of-row-1 n e =
     (ltb-false n points-least (or-left _ (ltb points-most n) e), ltb-false points-most n (or-right (ltb n points-least) _ e))
 
-pub code-of-row-2 : (code : ℕ) → bad-code code ≡ false → code ≤ 255
+pub code-of-row-2 : (code : ℕ) → bad-code code ≡ false → (1 ≤ code) × (code ≤ 4)
 unfolding bad-code
-code-of-row-2 code e =
-    elim (compare code 255) [
-      | inl (h, t) ↦ h
-      | inr (h, t) ↦
-          let not-1 = ne-eqb code 1 (λ (k : code ≡ 1). omega arith) in
-          let not-2 = ne-eqb code 2 (λ (k : code ≡ 2). omega arith) in
-          absurd (true≢false (rw (not-1, not-2) at e))
-    ]
+code-of-row-2 code e = (ltb-false code 1 (or-left _ (ltb 4 code) e), ltb-false 4 code (or-right (ltb code 1) _ e))
 
 -- ---- rows 3 to 5
 

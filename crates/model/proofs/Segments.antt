@@ -18,9 +18,9 @@ use Rattle.exact.proofs.Order as Z
 use Rattle.exact.proofs.Order.{signs}
 use Rattle.exact.proofs.Field.{field, ratios}
 use Rattle.exact.proofs.Fractions.{positivity}
-use Rattle.model.specs.Points.{Point, gradient, Segment, Shape, rising, convex}
+use Rattle.model.specs.Points.{Point, gradient, Segment, Shape, rising, convex, plain}
 use Rattle.model.specs.Interpolant.{curve, interpolant}
-use Rattle.model.specs.Shape.{fits, has-shape}
+use Rattle.model.specs.Shape.{fits, has-shape, segment-test}
 use Rattle.model.specs.Inner.{Good, Inside}
 use Rattle.model.proofs.ClosedForm.{Closed, In, Normal}
 use Rattle.model.proofs.Inside.{Joins, Rises, Bends, end-left, end-right}
@@ -93,15 +93,15 @@ module _ (s : Segment) where
         chord-slope = field (rise ∷ gap ∷ []) (search ratios depth 20 fits 9999) tt;
       }
 
-  pub segment-rises : Good rising s → Rises gap v₀ v₁ (curve-at rising)
-  unfolding curve has-shape fits
+  pub segment-rises : Good (plain rising) s → Rises gap v₀ v₁ (curve-at rising)
+  unfolding curve segment-test has-shape fits
   segment-rises k = rising-rises (segment-normal (k .ends .ordered)) (rise-kind gap v₀ v₁ (k .shaped))
 
-  pub segment-bends : Good convex s → Bends gap v₀ v₁ d₀ d₁ (curve-at convex) slope-at
-  unfolding curve has-shape fits
+  pub segment-bends : Good (plain convex) s → Bends gap v₀ v₁ d₀ d₁ (curve-at convex) slope-at
+  unfolding curve segment-test has-shape fits
   segment-bends k = convex-bends (segment-normal (k .ends .ordered)) (bend-kind gap rise (k .shaped))
 
-  segment-joins : (shape : Shape) → Good shape s → Joins gap v₀ v₁ (curve-at shape)
+  segment-joins : (shape : Shape) → Good (plain shape) s → Joins gap v₀ v₁ (curve-at shape)
   segment-joins rising k = segment-rises k .joins
   segment-joins convex k = segment-bends k .joins
 
@@ -116,18 +116,18 @@ distance-in {s = s} {x = x} r =
     to-right = ring (pos (s .right .area) ∷ pos x ∷ pos (s .left .area) ∷ []) (search terms depth 20 fits 9999) tt
 
 module _ {shape : Shape} {s : Segment} where
-  pub interpolant-proper : {x : ℕ} → Inside (Good shape) s x → Proper (interpolant shape s x)
+  pub interpolant-proper : {x : ℕ} → Inside (Good (plain shape)) s x → Proper (interpolant shape s x)
   unfolding interpolant
   interpolant-proper r = segment-joins s shape (r .good) .proper (distance-in r)
 
   -- document 01: at a rated point the segments on both sides give the point's value
-  pub interpolant-left : Good shape s → Closed (interpolant shape s (s .left .area)) (whole (v₀ s))
+  pub interpolant-left : Good (plain shape) s → Closed (interpolant shape s (s .left .area)) (whole (v₀ s))
   unfolding interpolant
   interpolant-left k =
       let j = segment-joins s shape k in
       rw +ℤ-invr (record { proper = j .proper (end-left j); same = j .at-left })
 
-  pub interpolant-right : Good shape s → Closed (interpolant shape s (s .right .area)) (whole (v₁ s))
+  pub interpolant-right : Good (plain shape) s → Closed (interpolant shape s (s .right .area)) (whole (v₁ s))
   unfolding interpolant
   interpolant-right k =
       let j = segment-joins s shape k in

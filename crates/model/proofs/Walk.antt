@@ -15,11 +15,11 @@ use native.Mathlib.Omega.{arith}
 use lib.Dec.{leb}
 use borrow.Author.Tests.{lt-leb, le-leb}
 use Rattle.exact.proofs.Tests.{compare}
-use Rattle.model.specs.Points.{Point, Segment, segments, Shape}
+use Rattle.model.specs.Points.{Point, Segment, segments, Rule}
 use Rattle.model.specs.Read.{taken, last-area}
 use Rattle.model.specs.Inner.{between, Good, Inside}
 
-pub good-ordered : {shape : Shape} (s : Segment) → Good shape s → s .left .area < s .right .area
+pub good-ordered : {rule : Rule} (s : Segment) → Good rule s → s .left .area < s .right .area
 good-ordered s g = g .ends .ordered
 
 abbrev pub stop : Point → Point → List Point → ℕ → Segment

@@ -1,7 +1,7 @@
 -- Document 01, "Refusals and their places", rows 1 to 6, and what Check answers.
 -- Assumes nothing.
 use Prim.Native.Nat.{ℕ, suc, _+_}
-use mathlib.Core.Bool.{Bool, not, _&&_, _||_}
+use mathlib.Core.Bool.{Bool, not, _||_}
 use mathlib.Core.List.{List, [], _∷_, map}
 use mathlib.Core.Option.{Option, none, some}
 use lib.Dec.{eqb, leb, ltb}
@@ -10,8 +10,8 @@ use lib.ListN.{length}
 use lib.Signed.{ltZ}
 use Rattle.model.specs.Answer.{Answer, gives, row, _then_}
 use Rattle.model.specs.Points.{points-least, points-most, area-most, gap-most, value-most, slope-most}
-use Rattle.model.specs.Points.{Point, points, Segment, segments, Shape, shape-of}
-use Rattle.model.specs.Shape.{has-shape}
+use Rattle.model.specs.Points.{Point, points, Segment, segments, Rule, rule-of}
+use Rattle.model.specs.Shape.{segment-test}
 
 -- row 1: list lengths differ
 unfoldable pub lengths-differ : ℕ → ℕ → ℕ → Bool
@@ -21,9 +21,9 @@ lengths-differ areas values slopes = not (eqb areas values) || not (eqb areas sl
 unfoldable pub bad-count : ℕ → Bool
 bad-count count = ltb count points-least || ltb points-most count
 
--- row 2: shape code other than 1 or 2
+-- row 2: shape code outside 1 to 4 (request 4)
 unfoldable pub bad-code : ℕ → Bool
-bad-code code = not (eqb code 1) && not (eqb code 2)
+bad-code code = ltb code 1 || ltb 4 code
 
 -- row 3: area above 20,000, or not larger than the one before, or more than 2,000 beyond it
 unfoldable pub bad-area : Option ℕ → ℕ → Bool
@@ -45,16 +45,16 @@ point-rows i before (p ∷ ps) =
     row (bad-area before (p .area)) 3 i then row (bad-value (p .value)) 4 i then row (bad-slope (p .slope)) 5 i
     then point-rows (suc i) (some (p .area)) ps
 
--- row 6: the segment has no shape; the place is its left point's
-unfoldable pub segment-rows : ℕ → Shape → List Segment → Answer (Unit {0})
-segment-rows i shape [] = gives tt
-segment-rows i shape (s ∷ ss) = row (not (has-shape shape s)) 6 i then segment-rows (suc i) shape ss
+-- row 6: the segment does not have its shape; the place is its left point's
+unfoldable pub segment-rows : ℕ → Rule → List Segment → Answer (Unit {0})
+segment-rows i rule [] = gives tt
+segment-rows i rule (s ∷ ss) = row (not (segment-test rule s)) 6 i then segment-rows (suc i) rule ss
 
 -- rows 1 to 6 of points and a shape code
 unfoldable pub curve-rows : List Point → ℕ → Answer (Unit {0})
 curve-rows ps code =
     row (bad-count (length ps)) 1 0 then row (bad-code code) 2 0
-    then point-rows 0 none ps then segment-rows 0 (shape-of code) (segments ps)
+    then point-rows 0 none ps then segment-rows 0 (rule-of code) (segments ps)
 
 -- Check: the number of segments
 unfoldable pub check-answer : List Point → ℕ → Answer ℕ

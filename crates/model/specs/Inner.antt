@@ -20,8 +20,8 @@ use lib.IntN.{pos, negℤ}
 use lib.ListN.{length, getD, drop}
 use lib.Signed.{_≤ℤ_}
 use Rattle.model.specs.Answer.{Answer, gives, row, _then_}
-use Rattle.model.specs.Points.{points-most, area-most, gap-most, value-most, slope-most, Point, Segment, Shape}
-use Rattle.model.specs.Shape.{has-shape}
+use Rattle.model.specs.Points.{points-most, area-most, gap-most, value-most, slope-most, Point, Segment, Rule}
+use Rattle.model.specs.Shape.{segment-test}
 use Rattle.model.specs.Check.{curve-rows}
 use Rattle.model.specs.Read.{outside}
 use Rattle.model.specs.Sheet.{tabulate}
@@ -77,9 +77,9 @@ pub record Neighbours (s : Segment) : Type 0 where
   pub ordered : s .left .area < s .right .area
   pub near : s .right .area ≤ s .left .area + gap-most
 
-pub record Good (shape : Shape) (s : Segment) : Type 0 where
+pub record Good (rule : Rule) (s : Segment) : Type 0 where
   pub ends : Neighbours s
-  pub shaped : T (has-shape shape s)
+  pub shaped : T (segment-test rule s)
 
 -- an area between the ends of a segment of which G holds
 pub record Inside (G : Segment → Type 0) (s : Segment) (x : ℕ) : Type 0 where

@@ -6,7 +6,7 @@ use mathlib.Core.Bool.{cond, _&&_}
 use lib.IntN.{ℤ, pos, _-ℤ_}
 use lib.Signed.{ltZ}
 use Rattle.exact.specs.Fraction.{Fraction, _over_, whole, _+ℚ_, _-ℚ_, _*ℚ_, _/ℚ_, ltℚ}
-use Rattle.model.specs.Points.{gradient, Segment, Shape, rising, convex}
+use Rattle.model.specs.Points.{value-most, gradient, Segment, Shape, rising, convex, mirror-segment, Rule, plain, mirrored}
 
 module _ (h left right t : ℤ) where
   -- c = F / h, the chord slope
@@ -62,3 +62,8 @@ unfoldable pub interpolant : Shape → Segment → ℕ → Fraction
 interpolant shape s area =
     curve (pos (s .right .area) -ℤ pos (s .left .area)) (pos (s .left .value)) (pos (s .right .value))
     (pos area -ℤ pos (s .left .area)) (gradient (s .left)) (gradient (s .right)) shape
+
+-- Request 4: the exact curve of a rule; that on mirrored points is taken from 200,000 again
+unfoldable pub exact-curve : Rule → Segment → ℕ → Fraction
+exact-curve (plain shape) s area = interpolant shape s area
+exact-curve (mirrored shape) s area = whole (pos value-most) -ℚ interpolant shape (mirror-segment s) area

@@ -1,10 +1,10 @@
 -- Document 01, "The figures and their units".
 -- Assumes nothing.
-use Prim.Native.Nat.{ℕ}
+use Prim.Native.Nat.{ℕ, _-_}
 use mathlib.Core.Bool.{cond}
 use mathlib.Core.List.{List, [], _∷_}
-use lib.Dec.{eqb}
-use lib.IntN.{ℤ, pos}
+use lib.Dec.{eqb, leb}
+use lib.IntN.{ℤ, pos, negℤ}
 use Rattle.exact.specs.Fraction.{Fraction, _over_}
 
 -- a curve is a list of 2 to 64 points
@@ -55,9 +55,24 @@ segments [] = []
 segments (p ∷ []) = []
 segments (p ∷ q ∷ ps) = record { left = p; right = q } ∷ segments (q ∷ ps)
 
--- 1 is rising, 2 is convex; row 2 refuses other codes
+-- 1 is rising, 2 is convex
 pub data Shape : Type 0 where
   rising convex : Shape
 
 unfoldable pub shape-of : ℕ → Shape
 shape-of code = cond (eqb code 1) rising convex
+
+-- Request 4: a point whose value is 200,000 less the value and whose slope changes sign. It is taken where row 4 is passed.
+unfoldable pub mirror : Point → Point
+mirror p = record { area = p .area; value = value-most - p .value; slope = negℤ (p .slope) }
+
+abbrev pub mirror-segment : Segment → Segment
+mirror-segment s = record { left = mirror (s .left); right = mirror (s .right) }
+
+-- the test and the curve of a shape, on the points themselves or on mirrored points
+pub data Rule : Type 0 where
+  plain mirrored : Shape → Rule
+
+-- 3 is falling, 4 is concave: the rules of 1 and 2 in turn, on mirrored points; row 2 refuses other codes
+unfoldable pub rule-of : ℕ → Rule
+rule-of code = cond (leb code 2) (plain (shape-of code)) (mirrored (shape-of (code - 2)))

@@ -8,8 +8,8 @@ use lib.IntN.{ℤ, pos}
 use Rattle.exact.specs.Fraction.{Fraction, whole}
 use Rattle.exact.specs.Rounding.{round}
 use Rattle.model.specs.Answer.{Answer, gives, row, _then_}
-use Rattle.model.specs.Points.{Point, Segment, segments, Shape, shape-of}
-use Rattle.model.specs.Interpolant.{interpolant}
+use Rattle.model.specs.Points.{Point, Segment, segments, Rule, rule-of}
+use Rattle.model.specs.Interpolant.{exact-curve}
 use Rattle.model.specs.Check.{curve-rows}
 
 -- the last segment whose left area is not above the area read, s being the last one so far
@@ -18,12 +18,12 @@ taken area s [] = s
 taken area s (n ∷ ns) = taken area (cond (leb (n .left .area) area) n s) ns
 
 -- the exact value in the segment taken; without a segment there is none (the curve is not accepted)
-unfoldable pub value-in : Shape → List Segment → ℕ → Fraction
-value-in shape [] area = whole (pos 0)
-value-in shape (s ∷ ss) area = interpolant shape (taken area s ss) area
+unfoldable pub value-in : Rule → List Segment → ℕ → Fraction
+value-in rule [] area = whole (pos 0)
+value-in rule (s ∷ ss) area = exact-curve rule (taken area s ss) area
 
 unfoldable pub exact-value : List Point → ℕ → ℕ → Fraction
-exact-value ps code area = value-in (shape-of code) (segments ps) area
+exact-value ps code area = value-in (rule-of code) (segments ps) area
 
 -- rounded once
 unfoldable pub reading : List Point → ℕ → ℕ → ℤ

@@ -1,4 +1,5 @@
--- Document 01, "Readings to prove": K1 to K10, as answers of Read and of Check; and the sheet that is printed there.
+-- Document 01, "Readings to prove": K1 to K10, as answers of Read and of Check; and the sheet that is printed there. Of request 4:
+-- K1 to K10 mirrored, and three points under each new code.
 -- Assumes nothing.
 use Prim.Native.Nat.{ℕ}
 use mathlib.Core.Path.{_≡_}
@@ -56,3 +57,43 @@ FurtherReadings =
     × (sheet-list bow 2 500 25 (sheet-answer bow 2 500 25 5) (pos 0 ∷ pos 0 ∷ pos 0 ∷ pos 0 ∷ pos 0 ∷ [])
     ≡ pos 10000 ∷ pos 10182 ∷ pos 10800 ∷ pos 12000 ∷ pos 14000 ∷ [])
     × (sheet-answer bow 2 500 26 5 ≡ refused 7 4) × (sheet-answer bow 2 400 0 5 ≡ refused 8 0)
+
+-- the points of K1 to K4, mirrored
+unfoldable pub mirrored-bow : List Point
+mirrored-bow = 500 / 190000 / pos 0 ∷ 600 / 186000 / negℤ (pos 10000) ∷ []
+
+-- K1 to K10 mirrored. K6 and K7 are exact halves, which go up here too: 200,000 less their readings would be 199,999 and 200,001.
+unfoldable pub ten-mirrored : ℕ → List (Answer ℤ × Answer ℤ)
+ten-mirrored area =
+    (read mirrored-bow 3 550, gives (pos 189111))
+    ∷ (read mirrored-bow 3 525, gives (pos 189771))
+    ∷ (read mirrored-bow 4 550, gives (pos 189200))
+    ∷ (read mirrored-bow 4 525, gives (pos 189818))
+    ∷ (read (500 / 190000 / negℤ (pos 2000) ∷ 600 / 186000 / negℤ (pos 6000) ∷ []) 3 501, gives (pos 189980))
+    ∷ (read (0 / 200000 / negℤ (pos 50) ∷ 2 / 199999 / negℤ (pos 50) ∷ []) 4 1, gives (pos 200000))
+    ∷ (read (0 / 200000 / pos 300 ∷ 2 / 200000 / negℤ (pos 300) ∷ []) 4 1, gives (pos 200002))
+    ∷ (read (0 / 200000 / pos 0 ∷ 2 / 199999 / negℤ (pos 100) ∷ []) 4 1, gives (pos 200000))
+    ∷ (read (0 / 200000 / negℤ (pos 100) ∷ 100 / 199900 / negℤ (pos 200) ∷ []) 4 area, refused 6 0)
+    ∷ (read (0 / 199995 / pos 0 ∷ 10 / 199995 / negℤ (pos 1) ∷ []) 3 area, refused 6 0)
+    ∷ []
+
+-- three points that fall, and three whose slopes fall
+unfoldable pub fall : List Point
+fall = 0 / 2000 / negℤ (pos 300) ∷ 100 / 1900 / pos 0 ∷ 300 / 1000 / negℤ (pos 800) ∷ []
+
+unfoldable pub arch : List Point
+arch = 0 / 1000 / pos 1500 ∷ 200 / 2100 / negℤ (pos 100) ∷ 300 / 1900 / negℤ (pos 500) ∷ []
+
+abbrev pub MirroredReadings : Type 0
+MirroredReadings =
+    ((area : ℕ) → map (λ k. k .0) (ten-mirrored area) ≡ map (λ k. k .1) (ten-mirrored area))
+    × (read fall 3 50 ≡ gives (pos 1920)) × (read fall 3 200 ≡ gives (pos 1662)) × (read fall 3 100 ≡ gives (pos 1900))
+    × (read arch 4 100 ≡ gives (pos 1936)) × (read arch 4 250 ≡ gives (pos 2038)) × (read arch 4 200 ≡ gives (pos 2100))
+    -- an exact half: 200,000 less the mirror's reading would be 0
+    × (read (0 / 1 / negℤ (pos 50) ∷ 2 / 0 / negℤ (pos 50) ∷ []) 3 1 ≡ gives (pos 1))
+    -- a concave curve passes 200,000
+    × (read (0 / 200000 / pos 10000 ∷ 2000 / 200000 / negℤ (pos 10000) ∷ []) 4 1000 ≡ gives (pos 250000))
+    -- row 2 is for codes outside 1 to 4
+    × (read fall 0 50 ≡ refused 2 0) × (read fall 5 50 ≡ refused 2 0)
+    -- the same points, read as rising or convex, do not have their shape
+    × (read fall 1 50 ≡ refused 6 0) × (read arch 2 100 ≡ refused 6 0)

@@ -4,7 +4,7 @@
 use mathlib.Core.Bool.{Bool, _&&_, _||_}
 use lib.IntN.{ℤ, pos, _-ℤ_}
 use Rattle.exact.specs.Fraction.{Fraction, _over_, whole, leℚ, ltℚ, eqℚ}
-use Rattle.model.specs.Points.{gradient, Segment, Shape, rising, convex}
+use Rattle.model.specs.Points.{gradient, Segment, Shape, rising, convex, mirror-segment, Rule, plain, mirrored}
 
 abbrev pub 0ℚ : Fraction
 0ℚ = whole (pos 0)
@@ -28,3 +28,8 @@ unfoldable pub has-shape : Shape → Segment → Bool
 has-shape shape s =
     fits (pos (s .right .area) -ℤ pos (s .left .area)) (pos (s .right .value) -ℤ pos (s .left .value))
     (gradient (s .left)) (gradient (s .right)) shape
+
+-- Request 4: the segment test of a rule
+unfoldable pub segment-test : Rule → Segment → Bool
+segment-test (plain shape) s = has-shape shape s
+segment-test (mirrored shape) s = has-shape shape (mirror-segment s)

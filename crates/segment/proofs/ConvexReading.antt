@@ -20,10 +20,10 @@ use Rattle.exact.proofs.Field.{field, ratios}
 use Rattle.exact.proofs.Fractions as Q
 use Rattle.exact.proofs.Fractions.{propers, positivity}
 use Rattle.exact.proofs.Magnitude.{size-+}
-use Rattle.model.specs.Points.{slope-most, gradient, Segment, convex}
+use Rattle.model.specs.Points.{slope-most, gradient, Segment, convex, plain}
 use Rattle.model.specs.Interpolant as I
 use Rattle.model.specs.Interpolant.{interpolant}
-use Rattle.model.specs.Shape.{fits, has-shape}
+use Rattle.model.specs.Shape.{fits, has-shape, segment-test}
 use Rattle.model.specs.Inner.{Good, Inside}
 use Rattle.model.proofs.ClosedForm.{Closed, congruence, Bending, W, W-positive, convex-form}
 use Rattle.model.proofs.ClosedForm.{bending-of-normal, bent-value, straight-value}
@@ -84,7 +84,7 @@ bent-half l d t h W w = field (l ∷ d ∷ t ∷ w ∷ h ∷ W ∷ []) (search r
 
 -- ---- the reading
 
-module _ {s : Segment} {x : ℕ} (i : Inside (Good convex) s x) where
+module _ {s : Segment} {x : ℕ} (i : Inside (Good (plain convex)) s x) where
   raised-slope-is : s .left .slope +ℤ pos slope-most ≡ pos (raised-slope s)
   raised-slope-is = Z.natural-of-nonneg (Z.≤-+ (i .good .ends .left .slope-low) (≤ℤ-refl (pos slope-most)))
 
@@ -193,8 +193,8 @@ module _ {s : Segment} {x : ℕ} (i : Inside (Good convex) s x) where
     bent-facts : Convex s x
     bent-facts = convex-facts above-is below-is bent-reads
 
-pub convex-inside : {s : Segment} {x : ℕ} → Inside (Good convex) s x → Convex s x
-unfolding has-shape fits
+pub convex-inside : {s : Segment} {x : ℕ} → Inside (Good (plain convex)) s x → Convex s x
+unfolding segment-test has-shape fits
 convex-inside {s} i =
     elim (bend-kind (gap s) (rise s) (i .good .shaped)) [
       | bent low high ↦ bent-facts i low high

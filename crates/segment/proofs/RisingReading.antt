@@ -18,10 +18,10 @@ use Rattle.exact.proofs.Order as Z
 use Rattle.exact.proofs.Field.{field, ratios}
 use Rattle.exact.proofs.Fractions.{NonNeg, propers}
 use Rattle.exact.proofs.Rounding.{round-rounding, rounding-at-whole}
-use Rattle.model.specs.Points.{Point, gradient, Segment, rising}
+use Rattle.model.specs.Points.{Point, gradient, Segment, rising, plain}
 use Rattle.model.specs.Interpolant as I
 use Rattle.model.specs.Interpolant.{interpolant}
-use Rattle.model.specs.Shape.{fits, has-shape}
+use Rattle.model.specs.Shape.{fits, has-shape, segment-test}
 use Rattle.model.specs.Inner.{Good, Inside}
 use Rattle.model.proofs.ClosedForm.{Closed, Climbing, A, B, B-positive, rising-form, climbing-of-normal, flat-value, rising-value}
 use Rattle.model.proofs.Curves.{climbs, flat, rise-kind}
@@ -63,7 +63,7 @@ unfolding gradient _over_
 slope-natural p k = Z.natural-of-nonneg (k .sign)
 
 module _ {s : Segment} {x : ℕ}
-    (i : Inside (Good rising) s x)
+    (i : Inside (Good (plain rising)) s x)
     (climb : pos 0 <ℤ rise s)
     (k₀ : NonNeg (d₀ s))
     (k₁ : NonNeg (d₁ s)) where
@@ -136,15 +136,15 @@ module _ {s : Segment} {x : ℕ}
 
 -- ---- inside
 
-pub rising-inside : {s : Segment} {x : ℕ} → Inside (Good rising) s x → (s .right .value ≡ s .left .value → ⊥) → Rising s x
-unfolding has-shape fits
+pub rising-inside : {s : Segment} {x : ℕ} → Inside (Good (plain rising)) s x → (s .right .value ≡ s .left .value → ⊥) → Rising s x
+unfolding segment-test has-shape fits
 rising-inside {s} i differ =
     elim (rise-kind (gap s) (v₀ s) (v₁ s) (i .good .shaped)) [
       | climbs f k₀ k₁ ↦ rising-facts i f k₀ k₁
       | flat e ↦ absurd (differ (Z.pos-injective e))
     ]
 
-pub flat-inside : {s : Segment} {x : ℕ} → Inside (Good rising) s x → s .right .value ≡ s .left .value →
+pub flat-inside : {s : Segment} {x : ℕ} → Inside (Good (plain rising)) s x → s .right .value ≡ s .left .value →
     round (interpolant rising s x) ≡ pos (s .left .value)
 unfolding I.interpolant I.curve
 flat-inside {s} {x} i e =

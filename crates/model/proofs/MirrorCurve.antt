@@ -1,0 +1,115 @@
+-- A curve and its mirror, point by point.
+--   mirror-accepted              a curve accepted under 3 (4) is, mirrored, accepted under 1 (2); its exact values are 200,000 less
+--                                the mirror's (specs/Laws.antt)
+--   mirror-curve, mirror-area    that curve; it has the same areas
+-- Assumes nothing.
+use mathlib.Core.Path.{_≡_, refl, sym, _∙_, ap, ap₂}
+use mathlib.Core.Bool.{Bool, true, false, cond, _||_}
+use mathlib.Core.List.{List, [], _∷_, map}
+use mathlib.Core.Option.{Option, none, some}
+use Prim.Native.Nat.{ℕ, suc, _-_, _≤_, _<_}
+use native.Mathlib.Omega.{arith}
+use borrow.Author.Tests.{le-ltb}
+use lib.Dec.{leb, ltb}
+use lib.IntN.{pos, negℤ}
+use lib.ListN.{length, length-map}
+use lib.Signed.{_≤ℤ_, ltZ}
+use Rattle.exact.specs.Fraction.{Fraction, whole, _-ℚ_}
+use Rattle.exact.proofs.Tests.{ltZ-false-of-≤}
+use Rattle.model.specs.Answer.{gives, row, _then_}
+use Rattle.model.specs.Points.{value-most, slope-most, Point, Segment, segments, Shape, shape-of}
+use Rattle.model.specs.Points.{mirror, mirror-segment, Rule, plain, mirrored, rule-of}
+use Rattle.model.specs.Interpolant.{exact-curve}
+use Rattle.model.specs.Shape.{segment-test}
+use Rattle.model.specs.Check.{bad-count, bad-code, bad-value, bad-slope, point-rows, segment-rows, curve-rows}
+use Rattle.model.specs.Read.{taken, value-in, exact-value, last-area, outside}
+use Rattle.model.specs.Laws.{Curve, Area, MirrorAccepted}
+use Rattle.model.specs.Inner.{Accepted, between, Limits}
+use Rattle.model.proofs.Codes.{plain-of, mirrored-of}
+use Rattle.model.proofs.Mirror.{mirror-limits}
+use Rattle.model.proofs.Rows.{passed}
+use Rattle.model.proofs.Accepted.{count-of, code-of, points-pass, segments-pass}
+
+-- ---- rows 3 to 6
+
+slope-passes : {p : Point} → Limits p → bad-slope (p .slope) ≡ false
+unfolding bad-slope
+slope-passes l = rw (ltZ-false-of-≤ (l .slope-low), ltZ-false-of-≤ (l .slope-high))
+
+points-mirror : (i : ℕ) (before : Option ℕ) (ps : List Point) → point-rows i before ps ≡ gives tt →
+    point-rows i before (map mirror ps) ≡ gives tt
+unfolding point-rows mirror bad-value row _then_
+points-mirror i before [] e = refl
+points-mirror i before (p ∷ ps) e =
+    let m = passed i before p ps e in
+    let l = mirror-limits (m .limits) in
+    rw (m .area, le-ltb value-most _ (l .value), slope-passes l) (points-mirror (suc i) (some (p .area)) ps (m .later))
+
+segments-mirror : (ps : List Point) → segments (map mirror ps) ≡ map mirror-segment (segments ps)
+unfolding segments
+segments-mirror [] = refl
+segments-mirror (p ∷ []) = refl
+segments-mirror (p ∷ q ∷ ps) = ap (λ (ss : List Segment). record { left = mirror p; right = mirror q } ∷ ss) (segments-mirror (q ∷ ps))
+
+rows-mirror : (i : ℕ) (shape : Shape) (ss : List Segment) →
+    segment-rows i (plain shape) (map mirror-segment ss) ≡ segment-rows i (mirrored shape) ss
+unfolding segment-rows segment-test
+rows-mirror i shape [] = refl
+rows-mirror i shape (s ∷ ss) = rw (rows-mirror (suc i) shape ss)
+
+-- ---- the exact value
+
+cond-mirror : (b : Bool) (n s : Segment) → cond b (mirror-segment n) (mirror-segment s) ≡ mirror-segment (cond b n s)
+cond-mirror true n s = refl
+cond-mirror false n s = refl
+
+taken-mirror : (x : ℕ) (s : Segment) (ss : List Segment) →
+    taken x (mirror-segment s) (map mirror-segment ss) ≡ mirror-segment (taken x s ss)
+unfolding taken mirror
+taken-mirror x s [] = refl
+taken-mirror x s (n ∷ ss) =
+    ap (λ (k : Segment). taken x k (map mirror-segment ss)) (cond-mirror (leb (n .left .area) x) n s) ∙ taken-mirror x _ ss
+
+value-mirror : (shape : Shape) (x : ℕ) (ps : List Point) → 2 ≤ length ps →
+    value-in (mirrored shape) (segments ps) x ≡ whole (pos value-most) -ℚ value-in (plain shape) (segments (map mirror ps)) x
+unfolding value-in segments exact-curve
+value-mirror shape x [] h = absurd (omega arith)
+value-mirror shape x (p ∷ []) h = absurd (omega arith)
+value-mirror shape x (p ∷ q ∷ ps) h =
+    rw (segments-mirror (q ∷ ps), taken-mirror x (between p q) (segments (q ∷ ps)))
+
+-- ---- the curve
+
+last-mirror : (p : Point) (ps : List Point) → last-area (mirror p) (map mirror ps) ≡ last-area p ps
+unfolding mirror
+last-mirror p [] = refl
+last-mirror p (q ∷ ps) = last-mirror q ps
+
+outside-mirror : (ps : List Point) (x : ℕ) → outside (map mirror ps) x ≡ outside ps x
+unfolding outside mirror
+outside-mirror [] x = refl
+outside-mirror (p ∷ ps) x = rw (last-mirror p ps)
+
+module _ (c : Curve) where
+  accepted : Accepted (c .points) (c .code)
+  accepted = record { none-applies = c .accepted }
+
+  pub mirror-accepted : MirrorAccepted c
+  unfolding curve-rows bad-count bad-code exact-value row _then_
+  mirror-accepted h =
+      let n = count-of accepted in
+      let m = code-of accepted in
+      let least : 1 ≤ c .code - 2 = omega arith in
+      let most : c .code - 2 ≤ 2 = omega arith in
+      let segments-too = rw (mirrored-of h) at (segments-pass accepted) in
+      (rw (length-map (c .points) mirror, le-ltb _ 2 (n .0), le-ltb 64 _ (n .1), le-ltb _ 1 least)
+      (rw (le-ltb 4 (c .code - 2) (omega arith), points-mirror 0 none _ (points-pass accepted), plain-of most, segments-mirror (c .points), rows-mirror)
+      segments-too),
+      λ x. rw (mirrored-of h, plain-of most) (value-mirror _ x (c .points) (n .0)))
+
+  module _ (h : 2 < c .code) where
+    abbrev pub mirror-curve : Curve
+    mirror-curve = record { points = map mirror (c .points); code = c .code - 2; accepted = mirror-accepted h .0 }
+
+    pub mirror-area : (x : ℕ) → Area c x → Area mirror-curve x
+    mirror-area x k = record { within = outside-mirror (c .points) x ∙ k .within }
