@@ -310,9 +310,12 @@ concave-chords c e x₁ x₂ x₃ x₄ k₁ k₂ k₃ k₄ h m h' =
     let a = mirror-area c l in
     let p = chord-slope-proper c x₁ x₂ k₁ k₂ h in
     let p' = chord-slope-proper c x₃ x₄ k₃ k₄ h' in
-    let (q, q', o) = convex-chords (mirror c l) (omega arith) x₁ x₂ x₃ x₄ (a x₁ k₁) (a x₂ k₂) (a x₃ k₃) (a x₄ k₄) h m h' in
-    (p, p', ≤-of-closed (record { proper = p'; same = chord-flips c l x₃ x₄ }) (record { proper = p; same = chord-flips c l x₁ x₂ })
-    (search propers) (search propers) (Q.≤-from q q' (search propers) o))
+    let (q, q', o) = convex-chords (mirror c l) (omega arith) x₁ x₂ x₃ x₄ (a x₁ k₁) (a x₂ k₂) (a x₃ k₃) (a x₄ k₄) h m h' in (
+      p,
+      p',
+      ≤-of-closed (record { proper = p'; same = chord-flips c l x₃ x₄ }) (record { proper = p; same = chord-flips c l x₁ x₂ })
+          (search propers) (search propers) (Q.≤-from q q' (search propers) o),
+    )
 
 -- of three areas equally far apart, twice the middle value is at least the sum of the outer ones
 concave-middle : (c : Curve) (x k : ℕ) → Area c x → Area c (x + k) → Area c (x + 2 * k) → c .code ≡ 4 →

@@ -101,11 +101,12 @@ module _ (c : Curve) where
       let m = code-of accepted in
       let least : 1 ≤ c .code - 2 = omega arith in
       let most : c .code - 2 ≤ 2 = omega arith in
-      let segments-too = rw (mirrored-of h) at (segments-pass accepted) in
-      (rw (length-map (c .points) mirror, le-ltb _ 2 (n .0), le-ltb 64 _ (n .1), le-ltb _ 1 least)
-      (rw (le-ltb 4 (c .code - 2) (omega arith), points-mirror 0 none _ (points-pass accepted), plain-of most, segments-mirror (c .points), rows-mirror)
-      segments-too),
-      λ x. rw (mirrored-of h, plain-of most) (value-mirror _ x (c .points) (n .0)))
+      let segments-too = rw (mirrored-of h) at (segments-pass accepted) in (
+        rw (length-map (c .points) mirror, le-ltb _ 2 (n .0), le-ltb 64 _ (n .1), le-ltb _ 1 least)
+            (rw (le-ltb 4 (c .code - 2) (omega arith), points-mirror 0 none _ (points-pass accepted), plain-of most, segments-mirror (c .points), rows-mirror)
+            segments-too),
+        λ x. rw (mirrored-of h, plain-of most) (value-mirror _ x (c .points) (n .0)),
+      )
 
   module _ (h : 2 < c .code) where
     abbrev pub mirror-curve : Curve
