@@ -13,7 +13,7 @@ use lib.IntN.{ℤ, pos, negsuc, natAbs}
 use lib.ListN.{length, take, drop}
 use lib.Seq.{getD-take, getD-drop, drop-cons}
 use Rattle.exact.proofs.Tests.{compare}
-use Rattle.exact.proofs.Signed.{mirror, mirror-pos}
+use Rattle.exact.proofs.Signed.{complement, complement-pos}
 use Rattle.model.specs.Sheet.{tabulate}
 use Rattle.layout.specs.Layout.{twos-complement, byte, little-endian}
 use Rattle.layout.proofs.Numbers.{low-half, high-half}
@@ -60,7 +60,7 @@ unfolding in-twos-complement
 twos (pos n) h = low-half h
 twos (negsuc n) h =
     let same : 4294967295 - (4294967296 - suc n) ≡ n = omega arith in
-    high-half {x = 4294967296 - suc n} (omega arith) (omega arith) ∙ ap (λ (m : ℕ). mirror (pos m)) same ∙ mirror-pos n
+    high-half {x = 4294967296 - suc n} (omega arith) (omega arith) ∙ ap (λ (m : ℕ). complement (pos m)) same ∙ complement-pos n
 
 pub twos-small : (z : ℤ) → natAbs z < 2147483648 → in-twos-complement z < 4294967296
 unfolding in-twos-complement
@@ -71,6 +71,6 @@ pub twos-back : (x : ℕ) → x < 4294967296 → in-twos-complement (twos-comple
 unfolding in-twos-complement
 twos-back x h =
     elim (compare 2147483648 x) [
-      | inl (high, t) ↦ ap in-twos-complement (high-half high h ∙ mirror-pos (4294967295 - x)) ∙ omega arith
+      | inl (high, t) ↦ ap in-twos-complement (high-half high h ∙ complement-pos (4294967295 - x)) ∙ omega arith
       | inr (low, t) ↦ ap in-twos-complement (low-half low)
     ]

@@ -18,7 +18,7 @@ use Rattle.exact.proofs.Order as Z
 use Rattle.exact.proofs.Order.{signs}
 use Rattle.exact.proofs.Fractions as Q
 use Rattle.exact.proofs.Fractions.{propers}
-use Rattle.exact.proofs.Signed.{mirror, mirror-pos}
+use Rattle.exact.proofs.Signed.{complement, complement-pos}
 
 pub record Quotient (n : ℤ) (d : ℕ) (q : ℤ) : Type 0 where
   pub low : (q *ℤ pos d) ≤ℤ n
@@ -36,23 +36,23 @@ quotient-pos n {d} h =
     record { low = Z.pos-≤-of-≤ (div-mul-le-self n d); high = Z.pos-<-of-< (rw mul-comm (lt-mul-div-succ n h)) }
 
 -- −1 − n has the quotient −1 − q
-quotient-mirror : {n q : ℤ} {d : ℕ} → Quotient n d q → Quotient (mirror n) d (mirror q)
-quotient-mirror {n} {q} {d} k = record {
+quotient-complement : {n q : ℤ} {d : ℕ} → Quotient n d q → Quotient (complement n) d (complement q)
+quotient-complement {n} {q} {d} k = record {
   low = Z.≤-by _ below (Z.nonneg-difference (Z.next-of-< (k .high)));
   high = Z.<-by _ above (Z.positive-+ (Z.positive-lit tt) (Z.nonneg-difference (k .low)));
 }
   where
-    below : mirror n -ℤ mirror q *ℤ pos d ≡ (q +ℤ pos 1) *ℤ pos d -ℤ (n +ℤ pos 1)
+    below : complement n -ℤ complement q *ℤ pos d ≡ (q +ℤ pos 1) *ℤ pos d -ℤ (n +ℤ pos 1)
     below = ring (n ∷ q ∷ pos d ∷ []) (search terms depth 20 fits 9999) tt
 
-    above : (mirror q +ℤ pos 1) *ℤ pos d -ℤ mirror n ≡ pos 1 +ℤ (n -ℤ q *ℤ pos d)
+    above : (complement q +ℤ pos 1) *ℤ pos d -ℤ complement n ≡ pos 1 +ℤ (n -ℤ q *ℤ pos d)
     above = ring (n ∷ q ∷ pos d ∷ []) (search terms depth 20 fits 9999) tt
 
 pub floorDiv-quotient : (n : ℤ) {d : ℕ} → 0 < d → Quotient n d (floorDiv n d)
 unfolding floorDiv
 floorDiv-quotient (pos n) h = quotient-pos n h
 floorDiv-quotient (negsuc n) {d} h =
-    subst₂ (λ x y. Quotient x d y) (mirror-pos n) (mirror-pos (n / d)) (quotient-mirror (quotient-pos n h))
+    subst₂ (λ x y. Quotient x d y) (complement-pos n) (complement-pos (n / d)) (quotient-complement (quotient-pos n h))
 
 pub floorDiv-unique : {n : ℤ} {d : ℕ} {q : ℤ} → 0 < d → Quotient n d q → floorDiv n d ≡ q
 floorDiv-unique {n} h k = quotient-unique (floorDiv-quotient n h) k

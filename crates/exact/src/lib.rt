@@ -1,6 +1,6 @@
 // Exact arithmetic: floor division, and the quotient of a product that may pass 64 bits.
 ghost use mathlib.Core.Path.{_≡_};
-ghost use Prim.Native.Nat.{_*_, _/_, _^_, _<_};
+ghost use Prim.Native.Nat.{_*_, _^_, _<_};
 ghost use Rattle.exact.specs.Rounding.{floorDiv};
 ghost use Rattle.exact.specs.Inner as inner;
 ghost use Rattle.exact.specs.Inner.{Divided, Step, Scaled};
@@ -32,37 +32,37 @@ pub fn floor_div(n: i64, d: u64) -> i64
 const BASE: u64 = 0x400_0000;
 
 // Quotient and remainder of x * y by c, with y the digits so far.
-struct Partial {
-    q: u64,
-    r: u64,
+pub struct Quotient {
+    pub q: u64,
+    pub r: u64,
 }
 
 // The digits so far in one division.
-fn start(x: u64, y: u64, c: u64) -> Partial
+fn start(x: u64, y: u64, c: u64) -> Quotient
     requires { ⌜ (x * y < 2 ^ 64) × (0 < c) ⌝ }
     ensures { λ s. ⌜ Divided (x * y) c (s .q) (s .r) ⌝ }
 {
     let n = x * y;
-    Partial { q: n / c, r: n % c }
+    Quotient { q: n / c, r: n % c }
 }
 
 // One digit more: to y, from y / base.
-fn step(p: Partial, x: u64, y: u64, c: u64, base: u64) -> Partial
+fn step(p: Quotient, x: u64, y: u64, c: u64, base: u64) -> Quotient
     requires { ⌜ Step x y c base (p .q) (p .r) ⌝ }
     ensures { λ s. ⌜ Divided (x * y) c (s .q) (s .r) ⌝ }
 {
     let n = p.r * base + x * (y % base);
-    Partial {
+    Quotient {
         q: p.q * base + n / c,
         r: n % c,
     }
 }
 
-// x * y / c, rounded down.
-pub fn mul_div(x: u64, y: u64, c: u64) -> u64
+// x * y by c.
+pub fn mul_div(x: u64, y: u64, c: u64) -> Quotient
     requires { ⌜ Scaled x y c ⌝ }
-    ensures { λ r. ⌜ r ≡ x * y / c ⌝ }
+    ensures { λ s. ⌜ Divided (x * y) c (s .q) (s .r) ⌝ }
 {
     let high = start(x, y / BASE, c);
-    step(high, x, y, c, BASE).q
+    step(high, x, y, c, BASE)
 }

@@ -10,7 +10,7 @@ use native.Mathlib.Omega.{arith}
 use borrow.Author.Tests.{lt-ltb, le-ltb}
 use lib.IntN.{pos, negℤ, _+ℤ_, _-ℤ_}
 use Rattle.exact.proofs.Ring.{ring, terms}
-use Rattle.exact.proofs.Signed.{mirror}
+use Rattle.exact.proofs.Signed.{complement}
 use Rattle.layout.specs.Layout.{twos-complement, byte, little-endian}
 
 module _ (bytes : List ℕ) (at : ℕ) where
@@ -31,7 +31,7 @@ pub low-half : {x : ℕ} → x < 2147483648 → twos-complement x ≡ pos x
 unfolding twos-complement
 low-half {x} h = ap (λ b. cond b (pos x) (pos x -ℤ pos 4294967296)) (lt-ltb x 2147483648 h)
 
-pub high-half : {x : ℕ} → 2147483648 ≤ x → x < 4294967296 → twos-complement x ≡ mirror (pos (4294967295 - x))
+pub high-half : {x : ℕ} → 2147483648 ≤ x → x < 4294967296 → twos-complement x ≡ complement (pos (4294967295 - x))
 unfolding twos-complement
 high-half {x} h k =
     let e : 4294967296 ≡ x + (4294967295 - x) + 1 = omega arith in

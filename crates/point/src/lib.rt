@@ -2,9 +2,9 @@
 ghost use mathlib.Core.Path.{_≡_};
 ghost use mathlib.Core.List.{[], _∷_};
 ghost use Prim.Native.Nat.{ℕ, _≤_};
-ghost use Rattle.model.specs.Points.{area-most, points};
+ghost use Rattle.model.specs.Points.{area-most, points, mirror};
 ghost use Rattle.model.specs.Check.{bad-area, point-rows};
-ghost use Rattle.model.specs.Inner.{fault-answer, point-at};
+ghost use Rattle.model.specs.Inner.{fault-answer, Limits, point-at};
 ghost use Rattle.point.specs.Inner.{earlier, point-of, Listed};
 
 // The largest area, the largest distance from one area to the next, the largest value, the largest size of a slope.
@@ -57,6 +57,18 @@ pub fn point_fault(first: bool, before: u32, p: Point) -> u32
         return 5;
     }
     0
+}
+
+// Request 4: 200,000 less the value, and the slope with its sign changed.
+pub fn mirror(p: Point) -> Point
+    requires { ⌜ Limits (point-of p) ⌝ }
+    ensures { λ r. ⌜ point-of r ≡ mirror (point-of p) ⌝ }
+{
+    Point {
+        area: p.area,
+        value: VALUE_MOST - p.value,
+        slope: -p.slope,
+    }
 }
 
 // The point at an index of three lists that are equally long.

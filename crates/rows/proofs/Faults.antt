@@ -16,8 +16,8 @@ use lib.Dec.{eqb}
 use lib.ListN.{length, drop}
 use lib.Seq.{drop-cons, drop-length}
 use Rattle.model.specs.Answer.{Answer, gives, refused, row, _then_}
-use Rattle.model.specs.Points.{Point, segments, Shape}
-use Rattle.model.specs.Shape.{has-shape}
+use Rattle.model.specs.Points.{Point, segments, Rule}
+use Rattle.model.specs.Shape.{segment-test}
 use Rattle.model.specs.Check.{point-rows, segment-rows}
 use Rattle.model.specs.Inner.{fault-answer, between, origin, point-at, Limits}
 use Rattle.model.proofs.Rows.{passed}
@@ -64,8 +64,8 @@ module _ (ps : List Point) where
   abbrev pub points-from : Option ℕ → ℕ → Answer (Unit {0})
   points-from before i = point-rows i before (drop i ps)
 
-  abbrev pub segments-from : Shape → ℕ → Answer (Unit {0})
-  segments-from shape i = segment-rows i shape (segments (drop i ps))
+  abbrev pub segments-from : Rule → ℕ → Answer (Unit {0})
+  segments-from rule i = segment-rows i rule (segments (drop i ps))
 
   -- the point at i, then the rows of the points after it
   pub point-turn : (before : Option ℕ) (i number : ℕ) (p : Point) → i < length ps →
@@ -80,19 +80,19 @@ module _ (ps : List Point) where
   point-end before i e = rw (e, drop-length ps)
 
   -- the segment at i, then the rows of the segments after it
-  pub segment-turn : (shape : Shape) (i : ℕ) {b : Bool} (p q : Point) → i + 1 < length ps →
+  pub segment-turn : (rule : Rule) (i : ℕ) {b : Bool} (p q : Point) → i + 1 < length ps →
       p ≡ point-at ps i →
       q ≡ point-at ps (i + 1) →
-      b ≡ has-shape shape (between p q) →
-      (row (not b) 6 i then segments-from shape (i + 1)) ≡ segments-from shape i
+      b ≡ segment-test rule (between p q) →
+      (row (not b) 6 i then segments-from rule (i + 1)) ≡ segments-from rule i
   unfolding segments segment-rows
-  segment-turn shape i p q h e f g =
+  segment-turn rule i p q h e f g =
       let here : i < length ps = omega arith in
       let next : suc i < length ps = omega arith in
       rw (g, e, f, add-one i, drop-cons ps i origin here, drop-cons ps (suc i) origin next)
 
-  pub segment-end : (shape : Shape) (i : ℕ) → i + 1 ≡ length ps → segments-from shape i ≡ gives tt
+  pub segment-end : (rule : Rule) (i : ℕ) → i + 1 ≡ length ps → segments-from rule i ≡ gives tt
   unfolding segments segment-rows
-  segment-end shape i e =
+  segment-end rule i e =
       let here : i < length ps = omega arith in
       rw (drop-cons ps i origin here, ← add-one i, e, drop-length ps)

@@ -11,7 +11,7 @@ use Prim.Native.Nat.{ℕ, _+_, _≤_, _<_}
 use borrow.Author.Tests.{le-ltb}
 use lib.ListN.{length}
 use Rattle.model.specs.Answer.{row, _then_}
-use Rattle.model.specs.Points.{points-least, points-most, Point, shape-of}
+use Rattle.model.specs.Points.{points-least, points-most, Point, rule-of}
 use Rattle.model.specs.Check.{bad-count, bad-code, point-rows, curve-rows}
 use Rattle.model.specs.Inner.{Accepted, fault-answer, Limits, point-at}
 use Rattle.model.proofs.Rows.{passed}
@@ -22,7 +22,7 @@ use Rattle.rows.proofs.Faults.{points-from, point-turn, point-end, segm
 pub record Passing (ps : List Point) (code i : ℕ) : Type 0 where
   pub limits : Limits (point-at ps i)
   pub points-pass : points-from ps (some (point-at ps i .area)) (i + 1) ≡ points-from ps none 0
-  pub segments-pass : segments-from ps (shape-of code) i ≡ segments-from ps (shape-of code) 0
+  pub segments-pass : segments-from ps (rule-of code) i ≡ segments-from ps (rule-of code) 0
 
 module _ (ps : List Point) (code : ℕ) where
   pub passing-starts : {number : ℕ} → 0 < length ps → number ≡ 0 →
@@ -35,7 +35,7 @@ module _ (ps : List Point) (code : ℕ) where
         segments-pass = refl;
       }
 
-  pub passing-goes-on : {i : ℕ} → i + 1 < length ps → Follows (shape-of code) (point-at ps i) (point-at ps (i + 1)) →
+  pub passing-goes-on : {i : ℕ} → i + 1 < length ps → Follows (rule-of code) (point-at ps i) (point-at ps (i + 1)) →
       Passing ps code i →
       Passing ps code (i + 1)
   unfolding row _then_
@@ -47,7 +47,7 @@ module _ (ps : List Point) (code : ℕ) where
             ∙ point-turn ps _ (i + 1) 0 _ h refl (no-fault (i + 1) refl ∙ sym (f .point-passes (i + 1)))
             ∙ k .points-pass;
         segments-pass =
-            segment-turn ps (shape-of code) i _ _ h refl refl (sym (f .segment-passes)) ∙ k .segments-pass;
+            segment-turn ps (rule-of code) i _ _ h refl refl (sym (f .segment-passes)) ∙ k .segments-pass;
       }
 
   pub accepted-of : {i : ℕ} → points-least ≤ length ps → length ps ≤ points-most → bad-code code ≡ false →

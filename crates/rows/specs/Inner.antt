@@ -11,8 +11,8 @@ use Prim.Native.Nat.{ℕ, _≤_}
 use lib.IntN.{ℤ}
 use lib.ListN.{length}
 use Rattle.model.specs.Answer.{gives}
-use Rattle.model.specs.Points.{points-least, points-most, Point, points, Shape}
-use Rattle.model.specs.Shape.{has-shape}
+use Rattle.model.specs.Points.{points-least, points-most, Point, points, Rule}
+use Rattle.model.specs.Shape.{segment-test}
 use Rattle.model.specs.Check.{point-rows}
 use Rattle.model.specs.Inner.{Alike, between}
 
@@ -25,6 +25,6 @@ pub record Limited (areas values : List ℕ) (slopes : List ℤ) : Type 0 where
   pub lengths : Lengths (length areas) (length values) (length slopes)
   pub points-pass : point-rows 0 none (points areas values slopes) ≡ gives tt
 
-pub record Follows (shape : Shape) (p q : Point) : Type 0 where
+pub record Follows (rule : Rule) (p q : Point) : Type 0 where
   pub point-passes : (i : ℕ) → point-rows i (some (p .area)) (q ∷ []) ≡ gives tt
-  pub segment-passes : has-shape shape (between p q) ≡ true
+  pub segment-passes : segment-test rule (between p q) ≡ true

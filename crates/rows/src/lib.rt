@@ -4,7 +4,7 @@ ghost use mathlib.Core.Bool.{true, false};
 ghost use mathlib.Core.Option.{none};
 ghost use lib.ListN.{length};
 ghost use Rattle.model.specs.Answer.{gives};
-ghost use Rattle.model.specs.Points.{points, segments, shape-of};
+ghost use Rattle.model.specs.Points.{points, segments, rule-of};
 ghost use Rattle.model.specs.Check.{lengths-differ, bad-count, bad-code, point-rows, segment-rows, curve-rows, on-lists};
 ghost use Rattle.model.specs.Inner.{Accepted, fault-answer, Limits};
 ghost use Rattle.point.specs.Inner.{point-of};
@@ -46,21 +46,21 @@ pub fn bad_count(n: usize) -> bool
 pub fn bad_code(shape: u32) -> bool
     ensures { λ r. ⌜ r ≡ bad-code shape ⌝ }
 {
-    if shape == 1 {
-        return false;
+    if shape < 1 {
+        return true;
     }
-    shape != 2
+    shape > 4
 }
 
 // Rows 3 to 6 of the second of two points and of the segment between them.
 pub fn follows(shape: u32, p: Point, q: Point) -> bool
     requires { ⌜ Limits (point-of p) ⌝ }
-    ensures { λ r. ⌜ (r ≡ true → Follows (shape-of shape) (point-of p) (point-of q)) ⌝ }
+    ensures { λ r. ⌜ (r ≡ true → Follows (rule-of shape) (point-of p) (point-of q)) ⌝ }
 {
     if point::point_fault(false, p.area, q) != 0 {
         return false;
     }
-    shape::has_shape(shape, p, q)
+    shape::segment_test(shape, p, q)
 }
 
 // Rows 3 to 6 in one pass. Where it finds a fault it does not say which.
@@ -114,7 +114,7 @@ fn points_fault(areas: &[u32], values: &[u32], slopes: &[i32]) -> Fault
 fn segments_fault(areas: &[u32], values: &[u32], slopes: &[i32], shape: u32) -> Fault
     requires { ⌜ Limited (now areas) (now values) (now slopes) ⌝ }
     ensures { λ r. ⌜ fault-answer (r .number) (r .place)
-        ≡ segment-rows 0 (shape-of shape) (segments (points (now (areas .entry)) (now (values .entry)) (now (slopes .entry)))) ⌝ }
+        ≡ segment-rows 0 (rule-of shape) (segments (points (now (areas .entry)) (now (values .entry)) (now (slopes .entry)))) ⌝ }
 {
     let last = areas.len() - 1;
     let mut left: usize = 0;
@@ -122,7 +122,7 @@ fn segments_fault(areas: &[u32], values: &[u32], slopes: &[i32], shape: u32) -> 
         let right = left + 1;
         let p = point::point_at(areas, values, slopes, left);
         let q = point::point_at(areas, values, slopes, right);
-        if !shape::has_shape(shape, p, q) {
+        if !shape::segment_test(shape, p, q) {
             return Fault {
                 number: 6,
                 place: left as u32,

@@ -1,18 +1,41 @@
 -- What contracts of inner functions cite: one segment in plain numbers. Nothing here need be believed: the calls' contracts cite
 -- the definitions of document 01.
 --   Distances        t and u, of an area from the two ends of a segment
---   part             A of the rising curve, from one end; whole-part is B; rising-reading, the rounded value
---   raised           the convex curve in hundredths, raised so that nothing is negative
---   Weights, RisingInput, ConvexInput   how large are the arguments of `part`, `rising` and `raised`
+--   Rounds           a value rounded, and whether it is an exact half; taken-from, a whole number less the value, rounded
+--   part             A of the rising curve, from one end; whole-part is B; share, A F with B / 2 for the rounding
+--   rising-reading   the rounded value; rising-tie, it is an exact half
+--   raised           the convex curve in hundredths, raised so that nothing is negative; convex-tie, it is an exact half
+--   BentAt           the figures of an area of a convex segment
+--   Weights, RisingInput, ConvexInput, RaisedSize, Small   how large are the arguments of `part`, `rising`, `raised`, `lowered` and
+--                    `from_mirror`
 -- Assumes nothing.
 use mathlib.Core.Path.{_≡_}
-use Prim.Native.Nat.{ℕ, _+_, _*_, _/_, _≤_, _<_}
-use Rattle.model.specs.Points.{gap-most, value-most, slope-most}
+use mathlib.Core.Bool.{Bool, cond, _&&_}
+use Prim.Native.Nat.{ℕ, _+_, _-_, _*_, _/_, _%_, _^_, _≤_, _<_}
+use lib.Dec.{eqb}
+use lib.IntN.{ℤ, pos, natAbs, _+ℤ_, _-ℤ_, _*ℤ_}
+use Rattle.exact.specs.Fraction.{Fraction}
+use Rattle.exact.specs.Rounding.{round}
+use Rattle.exact.specs.Inner.{tie}
+use Rattle.model.specs.Points.{gap-most, value-most, slope-most, Segment}
 use Rattle.shape.specs.Inner.{over-most}
+use Rattle.segment.specs.declared.Bent.{Bent}
 
 pub record Distances (t u : ℕ) : Type 0 where
   pub most : t + u ≤ gap-most
   pub least : 0 < t + u
+
+pub record Rounds (v : Fraction) (k : ℤ) (t : Bool) : Type 0 where
+  pub value : k ≡ round v
+  pub half : t ≡ tie v
+
+abbrev pub taken-from : ℕ → ℤ → Bool → ℤ
+taken-from n k t = pos n -ℤ k +ℤ cond t (pos 1) (pos 0)
+
+pub record Small (k : ℤ) : Type 0 where
+  pub size : natAbs k ≤ value-most
+
+-- ---- rising
 
 abbrev pub part : (t u G E : ℕ) → ℕ
 part t u G E = t * (G * t + E * u)
@@ -26,9 +49,14 @@ pub record Weights (t u G E : ℕ) : Type 0 where
 abbrev pub whole-part : (t u F D₀ D₁ : ℕ) → ℕ
 whole-part t u F D₀ D₁ = part t u (100 * F) ((t + u) * D₀) + part u t (100 * F) ((t + u) * D₁)
 
+abbrev pub share : (t u F D₀ D₁ : ℕ) → ℕ
+share t u F D₀ D₁ = part t u (100 * F) ((t + u) * D₀) * F + whole-part t u F D₀ D₁ / 2
+
 abbrev pub rising-reading : (t u left F D₀ D₁ : ℕ) → ℕ
-rising-reading t u left F D₀ D₁ =
-    left + (part t u (100 * F) ((t + u) * D₀) * F + whole-part t u F D₀ D₁ / 2) / whole-part t u F D₀ D₁
+rising-reading t u left F D₀ D₁ = left + share t u F D₀ D₁ / whole-part t u F D₀ D₁
+
+abbrev pub rising-tie : (t u F D₀ D₁ : ℕ) → Bool
+rising-tie t u F D₀ D₁ = eqb (share t u F D₀ D₁ % whole-part t u F D₀ D₁) 0
 
 pub record RisingInput (t u left F D₀ D₁ : ℕ) : Type 0 where
   pub distances : Distances t u
@@ -37,11 +65,21 @@ pub record RisingInput (t u left F D₀ D₁ : ℕ) : Type 0 where
   pub left-slope : D₀ ≤ slope-most
   pub right-slope : D₁ ≤ slope-most
   pub above-0 : 0 < whole-part t u F D₀ D₁
+  pub fits : rising-reading t u left F D₀ D₁ < 2 ^ 31
+
+-- ---- convex
 
 -- The left tangent with one half for the rounding, and above it w² / (W h), with w = b t and W = a u + b t. d is the left slope
 -- plus 10,000, so this is 10,000 t too much.
 abbrev pub raised : (t u h left d a b : ℕ) → ℕ
 raised t u h left d a b = 50 * (2 * left + 1) + d * t + b * t * (b * t) / ((a * u + b * t) * h)
+
+-- what is left of a division, and the last two digits of n, are 0
+abbrev pub ends-in-0 : ℕ → ℕ → Bool
+ends-in-0 rest n = eqb rest 0 && eqb (n % 100) 0
+
+abbrev pub convex-tie : (t u h left d a b : ℕ) → Bool
+convex-tie t u h left d a b = ends-in-0 (b * t * (b * t) % ((a * u + b * t) * h)) (raised t u h left d a b)
 
 pub record ConvexInput (t u h left d a b : ℕ) : Type 0 where
   pub distances : Distances t u
@@ -50,3 +88,20 @@ pub record ConvexInput (t u h left d a b : ℕ) : Type 0 where
   pub slope : d ≤ 2 * slope-most
   pub above : a ≤ 2 * over-most
   pub below : b ≤ 2 * over-most
+
+pub record RaisedSize (t n : ℕ) : Type 0 where
+  pub near : t ≤ gap-most
+  pub sum : n < 2 ^ 37 + 100
+
+pub record BentAt (s : Segment) (x : ℕ) (y : Bent) : Type 0 where
+  pub t : y .t ≡ x - s .left .area
+  pub u : y .u ≡ s .right .area - x
+  pub h : y .h ≡ s .right .area - s .left .area
+  pub left : y .left ≡ s .left .value
+  pub d : pos (y .d) ≡ s .left .slope +ℤ pos slope-most
+  pub a : pos (y .a) ≡
+      (pos (s .right .area) -ℤ pos (s .left .area)) *ℤ s .right .slope
+      -ℤ pos 100 *ℤ (pos (s .right .value) -ℤ pos (s .left .value))
+  pub b : pos (y .b) ≡
+      pos 100 *ℤ (pos (s .right .value) -ℤ pos (s .left .value))
+      -ℤ (pos (s .right .area) -ℤ pos (s .left .area)) *ℤ s .left .slope

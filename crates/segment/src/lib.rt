@@ -1,15 +1,39 @@
 // The factor at an area of one segment, by one division other than by constants.
 ghost use mathlib.Core.Path.{_≡_};
-ghost use Prim.Native.Nat.{_/_};
+ghost use lib.IntN.{pos, _-ℤ_};
+ghost use Prim.Native.Nat.{_-_, _*_, _/_, _%_, _<_};
 ghost use Rattle.segment.specs.Inner as inner;
-ghost use Rattle.segment.specs.Inner.{Weights, RisingInput, rising-reading, ConvexInput};
-ghost use Rattle.exact.specs.Rounding.{round};
-ghost use Rattle.model.specs.Points.{Shape, shape-of};
-ghost use Rattle.model.specs.Interpolant.{interpolant};
+ghost use Rattle.segment.specs.Inner.{Weights, RisingInput, rising-reading, rising-tie, ConvexInput, convex-tie};
+ghost use Rattle.segment.specs.Inner.{Rounds, Small, taken-from, BentAt, ends-in-0, RaisedSize};
+ghost use Rattle.exact.specs.Fraction.{whole, _-ℚ_};
+ghost use Rattle.exact.specs.Rounding.{floorDiv, round};
+ghost use Rattle.model.specs.Points.{value-most, slope-most, Shape, shape-of, Rule, rule-of};
+ghost use Rattle.model.specs.Interpolant.{interpolant, exact-curve};
 ghost use Rattle.model.specs.Inner.{Good, Inside};
 ghost use Rattle.point.specs.Inner.{segment-of};
 use point::Point;
 use point::SLOPE_MOST;
+use point::VALUE_MOST;
+
+// A value rounded, an exact half upwards; and whether it is an exact half.
+struct Rounded {
+    value: i32,
+    tie: bool,
+}
+
+// 200,000 less the value, rounded: there too an exact half goes upwards.
+fn from_mirror(r: Rounded) -> i32
+    requires { ⌜ Small (r .value) ⌝ }
+    ensures { λ k. ⌜ k ≡ taken-from value-most (r .value) (r .tie) ⌝ }
+{
+    let below = (VALUE_MOST as i32) - r.value;
+    if r.tie {
+        return below + 1;
+    }
+    below
+}
+
+// ---- rising
 
 // t (g t + e u)
 fn part(t: u64, u: u64, g: u64, e: u64) -> u64
@@ -19,85 +43,191 @@ fn part(t: u64, u: u64, g: u64, e: u64) -> u64
     t * (g * t + e * u)
 }
 
-// The factor on a rising curve. t and u are the distances from the two ends, d0 and d1 the slopes in hundredths.
-fn rising(t: u64, u: u64, left: u64, rise: u64, d0: u64, d1: u64) -> u64
+// The value on a rising curve. t and u are the distances from the two ends, d0 and d1 the slopes in hundredths.
+fn rising(t: u64, u: u64, left: u64, rise: u64, d0: u64, d1: u64) -> Rounded
     requires { ⌜ RisingInput t u left rise d0 d1 ⌝ }
-    ensures { λ r. ⌜ r ≡ rising-reading t u left rise d0 d1 ⌝ }
+    ensures value { λ r. ⌜ r .value ≡ pos (rising-reading t u left rise d0 d1) ⌝ }
+    ensures tie { λ r. ⌜ r .tie ≡ rising-tie t u rise d0 d1 ⌝ }
 {
     let h = t + u;
     let g = 100 * rise;
     let a = part(t, u, g, h * d0);
     let b = a + part(u, t, g, h * d1);
-    left + (a * rise + b / 2) / b
+    let n = a * rise + b / 2;
+    Rounded {
+        value: (left + n / b) as i32,
+        tie: n % b == 0,
+    }
 }
 
-// 100 times the value of a convex curve, with 50 for the rounding and 10000 t, so that nothing is negative: d is the left slope
-// plus 10000. The last two digits need not be right. a and b are the end slopes' distances from the chord, over 100 h: with
-// w = b t and W = a u + w the curve is w w / (W h) hundredths above its left tangent.
-fn raised(t: u64, u: u64, h: u64, left: u64, d: u64, a: u64, b: u64) -> u64
-    requires { ⌜ ConvexInput t u h left d a b ⌝ }
-    ensures { λ r. ⌜ r / 100 ≡ inner.raised t u h left d a b / 100 ⌝ }
-{
-    let tangent = 50 * (2 * left + 1) + d * t;
-    let w = b * t;
-    if w == 0 {
-        return tangent;
-    }
-    let divisor = a * u + w;
-    // b h is the largest w of the segment. It is asked, and not w, so that all areas of a segment take one branch.
-    if b * h < 0x1_0000_0000 {
-        return tangent + w * w / (divisor * h);
-    }
-    // w w may pass 64 bits. From the leading bits the sum is at most 1 too low, which changes the last two digits alone unless
-    // they are 99.
-    let x = w / 32;
-    let least = tangent + x * x / (divisor * h / 1024 + 1);
-    if least % 100 != 99 {
-        return least;
-    }
-    tangent + exact::mul_div(w, w, divisor) / h
-}
-
-// The factor at an area of a rising segment. u is taken as h - t, so that the compiler sees that t + u is h for every area.
-fn rising_factor(p: Point, q: Point, area: u32) -> i32
-    requires { ⌜ Inside (Good Shape.rising) (segment-of p q) area ⌝ }
-    ensures { λ r. ⌜ r ≡ round (interpolant Shape.rising (segment-of p q) area) ⌝ }
+// The value at an area of a rising segment. u is taken as h - t, so that the compiler sees that t + u is h for every area.
+fn rising_value(p: Point, q: Point, area: u32) -> Rounded
+    requires { ⌜ Inside (Good (Rule.plain Shape.rising)) (segment-of p q) area ⌝ }
+    ensures { λ r. ⌜ Rounds (interpolant Shape.rising (segment-of p q) area) (r .value) (r .tie) ⌝ }
 {
     if q.value == p.value {
-        return p.value as i32;
+        return Rounded {
+            value: p.value as i32,
+            tie: false,
+        };
     }
     let t = (area - p.area) as u64;
     let u = (q.area - p.area) as u64 - t;
     let rise = (q.value - p.value) as u64;
     let d0 = p.slope as u64;
     let d1 = q.slope as u64;
-    rising(t, u, p.value as u64, rise, d0, d1) as i32
+    rising(t, u, p.value as u64, rise, d0, d1)
 }
 
-// The factor at an area of a convex segment.
-fn convex_factor(p: Point, q: Point, area: u32) -> i32
-    requires { ⌜ Inside (Good Shape.convex) (segment-of p q) area ⌝ }
-    ensures { λ r. ⌜ r ≡ round (interpolant Shape.convex (segment-of p q) area) ⌝ }
+// ---- convex
+
+// An area of a convex segment: t and u are its distances from the two ends, h their sum; left is the left value, d the left slope
+// plus 10000; a and b are the end slopes' distances from the chord, over 100 h.
+struct Bent {
+    t: u64,
+    u: u64,
+    h: u64,
+    left: u64,
+    d: u64,
+    a: u64,
+    b: u64,
+}
+
+// Hundredths, and what is left of the division that they come from.
+struct Sum {
+    hundredths: u64,
+    rest: u64,
+}
+
+// 100 times the value of a convex curve, with 50 for the rounding and 10000 t, so that nothing is negative. With w = b t and
+// W = a u + w the curve is w w / (W h) hundredths above its left tangent. The last two digits need not be right, nor what is left,
+// but for whether all of them are 0, where `ties` is 1. Where h divides it is t + u: the compiler would test at each area whether
+// an h that is the same for all of them is 0.
+fn raised(ties: u64, x: Bent) -> Sum
+    requires { ⌜ ConvexInput (x .t) (x .u) (x .h) (x .left) (x .d) (x .a) (x .b) ⌝ }
+    ensures hundreds { λ s. ⌜ s .hundredths / 100 ≡ inner.raised (x .t) (x .u) (x .h) (x .left) (x .d) (x .a) (x .b) / 100 ⌝ }
+    ensures tie { λ s. ⌜ (ties ≡ 1 →
+        ends-in-0 (s .rest) (s .hundredths) ≡ convex-tie (x .t) (x .u) (x .h) (x .left) (x .d) (x .a) (x .b)) ⌝ }
+{
+    let tangent = 50 * (2 * x.left + 1) + x.d * x.t;
+    let w = x.b * x.t;
+    if w == 0 {
+        return Sum {
+            hundredths: tangent,
+            rest: 0,
+        };
+    }
+    let divisor = x.a * x.u + w;
+    let h = x.t + x.u;
+    // b h is the largest w of the segment. It is asked, and not w, so that all areas of a segment take one branch.
+    if x.b * x.h < 0x1_0000_0000 {
+        return Sum {
+            hundredths: tangent + w * w / (divisor * h),
+            rest: w * w % (divisor * h),
+        };
+    }
+    // w w may pass 64 bits. From the leading bits the sum is at most 1 too low, which changes the last two digits alone unless
+    // they are 99; unless they are 99 or 0, the value is no exact half.
+    let v = w / 32;
+    let least = tangent + v * v / (divisor * x.h / 1024 + 1);
+    if (least + 1) % 100 > ties {
+        return Sum {
+            hundredths: least,
+            rest: 1,
+        };
+    }
+    let s = exact::mul_div(w, w, divisor);
+    Sum {
+        hundredths: tangent + s.q / h,
+        rest: s.r + s.q % h,
+    }
+}
+
+// An area of a convex segment.
+fn bent(p: Point, q: Point, area: u32) -> Bent
+    requires { ⌜ Inside (Good (Rule.plain Shape.convex)) (segment-of p q) area ⌝ }
+    ensures { λ x. ⌜ BentAt (segment-of p q) area x ⌝ }
 {
     let e = shape::slopes_of(p, q);
     let a = (e.right - e.chord) as u64;
     let b = (e.chord - e.left) as u64;
     let d = (p.slope + SLOPE_MOST) as u64;
-    let t = (area - p.area) as u64;
-    let u = (q.area - area) as u64;
-    let h = (q.area - p.area) as u64;
-    let r = raised(t, u, h, p.value as u64, d, a, b);
-    let n = (r as i64) - ((SLOPE_MOST as u64 * t) as i64);
-    exact::floor_div(n, 100) as i32
+    Bent {
+        t: (area - p.area) as u64,
+        u: (q.area - area) as u64,
+        h: (q.area - p.area) as u64,
+        left: p.value as u64,
+        d,
+        a,
+        b,
+    }
+}
+
+// The value of raised hundredths.
+fn lowered(t: u64, s: Sum) -> Rounded
+    requires { ⌜ RaisedSize t (s .hundredths) ⌝ }
+    ensures value { λ r. ⌜ r .value ≡ floorDiv (pos (s .hundredths) -ℤ pos (slope-most * t)) 100 ⌝ }
+    ensures tie { λ r. ⌜ r .tie ≡ ends-in-0 (s .rest) (s .hundredths) ⌝ }
+{
+    let n = (s.hundredths as i64) - ((SLOPE_MOST as u64 * t) as i64);
+    let value = exact::floor_div(n, 100) as i32;
+    if s.rest != 0 {
+        return Rounded { value, tie: false };
+    }
+    Rounded {
+        value,
+        tie: s.hundredths % 100 == 0,
+    }
+}
+
+// ---- the factor. `raised` is called for a curve and for its mirror apart, so that the compiler makes two of it.
+
+fn convex_factor(p: Point, q: Point, area: u32) -> i32
+    requires { ⌜ Inside (Good (Rule.plain Shape.convex)) (segment-of p q) area ⌝ }
+    ensures { λ r. ⌜ r ≡ round (interpolant Shape.convex (segment-of p q) area) ⌝ }
+{
+    let x = bent(p, q, area);
+    lowered(x.t, raised(0, x)).value
+}
+
+// Of points that are mirrored.
+fn concave_factor(p: Point, q: Point, area: u32) -> i32
+    requires { ⌜ Inside (Good (Rule.plain Shape.convex)) (segment-of p q) area ⌝ }
+    ensures { λ r. ⌜ r ≡ round (whole (pos value-most) -ℚ interpolant Shape.convex (segment-of p q) area) ⌝ }
+{
+    let x = bent(p, q, area);
+    from_mirror(lowered(x.t, raised(1, x)))
+}
+
+// The factor of codes 1 and 2.
+fn plain_factor(code: u32, p: Point, q: Point, area: u32) -> i32
+    requires { ⌜ Inside (Good (Rule.plain (shape-of code))) (segment-of p q) area ⌝ }
+    ensures { λ r. ⌜ r ≡ round (interpolant (shape-of code) (segment-of p q) area) ⌝ }
+{
+    if code == 1 {
+        return rising_value(p, q, area).value;
+    }
+    convex_factor(p, q, area)
+}
+
+// The factor of codes 3 and 4, of points that are mirrored, by the code of the mirror.
+fn mirrored_factor(code: u32, p: Point, q: Point, area: u32) -> i32
+    requires { ⌜ Inside (Good (Rule.plain (shape-of code))) (segment-of p q) area ⌝ }
+    ensures { λ r. ⌜ r ≡ round (whole (pos value-most) -ℚ interpolant (shape-of code) (segment-of p q) area) ⌝ }
+{
+    if code == 1 {
+        return from_mirror(rising_value(p, q, area));
+    }
+    concave_factor(p, q, area)
 }
 
 // The factor at an area of a segment that has its shape.
-pub fn factor(shape: u32, p: Point, q: Point, area: u32) -> i32
-    requires { ⌜ Inside (Good (shape-of shape)) (segment-of p q) area ⌝ }
-    ensures { λ r. ⌜ r ≡ round (interpolant (shape-of shape) (segment-of p q) area) ⌝ }
+pub fn factor(code: u32, p: Point, q: Point, area: u32) -> i32
+    requires { ⌜ Inside (Good (rule-of code)) (segment-of p q) area ⌝ }
+    ensures { λ r. ⌜ r ≡ round (exact-curve (rule-of code) (segment-of p q) area) ⌝ }
 {
-    if shape == 1 {
-        return rising_factor(p, q, area);
+    if code <= 2 {
+        return plain_factor(code, p, q, area);
     }
-    convex_factor(p, q, area)
+    mirrored_factor(code - 2, point::mirror(p), point::mirror(q), area)
 }

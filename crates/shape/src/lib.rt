@@ -3,8 +3,8 @@ ghost use mathlib.Core.Path.{_≡_};
 ghost use mathlib.Core.Bool.{_&&_};
 ghost use lib.IntN.{pos};
 ghost use lib.Signed.{leZ};
-ghost use Rattle.model.specs.Points.{Shape, shape-of};
-ghost use Rattle.model.specs.Shape.{has-shape};
+ghost use Rattle.model.specs.Points.{Shape, shape-of, rule-of};
+ghost use Rattle.model.specs.Shape.{has-shape, segment-test};
 ghost use Rattle.model.specs.Inner.{Neighbours};
 ghost use Rattle.point.specs.Inner.{segment-of};
 ghost use Rattle.shape.specs.Inner.{SlopesOver};
@@ -75,13 +75,24 @@ fn bends(p: Point, q: Point) -> bool
     e.chord == e.right
 }
 
-// Row 6 is passed: the segment between two points has its shape.
-pub fn has_shape(shape: u32, p: Point, q: Point) -> bool
+// The shape of codes 1 and 2.
+fn has_shape(code: u32, p: Point, q: Point) -> bool
     requires { ⌜ Neighbours (segment-of p q) ⌝ }
-    ensures { λ r. ⌜ r ≡ has-shape (shape-of shape) (segment-of p q) ⌝ }
+    ensures { λ r. ⌜ r ≡ has-shape (shape-of code) (segment-of p q) ⌝ }
 {
-    if shape == 1 {
+    if code == 1 {
         return rises(p, q);
     }
     bends(p, q)
+}
+
+// Row 6 is passed: the segment between two points has the shape of its code, 3 and 4 on mirrored points.
+pub fn segment_test(code: u32, p: Point, q: Point) -> bool
+    requires { ⌜ Neighbours (segment-of p q) ⌝ }
+    ensures { λ r. ⌜ r ≡ segment-test (rule-of code) (segment-of p q) ⌝ }
+{
+    if code <= 2 {
+        return has_shape(code, p, q);
+    }
+    has_shape(code - 2, point::mirror(p), point::mirror(q))
 }

@@ -15,7 +15,7 @@ use mir.ValLaws.{sfits-le}
 use mir.Facts.{toZ-ofZ, toZ-pos}
 use Rattle.exact.specs.Rounding.{floorDiv}
 use Rattle.exact.specs.Inner.{folded}
-use Rattle.exact.proofs.Signed.{mirror, mirror-pos, sfits-mirror}
+use Rattle.exact.proofs.Signed.{complement, complement-pos, sfits-complement}
 use Rattle.exact.proofs.floor_div.Statement.{statement}
 use Rattle.exact.proofs.floor_div.Tie as tie
 
@@ -24,10 +24,10 @@ unfolding folded
 folded-fits {z = pos m} f = f
 folded-fits {z = negsuc m} f = record { sfits = f .sfits }
 
-of-negative : (z : ℤ) (d : ℕ) → ltZ z (pos 0) ≡ true → mirror (pos (folded z / d)) ≡ floorDiv z d
+of-negative : (z : ℤ) (d : ℕ) → ltZ z (pos 0) ≡ true → complement (pos (folded z / d)) ≡ floorDiv z d
 unfolding floorDiv folded
 of-negative (pos a) d e = absurd (omega (arith, ltb-true a 0 e))
-of-negative (negsuc a) d e = mirror-pos (a / d)
+of-negative (negsuc a) d e = complement-pos (a / d)
 
 of-natural : (z : ℤ) (d : ℕ) → ltZ z (pos 0) ≡ false → pos (folded z / d) ≡ floorDiv z d
 unfolding floorDiv folded
@@ -56,7 +56,7 @@ negative c = rw (toZ-ofZ (c .before .before .fits .n)) at (c .if1 .taken)
 returns : tie.Need-returns
 returns c =
     let k = c .before in
-    rw (q-is k) (toZ-ofZ (sfits-mirror (q-fits k)) ∙ of-negative (n k) (d k) (negative c))
+    rw (q-is k) (toZ-ofZ (sfits-complement (q-fits k)) ∙ of-negative (n k) (d k) (negative c))
 
 returns-2 : tie.Need-returns-2
 returns-2 c =
@@ -67,4 +67,4 @@ pub floor-div-spec : {M : Type 1} → statement M
 floor-div-spec =
     tie.close
     (tie.spec (search needs) (search needs) (λ c. rw (divided c) (q-fits c))
-    (λ c. rw (q-is (c .before)) (sfits-mirror (q-fits (c .before)))) returns returns-2)
+    (λ c. rw (q-is (c .before)) (sfits-complement (q-fits (c .before)))) returns returns-2)

@@ -10,15 +10,15 @@ use mir.Syntax.{w64}
 use mir.Val.{SFits, toZ, ofZ}
 use mir.Facts.{toZ-ofZ}
 use Rattle.exact.specs.Inner.{folded}
-use Rattle.exact.proofs.Signed.{cast-of-natural, mirror, mirror-negsuc, sfits-mirror}
-use Rattle.exact.proofs.Signed.{natural-of-not-negative, mirror-natural-of-negative}
+use Rattle.exact.proofs.Signed.{cast-of-natural, complement, complement-negsuc, sfits-complement}
+use Rattle.exact.proofs.Signed.{natural-of-not-negative, complement-natural-of-negative}
 use Rattle.exact.proofs.folded.Statement.{statement}
 use Rattle.exact.proofs.folded.Tie as tie
 
-folded-of-negative : (z : ℤ) → ltZ z (pos 0) ≡ true → natAbs (mirror z) ≡ folded z
+folded-of-negative : (z : ℤ) → ltZ z (pos 0) ≡ true → natAbs (complement z) ≡ folded z
 unfolding folded
 folded-of-negative (pos a) e = absurd (omega (arith, ltb-true a 0 e))
-folded-of-negative (negsuc a) e = rw (mirror-negsuc a) refl
+folded-of-negative (negsuc a) e = rw (complement-negsuc a) refl
 
 folded-of-natural : (z : ℤ) → ltZ z (pos 0) ≡ false → natAbs z ≡ folded z
 unfolding folded
@@ -33,11 +33,11 @@ module _ (c : tie.Then1) where
   negative : ltZ n (pos 0) ≡ true
   negative = rw (toZ-ofZ (c .before .fits .n)) at (c .if1 .taken)
 
-  mirror-fits : SFits w64 (mirror n)
-  mirror-fits = sfits-mirror (c .before .fits .n)
+  complement-fits : SFits w64 (complement n)
+  complement-fits = sfits-complement (c .before .fits .n)
 
-  mirror-back : toZ w64 (ofZ w64 (mirror (toZ w64 (ofZ w64 n)))) ≡ mirror n
-  mirror-back = rw (toZ-ofZ (c .before .fits .n)) (toZ-ofZ mirror-fits)
+  complement-back : toZ w64 (ofZ w64 (complement (toZ w64 (ofZ w64 n)))) ≡ complement n
+  complement-back = rw (toZ-ofZ (c .before .fits .n)) (toZ-ofZ complement-fits)
 
 -- n not below 0
 not-negative : (c : tie.Else1) → ltZ (c .before .args .n) (pos 0) ≡ false
@@ -50,8 +50,8 @@ pub folded-spec : {M : Type 1} → statement M
 folded-spec =
     tie.close
     (tie.spec
-    (λ c. rw (toZ-ofZ (c .before .fits .n)) (mirror-fits c))
-    (λ c. rw (mirror-back c) (cast-of-natural tt (mirror-fits c) (mirror-natural-of-negative (n c) (negative c))))
-    (λ c. rw (mirror-back c) (folded-of-negative (n c) (negative c)))
+    (λ c. rw (toZ-ofZ (c .before .fits .n)) (complement-fits c))
+    (λ c. rw (complement-back c) (cast-of-natural tt (complement-fits c) (complement-natural-of-negative (n c) (negative c))))
+    (λ c. rw (complement-back c) (folded-of-negative (n c) (negative c)))
     (λ c. rw (toZ-ofZ (c .before .fits .n)) (cast-of-natural tt (c .before .fits .n) (natural-n c)))
     (λ c. rw (toZ-ofZ (c .before .fits .n)) (folded-of-natural (c .before .args .n) (not-negative c))))

@@ -7,7 +7,7 @@ use mathlib.Core.Option.{none}
 use borrow.Author.Needs.{needs}
 use lib.ListN.{length}
 use Rattle.model.specs.Answer.{Answer, row, _then_}
-use Rattle.model.specs.Points.{Point, points, segments, shape-of}
+use Rattle.model.specs.Points.{Point, points, segments, rule-of}
 use Rattle.model.specs.Check.{bad-count, point-rows, segment-rows, curve-rows, on-lists}
 use Rattle.model.specs.Inner.{Alike, fault-answer}
 use Rattle.model.proofs.Lists.{fields-of, fields-length}
@@ -72,7 +72,7 @@ module _ (c : tie.Else3) where
       record { alike = alike alike-at; least = n .0; most = n .1 }
 
   after-code : all-rows alike-at
-      ≡ (point-rows 0 none (ps alike-at) then segment-rows 0 (shape-of (start alike-at .args .shape)) (segments (ps alike-at)))
+      ≡ (point-rows 0 none (ps alike-at) then segment-rows 0 (rule-of (start alike-at .args .shape)) (segments (ps alike-at)))
   unfolding curve-rows row _then_
   after-code =
       rw (after-lengths alike-at, count-passed (c .before .before), sym (c .before .bad-code .ensures) ∙ c .if3 .left)
@@ -85,7 +85,7 @@ after-points : (c : tie.After-points-fault) →
     (let f = alike-at (c .before) in
     all-rows f
     ≡ (fault-answer (c .points-fault .result .number) (c .points-fault .result .place)
-    then segment-rows 0 (shape-of (start f .args .shape)) (segments (ps f))))
+    then segment-rows 0 (rule-of (start f .args .shape)) (segments (ps f))))
 after-points c = rw (after-code (c .before), sym (c .points-fault .ensures))
 
 returns-4 : tie.Need-returns-4

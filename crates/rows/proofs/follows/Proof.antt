@@ -23,4 +23,4 @@ follows-spec =
     tie.close
     (tie.spec (λ c κs. c .pre .area) (λ c e. absurd (true≢false (sym e)))
     (λ c κs. neighbours (c .before .before .pre) (passed 0 _ _ [] (point-passes c 0)))
-    (λ c e. record { point-passes = point-passes (c .before); segment-passes = sym (c .has-shape .ensures) ∙ e }))
+    (λ c e. record { point-passes = point-passes (c .before); segment-passes = sym (c .segment-test .ensures) ∙ e }))

@@ -8,7 +8,7 @@ use native.Mathlib.Numerals.{add-one}
 use native.Mathlib.Omega.{arith}
 use lib.ListN.{length}
 use Rattle.model.specs.Answer.{row, _then_}
-use Rattle.model.specs.Points.{Point, points, shape-of}
+use Rattle.model.specs.Points.{Point, points, rule-of}
 use Rattle.model.specs.Inner.{fault-answer, Neighbours}
 use Rattle.model.proofs.Lists.{fields-of, fields-length}
 use Rattle.model.proofs.Indexed.{chained-at}
@@ -21,7 +21,7 @@ use Rattle.rows.proofs.segments_fault.Tie as tie
 abbrev Inv-loop : tie.InvT-loop
 Inv-loop areas values slopes shape last left₀ left =
     let ps = points areas values slopes in
-    (left ≤ last) × (last + 1 ≡ length areas) × (segments-from ps (shape-of shape) left ≡ segments-from ps (shape-of shape) 0)
+    (left ≤ last) × (last + 1 ≡ length areas) × (segments-from ps (rule-of shape) left ≡ segments-from ps (rule-of shape) 0)
 
 abbrev μ-loop : tie.MeasureT-loop
 μ-loop areas values slopes shape last left₀ left = last - left
@@ -49,8 +49,8 @@ point-at-requires-2 c κs = record { alike = entry (c .before .before) .pre .len
 abbrev loop-of : tie.After-point-at2 Inv-loop μ-loop → tie.At-loop Inv-loop μ-loop
 loop-of c = c .before .before .before
 
-has-shape-requires : tie.Need-has-shape-requires Inv-loop μ-loop
-has-shape-requires c κs =
+segment-test-requires : tie.Need-segment-test-requires Inv-loop μ-loop
+segment-test-requires c κs =
     let l = loop-of c in
     let k = entry l .pre in
     let n = neighbours-of-rows (ps l) (rw (size l) (k .lengths .least)) (k .points-pass) in
@@ -58,14 +58,14 @@ has-shape-requires c κs =
     (chained-at Neighbours (λ s g. g .ordered) n (l .loop .left) (omega (arith, size l)))
 
 -- after the call: this segment's row, then those of the segments after it
-turn : (c : tie.After-has-shape Inv-loop μ-loop) →
+turn : (c : tie.After-segment-test Inv-loop μ-loop) →
     (let l = loop-of (c .before) in
-    let rows = segments-from (ps l) (shape-of (entry l .args .shape)) in
-    (row (not (c .has-shape .result)) 6 (l .loop .left) then rows (l .loop .left + 1)) ≡ rows 0)
+    let rows = segments-from (ps l) (rule-of (entry l .args .shape)) in
+    (row (not (c .segment-test .result)) 6 (l .loop .left) then rows (l .loop .left + 1)) ≡ rows 0)
 turn c =
     let l = loop-of (c .before) in
-    segment-turn (ps l) (shape-of (entry l .args .shape)) (l .loop .left) (point-of _) (point-of _) (omega (arith, size l))
-    (c .before .before .point-at .ensures) (c .before .point-at2 .ensures) (c .has-shape .ensures)
+    segment-turn (ps l) (rule-of (entry l .args .shape)) (l .loop .left) (point-of _) (point-of _) (omega (arith, size l))
+    (c .before .before .point-at .ensures) (c .before .point-at2 .ensures) (c .segment-test .ensures)
     ∙ l .loop .inv .2
 
 returns : tie.Need-returns Inv-loop μ-loop
@@ -80,10 +80,10 @@ returns-2 : tie.Need-returns-2 Inv-loop μ-loop
 unfolding fault-answer row
 returns-2 c =
     let l = c .before in
-    sym (segment-end (ps l) (shape-of (entry l .args .shape)) (l .loop .left) (omega (arith, size l))) ∙ l .loop .inv .2
+    sym (segment-end (ps l) (rule-of (entry l .args .shape)) (l .loop .left) (omega (arith, size l))) ∙ l .loop .inv .2
 
 pub segments-fault-spec : {M : Type 1} → statement M
 segments-fault-spec =
     tie.close
     (tie.spec Inv-loop μ-loop (λ c. omega arith) loop-holds (λ c. omega arith) point-at-requires point-at-requires-2
-    has-shape-requires (λ c. omega arith) returns (λ c. omega arith) loop-again returns-2)
+    segment-test-requires (λ c. omega arith) returns (λ c. omega arith) loop-again returns-2)

@@ -12,14 +12,14 @@ use mir.Syntax.{w32}
 use mir.Val.{SFits}
 use mir.Facts.{toZ-ofZ, fits-natAbs}
 use Rattle.exact.proofs.Signed.{cast-of-natural, natural-of-not-negative}
-use Rattle.exact.proofs.Signed.{mirror, mirror-negsuc, sfits-mirror, mirror-natural-of-negative}
+use Rattle.exact.proofs.Signed.{complement, complement-negsuc, sfits-complement, complement-natural-of-negative}
 use Rattle.text.proofs.magnitude.Statement.{statement}
 use Rattle.text.proofs.magnitude.Tie as tie
 
 -- the size of −1 − z is one less than that of z
-size-of-mirror : (z : ℤ) → ltZ z (pos 0) ≡ true → natAbs (mirror z) + 1 ≡ natAbs z
-size-of-mirror (pos m) e = absurd (let h = ltb-true m 0 e in omega arith)
-size-of-mirror (negsuc m) e = rw (mirror-negsuc m) (add-one m)
+size-of-complement : (z : ℤ) → ltZ z (pos 0) ≡ true → natAbs (complement z) + 1 ≡ natAbs z
+size-of-complement (pos m) e = absurd (let h = ltb-true m 0 e in omega arith)
+size-of-complement (negsuc m) e = rw (complement-negsuc m) (add-one m)
 
 module _ (c : tie.Then1) where
   abbrev n : ℤ
@@ -31,25 +31,25 @@ module _ (c : tie.Then1) where
   negative : ltZ n (pos 0) ≡ true
   negative = rw (toZ-ofZ fits) at (c .if1 .taken)
 
-  mirror-fits : SFits w32 (mirror n)
-  mirror-fits = sfits-mirror fits
+  complement-fits : SFits w32 (complement n)
+  complement-fits = sfits-complement fits
 
-  size : natAbs (mirror n) + 1 ≡ natAbs n
-  size = size-of-mirror n negative
+  size : natAbs (complement n) + 1 ≡ natAbs n
+  size = size-of-complement n negative
 
 sub-result : tie.Need-sub-result
-sub-result c = rw (toZ-ofZ (fits c)) (mirror-fits c)
+sub-result c = rw (toZ-ofZ (fits c)) (complement-fits c)
 
 cast-result : tie.Need-cast-result
 cast-result c =
-    rw (toZ-ofZ (fits c), toZ-ofZ (mirror-fits c))
-    (cast-of-natural tt (mirror-fits c) (mirror-natural-of-negative (n c) (negative c)))
+    rw (toZ-ofZ (fits c), toZ-ofZ (complement-fits c))
+    (cast-of-natural tt (complement-fits c) (complement-natural-of-negative (n c) (negative c)))
 
 add-result : tie.Need-add-result
-add-result c = rw (toZ-ofZ (fits c), toZ-ofZ (mirror-fits c), size c) (fits-natAbs tt (fits c))
+add-result c = rw (toZ-ofZ (fits c), toZ-ofZ (complement-fits c), size c) (fits-natAbs tt (fits c))
 
 returns : tie.Need-returns
-returns c = rw (toZ-ofZ (fits c), toZ-ofZ (mirror-fits c)) (size c)
+returns c = rw (toZ-ofZ (fits c), toZ-ofZ (complement-fits c)) (size c)
 
 not-negative : (c : tie.Else1) → ltZ (c .before .args .n) (pos 0) ≡ false
 not-negative c = rw (toZ-ofZ (c .before .fits .n)) at (c .if1 .left)
