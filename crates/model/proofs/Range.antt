@@ -1,8 +1,8 @@
 -- Every exact value of an accepted curve is from −200,000 to 400,000. A rising curve is between its ends, at most value-most.
 -- A convex curve is not above its larger end, and not below its left tangent: that falls by at most slope-most / 100 for each of
 -- at most gap-most tenths. So both are from −200,000 to 200,000, and their mirrors from 0 to 400,000.
---   Ranged, value-range            that range, and that an exact value is in it
---   ReadingRange, reading-range    so is a reading, by any rounding that keeps order and whole numbers
+--   Between, Ranged                a fraction between two whole numbers, and in that range; plain-range, value-range
+--   Within, ReadingRange           a whole number, so; reading-range, by any rounding that keeps order and whole numbers
 -- Assumes nothing.
 use mathlib.Core.Path.{_≡_, refl}
 use mathlib.Core.List.{[], _∷_}
@@ -122,7 +122,7 @@ gap-high s k = Z.≤-by _ spare (Z.nonneg-difference (Z.pos-≤-of-≤ (k .near)
     spare : pos gap-most -ℤ gap s ≡ pos (s .left .area) +ℤ pos gap-most -ℤ pos (s .right .area)
     spare = ring (pos (s .left .area) ∷ pos (s .right .area) ∷ []) (search terms depth 20 fits 9999) tt
 
-plain-range : {shape : Shape} {s : Segment} {x : ℕ} →
+pub plain-range : {shape : Shape} {s : Segment} {x : ℕ} →
     Inside (Good (plain shape)) s x → Between (negℤ (pos 200000)) (pos value-most) (interpolant shape s x)
 unfolding interpolant gradient
 plain-range {shape = rising} {s = s} r =
@@ -168,12 +168,15 @@ value-range {rule = mirrored shape} {s = s} {x = x} i =
 
 -- ---- readings
 
-pub record ReadingRange (k : ℤ) : Type 0 where
-  pub low : negℤ (pos 200000) ≤ℤ k
-  pub high : k ≤ℤ pos 400000
+pub record Within (least most k : ℤ) : Type 0 where
+  pub low : least ≤ℤ k
+  pub high : k ≤ℤ most
 
-pub reading-range : {rnd : Fraction → ℤ} → Rounding rnd →
-    (v : Fraction) → Proper v → Ranged v → ReadingRange (rnd v)
+abbrev pub ReadingRange : ℤ → Type 0
+ReadingRange = Within (negℤ (pos 200000)) (pos 400000)
+
+pub reading-range : {rnd : Fraction → ℤ} {least most : ℤ} → Rounding rnd →
+    (v : Fraction) → Proper v → Between least most v → Within least most (rnd v)
 reading-range k v p r =
     record {
       low = rw (k .keeps-whole) at (k .keeps-order _ v (search propers) p (r .low));

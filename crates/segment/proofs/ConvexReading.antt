@@ -1,18 +1,19 @@
 -- The reading of a convex segment, in the natural numbers that the code computes with.
---   Convex          the arguments of `raised`, and the reading from its result; convex-inside
+--   Convex          the arguments of `raised`, and from its result the reading and whether it is an exact half; convex-inside
 --   raised-slope    the left slope plus 10,000; above, below, the distances of the end slopes from the chord
 --   raised-at       `raised` at an area
 -- Assumes nothing.
 use mathlib.Core.Path.{_≡_, sym, _∙_, ap}
 use mathlib.Core.List.{[], _∷_}
 use Prim.Native.Nat.{ℕ, _+_, _*_, _/_, _<_}
-use native.Mathlib.Nat.{mul-pos, zero-mul, zero-div}
+use native.Mathlib.Nat.{mul-pos, zero-mul, zero-div, zero-mod}
 use native.Mathlib.Omega.{arith}
 use lib.Dec.{lit<}
 use lib.IntN.{ℤ, pos, natAbs, _+ℤ_, _-ℤ_, _*ℤ_, *ℤ-comm, +ℤ-invr}
 use lib.Signed.{_<ℤ_, ≤ℤ-refl}
 use Rattle.exact.specs.Fraction.{_over_, whole, _+ℚ_, _*ℚ_, _≈ℚ_, _<ℚ_}
 use Rattle.exact.specs.Rounding.{floorDiv, half, round}
+use Rattle.exact.specs.Inner.{tie}
 use Rattle.exact.proofs.Ring.{ring, terms}
 use Rattle.exact.proofs.Order as Z
 use Rattle.exact.proofs.Order.{signs}
@@ -30,10 +31,10 @@ use Rattle.model.proofs.ClosedForm.{bending-of-normal, bent-value, straight-val
 use Rattle.model.proofs.Curves.{bent, straight, bend-kind}
 use Rattle.model.proofs.Segments.{gap, rise, distance, v₀, v₁, d₀, d₁, S, g, e₀, e₁, a, b}
 use Rattle.model.proofs.Segments.{segment-normal, gap-positive, distance-in}
-use Rattle.segment.specs.Inner.{raised, ConvexInput}
+use Rattle.segment.specs.Inner.{raised, ends-in-0, convex-tie, ConvexInput}
 use Rattle.shape.proofs.Figures.{slope-size, h, gap-is, a-size, b-size}
 use Rattle.segment.proofs.Distances.{t, u, from-left, from-right, h-is, distances}
-use Rattle.segment.proofs.Rounded.{round-lowered, same-hundreds}
+use Rattle.segment.proofs.Rounded.{round-lowered, same-hundreds, tie-lowered}
 
 module _ (s : Segment) where
   abbrev raised-slope : ℕ
@@ -55,6 +56,8 @@ pub record Convex (s : Segment) (x : ℕ) : Type 0 where
   pub input : ConvexInput (t s x) (u s x) (h s) (s .left .value) (raised-slope s) (above s) (below s)
   pub reading : (r : ℕ) → r / 100 ≡ raised-at s x / 100 →
       floorDiv (pos r -ℤ pos (slope-most * t s x)) 100 ≡ round (interpolant convex s x)
+  pub half : tie (interpolant convex s x) ≡
+      convex-tie (t s x) (u s x) (h s) (s .left .value) (raised-slope s) (above s) (below s)
 
 -- ---- the end slopes and the chord
 
@@ -95,8 +98,12 @@ module _ {s : Segment} {x : ℕ} (i : Inside (Good (plain convex)) s x) where
   abbrev ReadingIs : Type 0
   ReadingIs = round (interpolant convex s x) ≡ floorDiv (pos (raised-at s x) -ℤ pos (slope-most * t s x)) 100
 
-  convex-facts : a s ≡ pos (above s) → b s ≡ pos (below s) → ReadingIs → Convex s x
-  convex-facts above-is below-is reads =
+  abbrev HalfIs : Type 0
+  HalfIs =
+      tie (interpolant convex s x) ≡ convex-tie (t s x) (u s x) (h s) (s .left .value) (raised-slope s) (above s) (below s)
+
+  convex-facts : a s ≡ pos (above s) → b s ≡ pos (below s) → ReadingIs → HalfIs → Convex s x
+  convex-facts above-is below-is reads half-is =
       let n = i .good .ends in
       record {
         slope-is = raised-slope-is;
@@ -111,6 +118,7 @@ module _ {s : Segment} {x : ℕ} (i : Inside (Good (plain convex)) s x) where
           below = b-size n;
         };
         reading = λ r e. same-hundreds r (raised-at s x) (t s x) e ∙ sym reads;
+        half = half-is;
       }
 
   -- ---- the straight line
@@ -138,8 +146,14 @@ module _ {s : Segment} {x : ℕ} (i : Inside (Good (plain convex)) s x) where
         (round-lowered raised-tangent (slope-most * t s x) 0 {w = 1} along-slope (search positivity) (lit< tt) (lit< tt)
         (rw raised-slope-is at (straight-half (v₀ s) (s .left .slope) (pos (t s x))))))
 
+    straight-half-is : HalfIs
+    straight-half-is =
+        rw (ap natAbs (below-zero s low)) (simp (zero-mul, zero-div, zero-mod)
+        (tie-lowered raised-tangent (t s x) 0 {w = 1} along-slope (search positivity) (lit< tt)
+        (rw raised-slope-is at (straight-half (v₀ s) (s .left .slope) (pos (t s x))))))
+
     straight-facts : Convex s x
-    straight-facts = convex-facts (rw (above-zero s high)) (rw (below-zero s low)) straight-reads
+    straight-facts = convex-facts (rw (above-zero s high)) (rw (below-zero s low)) straight-reads straight-half-is
 
   -- ---- the curve
 
@@ -190,8 +204,17 @@ module _ {s : Segment} {x : ℕ} (i : Inside (Good (plain convex)) s x) where
         (search (propers, signs) depth 9) (mul-pos divisor-positive k) (lit< tt)
         (rw raised-slope-is at (bent-half (v₀ s) (s .left .slope) (pos (t s x)) (pos (h s)) (pos divisor) (pos w)))
 
+    bent-half-is : HalfIs
+    bent-half-is =
+        let k : 0 < h s = (let o = i .good .ends .ordered in omega arith) in
+        let h-pos : pos 0 <ℤ pos (h s) = Z.pos-<-of-< k in
+        let W-pos : pos 0 <ℤ pos divisor = Z.pos-<-of-< divisor-positive in
+        tie-lowered raised-tangent (t s x) (w * w) {w = divisor * h s} over-tangent
+        (search (propers, signs) depth 9) (mul-pos divisor-positive k)
+        (rw raised-slope-is at (bent-half (v₀ s) (s .left .slope) (pos (t s x)) (pos (h s)) (pos divisor) (pos w)))
+
     bent-facts : Convex s x
-    bent-facts = convex-facts above-is below-is bent-reads
+    bent-facts = convex-facts above-is below-is bent-reads bent-half-is
 
 pub convex-inside : {s : Segment} {x : ℕ} → Inside (Good (plain convex)) s x → Convex s x
 unfolding segment-test has-shape fits

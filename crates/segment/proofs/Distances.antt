@@ -1,26 +1,24 @@
 -- An area inside a segment, in machine numbers.
 --   t, u            its distances from the two ends; h-is, their sum is the gap; u-read, as the code computes the second
---   reading-fits    the reading in 32 bits
+--   plain-small     a reading of a shape's own curve is from −200,000 to 200,000
 -- Assumes nothing.
 use mathlib.Core.Path.{_≡_, _∙_}
 use mathlib.Core.List.{[], _∷_}
 use Prim.Native.Nat.{ℕ, _+_, _-_}
 use native.Mathlib.Omega.{arith}
 use lib.IntN.{pos, _-ℤ_}
-use mir.Syntax.{w32}
-use mir.Val.{SFits}
 use Rattle.exact.specs.Rounding.{round}
 use Rattle.exact.proofs.Ring.{ring, terms}
 use Rattle.exact.proofs.Order as Z
-use Rattle.exact.proofs.Magnitude.{size-between, sfits-of-size}
+use Rattle.exact.proofs.Magnitude.{size-between}
 use Rattle.exact.proofs.Rounding.{round-rounding}
-use Rattle.model.specs.Points.{value-most, Segment, Shape}
+use Rattle.model.specs.Points.{value-most, Segment, Shape, plain}
 use Rattle.model.specs.Inner.{Neighbours, Good, Inside}
 use Rattle.model.specs.Interpolant.{interpolant}
 use Rattle.model.proofs.Segments.{gap, distance, interpolant-proper}
-use Rattle.model.proofs.Range.{value-range, reading-range}
+use Rattle.model.proofs.Range.{plain-range, reading-range}
 use Rattle.shape.proofs.Figures.{h}
-use Rattle.segment.specs.Inner.{Distances}
+use Rattle.segment.specs.Inner.{Distances, Small}
 
 abbrev pub t : Segment → ℕ → ℕ
 t s x = x - s .left .area
@@ -47,8 +45,7 @@ module _ {G : Segment → Type 0} {s : Segment} {x : ℕ} (i : Inside G s x) whe
   pub distances : Neighbours s → Distances (t s x) (u s x)
   distances n = record { most = omega (arith, n .near, h-is); least = omega (arith, n .ordered, h-is) }
 
--- the reading fits 32 bits
-pub reading-fits : {shape : Shape} {s : Segment} {x : ℕ} → Inside (Good shape) s x → SFits w32 (round (interpolant shape s x))
-reading-fits {shape} {s} {x} i =
-    let r = reading-range round-rounding (interpolant shape s x) (interpolant-proper i) (value-range i) in
-    sfits-of-size w32 (round (interpolant shape s x)) (omega (arith, size-between {n = value-most} _ (r .low) (r .high)))
+pub plain-small : {shape : Shape} {s : Segment} {x : ℕ} → Inside (Good (plain shape)) s x → Small (round (interpolant shape s x))
+plain-small {shape} {s} {x} i =
+    let r = reading-range round-rounding (interpolant shape s x) (interpolant-proper i) (plain-range i) in
+    record { size = size-between {n = value-most} _ (r .low) (r .high) }

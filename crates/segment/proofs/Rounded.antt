@@ -1,22 +1,31 @@
--- A rounding by two divisions.
+-- A rounding by two divisions, and exact halves.
 --   round-twice     ⌊(x + ⌊y / w⌋) / m⌋ rounds v where v + 1/2 = (x w + y) / (w m)
 --   round-lowered   with x = n − k, which may be below 0
 --   same-hundreds   the last two digits of r do not matter to ⌊(r − 10,000 t) / 100⌋
+--   tie-of-remainder    v is an exact half where v + 1/2 = m / d − k and nothing is left of m by d; tie-lowered, by two divisions
 -- Assumes nothing.
-use mathlib.Core.Path.{_≡_, sym, _∙_, ap}
+use mathlib.Core.Path.{_≡_, sym, _∙_, ap, ap₂, subst, subst⁻¹}
+use mathlib.Core.Bool.{_&&_, and-true, and-false}
 use mathlib.Core.List.{[], _∷_}
-use Prim.Native.Nat.{ℕ, _+_, _*_, _/_, _<_}
-use native.Mathlib.Nat.{mul-pos}
-use lib.Dec.{lit<}
-use lib.IntN.{ℤ, pos, negℤ, _+ℤ_, _-ℤ_, _*ℤ_}
-use Rattle.exact.specs.Fraction.{Fraction, Proper, _over_, _+ℚ_, _≈ℚ_}
+use Prim.Native.Nat.{ℕ, zero, suc, _+_, _*_, _/_, _%_, _<_}
+use native.Mathlib.Nat.{mul-pos, mul-comm, zero-add, zero-mul, mul-mod-left, div-add-mod', mul-add-mod-self-right, mul-add-div-right}
+use native.Mathlib.Omega.{arith}
+use borrow.Author.Tests.{eq-eqb, ne-eqb, eqb-true}
+use lib.Arith.{mod-mul}
+use lib.Dec.{T, eqb, lit<}
+use lib.IntN.{ℤ, pos, negℤ, natAbs, _+ℤ_, _-ℤ_, _*ℤ_}
+use lib.Signed.{_<ℤ_}
+use Rattle.exact.specs.Fraction.{Fraction, Proper, _over_, whole, _+ℚ_, _≈ℚ_}
 use Rattle.exact.specs.Rounding.{floorDiv, floor, half, round}
 use Rattle.exact.proofs.Ring.{ring, terms}
 use Rattle.exact.proofs.Order as Z
 use Rattle.exact.proofs.Fractions as Q
-use Rattle.exact.proofs.Floor.{floor-keeps-order, floorDiv-nested}
-use Rattle.exact.proofs.Rounding.{proper-half}
+use Rattle.exact.specs.Inner.{tie}
+use Rattle.exact.proofs.Tests.{T-true, same-test}
+use Rattle.exact.proofs.Floor.{floor-greatest, floor-keeps-order, floorDiv-nested}
+use Rattle.exact.proofs.Rounding.{proper-half, round-is-half-up, tie-of-≤, ≤-of-tie}
 use Rattle.model.proofs.ClosedForm.{Closed}
+use Rattle.segment.specs.Inner.{ends-in-0}
 
 pub round-twice : {v f : Fraction} (x : ℤ) (y : ℕ) {w m : ℕ} →
     Closed v f →
@@ -60,3 +69,83 @@ pub same-hundreds : (r n t : ℕ) → r / 100 ≡ n / 100 →
     floorDiv (pos r -ℤ pos (10000 * t)) 100 ≡ floorDiv (pos n -ℤ pos (10000 * t)) 100
 same-hundreds r n t e =
     hundreds r t ∙ ap (λ k. floorDiv (negℤ (pos (100 * t)) +ℤ pos k) 1) e ∙ sym (hundreds n t)
+
+-- ---- exact halves
+
+-- x / d − k is the whole number z
+of-quotient : (x z k d : ℤ) → (x -ℤ k *ℤ d) *ℤ pos 1 ≡ z *ℤ d → x ≡ (z +ℤ k) *ℤ d
+of-quotient x z k d e =
+    ring (x ∷ k ∷ d ∷ []) (search terms depth 20 fits 9999) tt
+    ∙ ap (λ y. y +ℤ k *ℤ d) e
+    ∙ ring (z ∷ k ∷ d ∷ []) (search terms depth 20 fits 9999) tt
+
+to-quotient : (z k d : ℤ) → (z *ℤ d -ℤ k *ℤ d) *ℤ pos 1 ≡ (z -ℤ k) *ℤ d
+to-quotient z k d = ring (z ∷ k ∷ d ∷ []) (search terms depth 20 fits 9999) tt
+
+module _ {v f : Fraction} (m k : ℕ) {d : ℕ} (c : Closed v f) (pf : Proper f) (hd : 0 < d)
+    (e : f +ℚ half ≈ℚ (pos m -ℤ pos k *ℤ pos d) over pos d) where
+  abbrev quotient : Fraction
+  quotient = (pos m -ℤ pos k *ℤ pos d) over pos d
+
+  quotient-proper : Proper quotient
+  quotient-proper = Q.proper-over _ _ (Z.pos-<-of-< hd)
+
+  half-is : v +ℚ half ≈ℚ quotient
+  half-is = Q.≈-trans (Q.proper-+ pf proper-half) (Q.≈-+ (c .same) (Q.≈-refl half)) e
+
+  -- m is a multiple of d where m / d − k is whole
+  multiple-of-whole : (z : ℤ) → quotient ≈ℚ whole z → m % d ≡ 0
+  unfolding _over_ whole
+  multiple-of-whole z w =
+      let hd' : pos 0 <ℤ pos d = Z.pos-<-of-< hd in
+      let is : pos m ≡ (z +ℤ pos k) *ℤ pos d = of-quotient (pos m) z (pos k) (pos d) (w .cross) in
+      let n : z +ℤ pos k ≡ pos (natAbs (z +ℤ pos k)) =
+          Z.natural-of-nonneg (Z.≤-cancel {k = pos d} hd' (rw (← is, zero-mul) (Z.nonneg-pos m))) in
+      let same : m ≡ natAbs (z +ℤ pos k) * d = Z.pos-injective (rw n at is) in
+      rw same (mul-mod-left _ d)
+
+  whole-of-multiple : m % d ≡ 0 → quotient ≈ℚ whole (pos (m / d) -ℤ pos k)
+  unfolding _over_ whole
+  whole-of-multiple r =
+      let is : pos m ≡ pos (m / d) *ℤ pos d = ap pos (sym (div-add-mod' m d) ∙ omega arith) in
+      record { cross = ap (λ y. (y -ℤ pos k *ℤ pos d) *ℤ pos 1) is ∙ to-quotient (pos (m / d)) (pos k) (pos d) }
+
+  pub tie-of-remainder : tie v ≡ eqb (m % d) 0
+  unfolding round
+  tie-of-remainder =
+      same-test (tie v) (eqb (m % d) 0)
+      (λ t.
+      let near = round-is-half-up v (c .proper) in
+      let w = Q.≤-antisym (≤-of-tie v (T-true _ t)) (near .below) in
+      subst⁻¹ T (eq-eqb (m % d) 0 (multiple-of-whole (round v) (Q.≈-trans (Q.proper-+ (c .proper) proper-half) (Q.≈-sym half-is) w))) tt)
+      (λ t.
+      let z = pos (m / d) -ℤ pos k in
+      let w = Q.≈-trans quotient-proper half-is (whole-of-multiple (eqb-true (m % d) 0 (T-true _ t))) in
+      let p = Q.proper-+ (c .proper) proper-half in
+      let up = floor-greatest (v +ℚ half) p .greatest z (Q.≤-of-≈ (Q.≈-sym w)) in
+      subst⁻¹ T (tie-of-≤ v (Q.≤-trans p (Q.proper-whole z) (Q.proper-whole _) (Q.≤-of-≈ w) (Q.whole-≤-of-≤ _ _ up))) tt)
+
+zero-sum : (a b : ℕ) {w : ℕ} → 0 < w → eqb (a * w + b) 0 ≡ (eqb b 0 && eqb a 0)
+zero-sum zero b h = rw (zero-mul, zero-add) (sym (and-true (eqb b 0)))
+zero-sum (suc a) b {w} h =
+    let some : 0 < suc a = omega arith in
+    let k = mul-pos some h in
+    rw (ne-eqb (suc a * w + b) 0 (omega arith), ne-eqb (suc a) 0 (omega arith)) (sym (and-false (eqb b 0)))
+
+lowered-is : (n t y w : ℤ) →
+    (n -ℤ pos 10000 *ℤ t) *ℤ w +ℤ y ≡ n *ℤ w +ℤ y -ℤ pos 100 *ℤ t *ℤ (pos 100 *ℤ w)
+lowered-is n t y w = ring (n ∷ t ∷ y ∷ w ∷ []) (search terms depth 20 fits 9999) tt
+
+-- the same of n hundredths, of which 10,000 t are too much, and y / w
+pub tie-lowered : {v f : Fraction} (n t y : ℕ) {w : ℕ} →
+    Closed v f →
+    Proper f →
+    0 < w →
+    f +ℚ half ≈ℚ ((pos n -ℤ pos (10000 * t)) *ℤ pos w +ℤ pos y) over (pos w *ℤ pos 100) →
+    tie v ≡ ends-in-0 (y % w) (n + y / w)
+tie-lowered {v} {f} n t y {w} c pf hw e =
+    tie-of-remainder (n * w + y) (100 * t) {d = 100 * w} c pf (mul-pos (lit< tt) hw)
+    (subst (λ z. f +ℚ half ≈ℚ z) (ap₂ (λ a b. a over b) (lowered-is (pos n) (pos t) (pos y) (pos w)) (ap pos (mul-comm w 100))) e)
+    ∙ ap (λ k. eqb k 0) (mod-mul (n * w + y) {m = 100} {c = w} (lit< tt) hw)
+    ∙ zero-sum ((n * w + y) / w % 100) ((n * w + y) % w) hw
+    ∙ ap₂ (λ j k. ends-in-0 j k) (mul-add-mod-self-right n w y) (mul-add-div-right hw n y)

@@ -15,14 +15,14 @@ use point::Point;
 use point::SLOPE_MOST;
 use point::VALUE_MOST;
 
-// A value rounded, an exact half upwards; and whether it is an exact half.
-struct Rounded {
+// The whole number nearest to a value, of two the larger; and whether there are two.
+struct Nearest {
     value: i32,
     tie: bool,
 }
 
 // 200,000 less the value, rounded: there too an exact half goes upwards.
-fn from_mirror(r: Rounded) -> i32
+fn from_mirror(r: Nearest) -> i32
     requires { ⌜ Small (r .value) ⌝ }
     ensures { λ k. ⌜ k ≡ taken-from value-most (r .value) (r .tie) ⌝ }
 {
@@ -44,7 +44,7 @@ fn part(t: u64, u: u64, g: u64, e: u64) -> u64
 }
 
 // The value on a rising curve. t and u are the distances from the two ends, d0 and d1 the slopes in hundredths.
-fn rising(t: u64, u: u64, left: u64, rise: u64, d0: u64, d1: u64) -> Rounded
+fn rising(t: u64, u: u64, left: u64, rise: u64, d0: u64, d1: u64) -> Nearest
     requires { ⌜ RisingInput t u left rise d0 d1 ⌝ }
     ensures value { λ r. ⌜ r .value ≡ pos (rising-reading t u left rise d0 d1) ⌝ }
     ensures tie { λ r. ⌜ r .tie ≡ rising-tie t u rise d0 d1 ⌝ }
@@ -54,19 +54,19 @@ fn rising(t: u64, u: u64, left: u64, rise: u64, d0: u64, d1: u64) -> Rounded
     let a = part(t, u, g, h * d0);
     let b = a + part(u, t, g, h * d1);
     let n = a * rise + b / 2;
-    Rounded {
+    Nearest {
         value: (left + n / b) as i32,
         tie: n % b == 0,
     }
 }
 
 // The value at an area of a rising segment. u is taken as h - t, so that the compiler sees that t + u is h for every area.
-fn rising_value(p: Point, q: Point, area: u32) -> Rounded
+fn rising_value(p: Point, q: Point, area: u32) -> Nearest
     requires { ⌜ Inside (Good (Rule.plain Shape.rising)) (segment-of p q) area ⌝ }
     ensures { λ r. ⌜ Rounds (interpolant Shape.rising (segment-of p q) area) (r .value) (r .tie) ⌝ }
 {
     if q.value == p.value {
-        return Rounded {
+        return Nearest {
             value: p.value as i32,
             tie: false,
         };
@@ -144,7 +144,7 @@ fn raised(ties: u64, x: Bent) -> Sum
 }
 
 // An area of a convex segment.
-fn bent(p: Point, q: Point, area: u32) -> Bent
+fn bent_at(p: Point, q: Point, area: u32) -> Bent
     requires { ⌜ Inside (Good (Rule.plain Shape.convex)) (segment-of p q) area ⌝ }
     ensures { λ x. ⌜ BentAt (segment-of p q) area x ⌝ }
 {
@@ -164,7 +164,7 @@ fn bent(p: Point, q: Point, area: u32) -> Bent
 }
 
 // The value of raised hundredths.
-fn lowered(t: u64, s: Sum) -> Rounded
+fn lowered(t: u64, s: Sum) -> Nearest
     requires { ⌜ RaisedSize t (s .hundredths) ⌝ }
     ensures value { λ r. ⌜ r .value ≡ floorDiv (pos (s .hundredths) -ℤ pos (slope-most * t)) 100 ⌝ }
     ensures tie { λ r. ⌜ r .tie ≡ ends-in-0 (s .rest) (s .hundredths) ⌝ }
@@ -172,9 +172,9 @@ fn lowered(t: u64, s: Sum) -> Rounded
     let n = (s.hundredths as i64) - ((SLOPE_MOST as u64 * t) as i64);
     let value = exact::floor_div(n, 100) as i32;
     if s.rest != 0 {
-        return Rounded { value, tie: false };
+        return Nearest { value, tie: false };
     }
-    Rounded {
+    Nearest {
         value,
         tie: s.hundredths % 100 == 0,
     }
@@ -186,7 +186,7 @@ fn convex_factor(p: Point, q: Point, area: u32) -> i32
     requires { ⌜ Inside (Good (Rule.plain Shape.convex)) (segment-of p q) area ⌝ }
     ensures { λ r. ⌜ r ≡ round (interpolant Shape.convex (segment-of p q) area) ⌝ }
 {
-    let x = bent(p, q, area);
+    let x = bent_at(p, q, area);
     lowered(x.t, raised(0, x)).value
 }
 
@@ -195,7 +195,7 @@ fn concave_factor(p: Point, q: Point, area: u32) -> i32
     requires { ⌜ Inside (Good (Rule.plain Shape.convex)) (segment-of p q) area ⌝ }
     ensures { λ r. ⌜ r ≡ round (whole (pos value-most) -ℚ interpolant Shape.convex (segment-of p q) area) ⌝ }
 {
-    let x = bent(p, q, area);
+    let x = bent_at(p, q, area);
     from_mirror(lowered(x.t, raised(1, x)))
 }
 
