@@ -2,6 +2,7 @@
 --   Convex          the arguments of `raised`, and from its result the reading and whether it is an exact half; convex-inside
 --   raised-slope    the left slope plus 10,000; above, below, the distances of the end slopes from the chord
 --   raised-at       `raised` at an area
+--   bent-input, sum-size, sum-reading, bent-tie   the same, of the figures that the code has
 -- Assumes nothing.
 use mathlib.Core.Path.{_≡_, sym, _∙_, ap}
 use mathlib.Core.List.{[], _∷_}
@@ -31,10 +32,12 @@ use Rattle.model.proofs.ClosedForm.{bending-of-normal, bent-value, straight-val
 use Rattle.model.proofs.Curves.{bent, straight, bend-kind}
 use Rattle.model.proofs.Segments.{gap, rise, distance, v₀, v₁, d₀, d₁, S, g, e₀, e₁, a, b}
 use Rattle.model.proofs.Segments.{segment-normal, gap-positive, distance-in}
-use Rattle.segment.specs.Inner.{raised, ends-in-0, convex-tie, ConvexInput}
+use Rattle.segment.specs.Inner.{raised, convex-tie, ConvexInput, RaisedSize, BentAt}
+use Rattle.segment.specs.declared.Bent.{Bent}
 use Rattle.shape.proofs.Figures.{slope-size, h, gap-is, a-size, b-size}
 use Rattle.segment.proofs.Distances.{t, u, from-left, from-right, h-is, distances}
 use Rattle.segment.proofs.Rounded.{round-lowered, same-hundreds, tie-lowered}
+use Rattle.segment.proofs.Sizes.{raised-size}
 
 module _ (s : Segment) where
   abbrev raised-slope : ℕ
@@ -223,3 +226,34 @@ convex-inside {s} i =
       | bent low high ↦ bent-facts i low high
       | straight low high ↦ straight-facts i low high
     ]
+
+-- ---- the same, of the figures that the code has
+
+module _ {s : Segment} {x : ℕ} (i : Inside (Good (plain convex)) s x) {y : Bent} (k : BentAt s x y) where
+  d-is : y .d ≡ raised-slope s
+  d-is = Z.pos-injective (k .d ∙ convex-inside i .slope-is)
+
+  a-is : y .a ≡ above s
+  a-is = Z.pos-injective (k .a ∙ convex-inside i .above-is)
+
+  b-is : y .b ≡ below s
+  b-is = Z.pos-injective (k .b ∙ convex-inside i .below-is)
+
+  pub bent-input : ConvexInput (y .t) (y .u) (y .h) (y .left) (y .d) (y .a) (y .b)
+  bent-input = rw (k .t, k .u, k .h, k .left, d-is, a-is, b-is) (convex-inside i .input)
+
+  -- a sum with the hundreds of `raised`
+  module _ (n : ℕ) (e : n / 100 ≡ raised (y .t) (y .u) (y .h) (y .left) (y .d) (y .a) (y .b) / 100) where
+    pub sum-size : RaisedSize (y .t) n
+    sum-size =
+        record {
+          near = omega (arith, bent-input .distances .most);
+          sum = omega (arith, e, raised-size bent-input);
+        }
+
+    pub sum-reading : floorDiv (pos n -ℤ pos (slope-most * y .t)) 100 ≡ round (interpolant convex s x)
+    sum-reading =
+        rw (k .t) (convex-inside i .reading n (rw (k .t, k .u, k .h, k .left, d-is, a-is, b-is) at e))
+
+  pub bent-tie : convex-tie (y .t) (y .u) (y .h) (y .left) (y .d) (y .a) (y .b) ≡ tie (interpolant convex s x)
+  bent-tie = rw (k .t, k .u, k .h, k .left, d-is, a-is, b-is) (sym (convex-inside i .half))

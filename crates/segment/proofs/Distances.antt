@@ -1,24 +1,30 @@
 -- An area inside a segment, in machine numbers.
 --   t, u            its distances from the two ends; h-is, their sum is the gap; u-read, as the code computes the second
---   plain-small     a reading of a shape's own curve is from −200,000 to 200,000
+--   plain-small     a reading of a shape's own curve is from −200,000 to 200,000; small-read, it fits 32 bits
+--   from-rounds     200,000 less a shape's own curve, rounded
 -- Assumes nothing.
-use mathlib.Core.Path.{_≡_, _∙_}
+use mathlib.Core.Path.{_≡_, sym, _∙_}
+use mathlib.Core.Bool.{Bool}
 use mathlib.Core.List.{[], _∷_}
 use Prim.Native.Nat.{ℕ, _+_, _-_}
 use native.Mathlib.Omega.{arith}
-use lib.IntN.{pos, _-ℤ_}
+use lib.IntN.{ℤ, pos, _-ℤ_}
+use mir.Syntax.{w32}
+use mir.Val.{toZ, ofZ}
+use mir.Facts.{toZ-ofZ}
+use Rattle.exact.specs.Fraction.{whole, _-ℚ_}
 use Rattle.exact.specs.Rounding.{round}
 use Rattle.exact.proofs.Ring.{ring, terms}
 use Rattle.exact.proofs.Order as Z
-use Rattle.exact.proofs.Magnitude.{size-between}
-use Rattle.exact.proofs.Rounding.{round-rounding}
+use Rattle.exact.proofs.Magnitude.{size-between, sfits-of-size}
+use Rattle.exact.proofs.Rounding.{round-rounding, round-from}
 use Rattle.model.specs.Points.{value-most, Segment, Shape, plain}
 use Rattle.model.specs.Inner.{Neighbours, Good, Inside}
 use Rattle.model.specs.Interpolant.{interpolant}
 use Rattle.model.proofs.Segments.{gap, distance, interpolant-proper}
 use Rattle.model.proofs.Range.{plain-range, reading-range}
 use Rattle.shape.proofs.Figures.{h}
-use Rattle.segment.specs.Inner.{Distances, Small}
+use Rattle.segment.specs.Inner.{Distances, Rounds, Small, taken-from}
 
 abbrev pub t : Segment → ℕ → ℕ
 t s x = x - s .left .area
@@ -49,3 +55,11 @@ pub plain-small : {shape : Shape} {s : Segment} {x : ℕ} → Inside (Good (plai
 plain-small {shape} {s} {x} i =
     let r = reading-range round-rounding (interpolant shape s x) (interpolant-proper i) (plain-range i) in
     record { size = size-between {n = value-most} _ (r .low) (r .high) }
+
+pub small-read : {k : ℤ} → Small k → toZ w32 (ofZ w32 k) ≡ k
+small-read {k} s = toZ-ofZ (sfits-of-size w32 k (omega (arith, s .size)))
+
+-- 200,000 less the curve
+pub from-rounds : {shape : Shape} {s : Segment} {x : ℕ} {k : ℤ} {b : Bool} → Inside (Good (plain shape)) s x →
+    Rounds (interpolant shape s x) k b → taken-from value-most k b ≡ round (whole (pos value-most) -ℚ interpolant shape s x)
+from-rounds i r = rw (r .value, r .half) (sym (round-from (pos value-most) (interpolant-proper i)))

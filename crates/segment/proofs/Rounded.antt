@@ -3,12 +3,13 @@
 --   round-lowered   with x = n − k, which may be below 0
 --   same-hundreds   the last two digits of r do not matter to ⌊(r − 10,000 t) / 100⌋
 --   tie-of-remainder    v is an exact half where v + 1/2 = m / d − k and nothing is left of m by d; tie-lowered, by two divisions
+--   twice-left      nothing is left of two divisions where nothing is left of one by the product
 -- Assumes nothing.
 use mathlib.Core.Path.{_≡_, sym, _∙_, ap, ap₂, subst, subst⁻¹}
 use mathlib.Core.Bool.{_&&_, and-true, and-false}
 use mathlib.Core.List.{[], _∷_}
 use Prim.Native.Nat.{ℕ, zero, suc, _+_, _*_, _/_, _%_, _<_}
-use native.Mathlib.Nat.{mul-pos, mul-comm, zero-add, zero-mul, mul-mod-left, div-add-mod', mul-add-mod-self-right, mul-add-div-right}
+use native.Mathlib.Nat.{mul-pos, add-comm, mul-comm, mul-one, zero-add, zero-mul, mul-mod-left, div-add-mod', mul-add-mod-self-right, mul-add-div-right}
 use native.Mathlib.Omega.{arith}
 use borrow.Author.Tests.{eq-eqb, ne-eqb, eqb-true}
 use lib.Arith.{mod-mul}
@@ -100,7 +101,7 @@ module _ {v f : Fraction} (m k : ℕ) {d : ℕ} (c : Closed v f) (pf : Proper f)
       let hd' : pos 0 <ℤ pos d = Z.pos-<-of-< hd in
       let is : pos m ≡ (z +ℤ pos k) *ℤ pos d = of-quotient (pos m) z (pos k) (pos d) (w .cross) in
       let n : z +ℤ pos k ≡ pos (natAbs (z +ℤ pos k)) =
-          Z.natural-of-nonneg (Z.≤-cancel {k = pos d} hd' (rw (← is, zero-mul) (Z.nonneg-pos m))) in
+      Z.natural-of-nonneg (Z.≤-cancel {k = pos d} hd' (rw (← is, zero-mul) (Z.nonneg-pos m))) in
       let same : m ≡ natAbs (z +ℤ pos k) * d = Z.pos-injective (rw n at is) in
       rw same (mul-mod-left _ d)
 
@@ -149,3 +150,12 @@ tie-lowered {v} {f} n t y {w} c pf hw e =
     ∙ ap (λ k. eqb k 0) (mod-mul (n * w + y) {m = 100} {c = w} (lit< tt) hw)
     ∙ zero-sum ((n * w + y) / w % 100) ((n * w + y) % w) hw
     ∙ ap₂ (λ j k. ends-in-0 j k) (mul-add-mod-self-right n w y) (mul-add-div-right hw n y)
+
+-- what is left of n by d, and then of the quotient by h, is 0 where nothing is left of n by both
+pub twice-left : (n x : ℕ) {d h : ℕ} → 0 < d → 0 < h → ends-in-0 (n % d + n / d % h) x ≡ ends-in-0 (n % (d * h)) x
+twice-left n x {d} {h} hd hh =
+    ap (λ b. b && eqb (x % 100) 0)
+    (ap (λ k. eqb k 0) (add-comm (n % d) (n / d % h) ∙ ap (λ k. k + n % d) (sym (mul-one (n / d % h))))
+    ∙ zero-sum (n / d % h) (n % d) (lit< tt)
+    ∙ sym (zero-sum (n / d % h) (n % d) hd)
+    ∙ ap (λ k. eqb k 0) (sym (mod-mul n {m = h} {c = d} hh hd) ∙ ap (λ k. n % k) (mul-comm h d)))

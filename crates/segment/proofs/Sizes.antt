@@ -5,15 +5,24 @@
 --   tangent-size, divisor-size, denominator-size, excess-size, raised-size   the parts of the convex curve, and their sum
 --   w-most, w-most-size   w in the whole segment
 --   OneLow, least-near   what is above the tangent, by leading bits: at most 1 too low
+--   no-tie          a sum that does not end in 0 is no exact half; full-sum, full-tie, full-rest, the sum by two divisions
 -- Assumes nothing.
-use Prim.Native.Nat.{ℕ, zero, suc, _+_, _-_, _*_, _/_, _^_, _≤_, _<_}
+use mathlib.Core.Path.{_≡_}
+use mathlib.Core.Bool.{false, and-false}
+use Prim.Native.Nat.{ℕ, zero, suc, _+_, _-_, _*_, _/_, _%_, _^_, _≤_, _<_}
 use native.Mathlib.Nat.{mul-le-mul, mul-le-mul-left, mul-le-mul-right, le-mul-of-pos-right, div-le-self, add-div-right}
+use native.Mathlib.Nat.{mod-lt, div-div-eq-div-mul}
 use native.Mathlib.Omega.{arith}
+use borrow.Author.Tests.{ne-eqb}
+use lib.Dec.{eqb}
 use lib.Ieee.Nearest.{div-mono}
+use Rattle.exact.specs.Inner.{Divided}
 use Rattle.exact.proofs.Magnitude.{scaled-size}
 use Rattle.model.specs.Points.{gap-most, value-most}
 use Rattle.shape.specs.Inner.{over-most}
 use Rattle.segment.specs.Inner.{part, Weights, whole-part, rising-reading, RisingInput, raised, ConvexInput}
+use Rattle.segment.specs.Inner.{ends-in-0, convex-tie}
+use Rattle.segment.proofs.Rounded.{twice-left}
 
 blend-size : (t u : ℕ) {g e m : ℕ} → t + u ≤ gap-most → g ≤ m → e ≤ m → g * t + e * u ≤ gap-most * m
 blend-size t u {m = m} near k l =
@@ -140,3 +149,23 @@ module _ {t u h left d a b : ℕ} (k : ConvexInput t u h left d a b) where
 
   pub raised-size : raised t u h left d a b ≤ 2 ^ 37
   raised-size = omega (arith, tangent-size, divisor-size, excess-size)
+
+  -- not an exact half
+  pub no-tie : 0 < raised t u h left d a b % 100 → convex-tie t u h left d a b ≡ false
+  no-tie some = rw (ne-eqb (raised t u h left d a b % 100) 0 (omega arith)) (and-false (eqb (w * w % (divisor * h)) 0))
+
+  -- w w by the divisor, and then by t + u
+  module _ {q r : ℕ} (s : Divided (w * w) divisor q r) (some : 0 < divisor) where
+    pub full-sum : 50 * (2 * left + 1) + d * t + q / (t + u) ≡ raised t u h left d a b
+    full-sum = rw (s .quotient, k .sum, div-div-eq-div-mul)
+
+    pub full-tie : ends-in-0 (r + q % (t + u)) (50 * (2 * left + 1) + d * t + q / (t + u)) ≡ convex-tie t u h left d a b
+    full-tie =
+        rw full-sum (rw (s .quotient, s .remainder, k .sum)
+        (twice-left (w * w) (raised t u (t + u) left d a b) some (k .distances .least)))
+
+    pub full-rest : r + q % (t + u) ≤ divisor + gap-most
+    full-rest =
+        let m = mod-lt (w * w) some in
+        let n = mod-lt q (k .distances .least) in
+        omega (arith, s .remainder, k .distances .most)

@@ -103,33 +103,32 @@ struct Sum {
 // W = a u + w the curve is w w / (W h) hundredths above its left tangent. The last two digits need not be right, nor what is left,
 // but for whether all of them are 0, where `ties` is 1. Where h divides it is t + u: the compiler would test at each area whether
 // an h that is the same for all of them is 0.
-fn raised(ties: u64, x: Bent) -> Sum
-    requires { ⌜ ConvexInput (x .t) (x .u) (x .h) (x .left) (x .d) (x .a) (x .b) ⌝ }
-    ensures hundreds { λ s. ⌜ s .hundredths / 100 ≡ inner.raised (x .t) (x .u) (x .h) (x .left) (x .d) (x .a) (x .b) / 100 ⌝ }
+fn raised(ties: u64, t: u64, u: u64, h: u64, left: u64, d: u64, a: u64, b: u64) -> Sum
+    requires { ⌜ ConvexInput t u h left d a b ⌝ }
+    ensures hundreds { λ s. ⌜ s .hundredths / 100 ≡ inner.raised t u h left d a b / 100 ⌝ }
     ensures tie { λ s. ⌜ (ties ≡ 1 →
-        ends-in-0 (s .rest) (s .hundredths) ≡ convex-tie (x .t) (x .u) (x .h) (x .left) (x .d) (x .a) (x .b)) ⌝ }
+        ends-in-0 (s .rest) (s .hundredths) ≡ convex-tie t u h left d a b) ⌝ }
 {
-    let tangent = 50 * (2 * x.left + 1) + x.d * x.t;
-    let w = x.b * x.t;
+    let tangent = 50 * (2 * left + 1) + d * t;
+    let w = b * t;
     if w == 0 {
         return Sum {
             hundredths: tangent,
             rest: 0,
         };
     }
-    let divisor = x.a * x.u + w;
-    let h = x.t + x.u;
+    let divisor = a * u + w;
     // b h is the largest w of the segment. It is asked, and not w, so that all areas of a segment take one branch.
-    if x.b * x.h < 0x1_0000_0000 {
+    if b * h < 0x1_0000_0000 {
         return Sum {
-            hundredths: tangent + w * w / (divisor * h),
-            rest: w * w % (divisor * h),
+            hundredths: tangent + w * w / (divisor * (t + u)),
+            rest: w * w % (divisor * (t + u)),
         };
     }
     // w w may pass 64 bits. From the leading bits the sum is at most 1 too low, which changes the last two digits alone unless
     // they are 99; unless they are 99 or 0, the value is no exact half.
     let v = w / 32;
-    let least = tangent + v * v / (divisor * x.h / 1024 + 1);
+    let least = tangent + v * v / (divisor * h / 1024 + 1);
     if (least + 1) % 100 > ties {
         return Sum {
             hundredths: least,
@@ -138,8 +137,8 @@ fn raised(ties: u64, x: Bent) -> Sum
     }
     let s = exact::mul_div(w, w, divisor);
     Sum {
-        hundredths: tangent + s.q / h,
-        rest: s.r + s.q % h,
+        hundredths: tangent + s.q / (t + u),
+        rest: s.r + s.q % (t + u),
     }
 }
 
@@ -187,7 +186,7 @@ fn convex_factor(p: Point, q: Point, area: u32) -> i32
     ensures { λ r. ⌜ r ≡ round (interpolant Shape.convex (segment-of p q) area) ⌝ }
 {
     let x = bent_at(p, q, area);
-    lowered(x.t, raised(0, x)).value
+    lowered(x.t, raised(0, x.t, x.u, x.h, x.left, x.d, x.a, x.b)).value
 }
 
 // Of points that are mirrored.
@@ -196,7 +195,7 @@ fn concave_factor(p: Point, q: Point, area: u32) -> i32
     ensures { λ r. ⌜ r ≡ round (whole (pos value-most) -ℚ interpolant Shape.convex (segment-of p q) area) ⌝ }
 {
     let x = bent_at(p, q, area);
-    from_mirror(lowered(x.t, raised(1, x)))
+    from_mirror(lowered(x.t, raised(1, x.t, x.u, x.h, x.left, x.d, x.a, x.b)))
 }
 
 // The factor of codes 1 and 2.

@@ -1,23 +1,40 @@
 -- `segment::raised` meets its contract.
 -- Assumes nothing.
-use borrow.Author.Needs.{needs}
-use mathlib.Core.Path.{refl}
-use native.Mathlib.Nat.{mul-pos, div-div-eq-div-mul}
+use mathlib.Core.Path.{refl, sym, ap}
+use Prim.Native.Nat.{_/_}
+use native.Mathlib.Nat.{add-zero, mul-pos, zero-mul, zero-div, zero-mod}
 use native.Mathlib.Omega.{arith}
+use borrow.Author.Needs.{needs}
 use Rattle.exact.proofs.Magnitude.{product-size}
 use Rattle.segment.proofs.Sizes.{h-positive, tangent-size, divisor-size, denominator-size, w-most, w-most-size}
-use Rattle.segment.proofs.Sizes.{excess-size, raised-size, least-near}
+use Rattle.segment.proofs.Sizes.{excess-size, raised-size, least-near, no-tie, full-sum, full-tie, full-rest}
 use Rattle.segment.proofs.raised.Statement.{statement}
 use Rattle.segment.proofs.raised.Tie as tie
 
+-- the left tangent alone
+returns : tie.Need-returns
+returns c = (
+  omega (arith, excess-size (c .before .pre)),
+  λ _. rw (c .if1 .taken) (simp (zero-mul, zero-mod, zero-div, add-zero) refl),
+)
+
 -- w w in 64 bits
-mul-result : tie.Need-mul-result
-mul-result c =
+mul-t20 : tie.Need-mul-t20
+mul-t20 c =
     let n = w-most (c .before .before .pre) in
     record { fits = product-size 32 32 (omega arith) (omega arith) }
 
-div-result : tie.Need-div-result
-div-result c = mul-pos (omega arith) (h-positive (c .before .before .pre))
+mul-t22 : tie.Need-mul-t22
+mul-t22 c = let k = c .before .before .pre in rw (← k .sum) (omega (arith, denominator-size k))
+
+div-t23 : tie.Need-div-t23
+div-t23 c = let k = c .before .before .pre in rw (← k .sum) (mul-pos (omega arith) (h-positive k))
+
+add-t24 : tie.Need-add-t24
+add-t24 c = let k = c .before .before .pre in rw (← k .sum) (omega (arith, raised-size k))
+
+returns-2 : tie.Need-returns-2
+returns-2 c = rw (c .before .before .pre .sum) (refl, λ _. refl)
 
 -- by leading bits
 mul-least : tie.Need-mul-least
@@ -30,8 +47,16 @@ add-least-2 c =
     let k = c .before .before .pre in
     omega (arith, least-near k (omega arith) (omega arith), raised-size k)
 
+add-if3 : tie.Need-add-if3
+add-if3 c =
+    let k = c .before .before .pre in
+    omega (arith, least-near k (omega arith) (omega arith), raised-size k)
+
 returns-3 : tie.Need-returns-3
-returns-3 c = omega (arith, least-near (c .before .before .before .pre) (omega arith) (omega arith))
+returns-3 c =
+    let k = c .before .before .before .pre in
+    let near = least-near k (omega arith) (omega arith) in
+    (omega (arith, near), λ e. sym (no-tie k (omega (arith, near))))
 
 -- in full
 mul-div-requires : tie.Need-mul-div-requires
@@ -39,19 +64,29 @@ mul-div-requires c κs =
     let n = divisor-size (c .before .before .before .pre) in
     record { part = omega arith; above-0 = omega arith; divisor = omega arith; factor = omega arith }
 
-add-result-2 : tie.Need-add-result-2
-add-result-2 c =
-    rw (c .mul-div .ensures, div-div-eq-div-mul) (omega (arith, raised-size (c .before .before .before .before .pre)))
+add-t29 : tie.Need-add-t29
+add-t29 c =
+    let k = c .before .before .before .before .before .pre in
+    omega (arith, full-sum k (c .before .mul-div .ensures) (omega arith), raised-size k)
+
+add-t30 : tie.Need-add-t30
+add-t30 c =
+    let l = c .before .before .before in
+    let k = l .before .before .before .before .pre in
+    omega (arith, full-rest k (l .mul-div .ensures) (omega arith), divisor-size k)
 
 returns-4 : tie.Need-returns-4
-returns-4 c = rw (c .mul-div .ensures, div-div-eq-div-mul)
+returns-4 c =
+    let l = c .before .before .before in
+    let k = l .before .before .before .before .pre in
+    (ap (λ n. n / 100) (full-sum k (l .mul-div .ensures) (omega arith)), λ _. full-tie k (l .mul-div .ensures) (omega arith))
 
 pub raised-spec : {M : Type 1} → statement M
 raised-spec =
     tie.close
     (tie.spec (search needs) (search needs) (search needs) (omega (arith, tangent-size)) (omega (arith, tangent-size))
-    (omega (arith, divisor-size)) (omega (arith, excess-size)) (omega (arith, divisor-size)) (omega (arith, divisor-size))
-    (omega (arith, w-most-size)) mul-result (omega (arith, denominator-size)) div-result
-    (λ c. omega (arith, raised-size (c .before .before .pre))) (λ c. refl)
-    mul-least (omega (arith, denominator-size)) (omega (arith, denominator-size)) (search needs)
-    add-least-2 returns-3 mul-div-requires (omega (arith, h-positive)) add-result-2 returns-4)
+    (omega (arith, divisor-size)) returns (omega (arith, divisor-size)) (omega (arith, divisor-size))
+    (omega (arith, w-most-size)) mul-t20 (search needs) mul-t22 div-t23 add-t24 mul-t20 (search needs) mul-t22 div-t23 returns-2
+    mul-least (omega (arith, denominator-size)) (omega (arith, denominator-size)) (search needs) add-least-2 add-if3 returns-3
+    mul-div-requires (search needs) (omega (arith, h-positive)) add-t29 (search needs) (omega (arith, h-positive)) add-t30
+    returns-4)

@@ -1,4 +1,4 @@
--- `segment::rising_factor` meets its contract.
+-- `segment::rising_value` meets its contract.
 -- Assumes nothing.
 use borrow.Author.Needs.{needs}
 use mathlib.Core.Path.{_≡_, _∙_, sym}
@@ -12,10 +12,10 @@ use Rattle.model.specs.Points.{Segment, rising}
 use Rattle.model.specs.Interpolant.{interpolant}
 use Rattle.point.specs.Inner.{segment-of}
 use Rattle.shape.proofs.Figures.{slope-fits, slope-read, value-read}
-use Rattle.segment.proofs.Distances.{u-read, reading-fits}
+use Rattle.segment.proofs.Distances.{u-read}
 use Rattle.segment.proofs.RisingReading.{Rising, rising-inside, flat-inside}
-use Rattle.segment.proofs.rising_factor.Statement.{statement}
-use Rattle.segment.proofs.rising_factor.Tie as tie
+use Rattle.segment.proofs.rising_value.Statement.{statement}
+use Rattle.segment.proofs.rising_value.Tie as tie
 
 -- the places
 abbrev entry : tie.Else1 → tie.Start
@@ -39,7 +39,7 @@ facts c = rising-inside (entry c .pre) (c .if1 .left)
 returns : tie.Need-returns
 returns c =
     let i = c .before .before .before .before .pre in
-    value-read (i .good .ends .left) ∙ sym (flat-inside i (c .before .if1 .taken))
+    rw (value-read (i .good .ends .left)) (flat-inside i (c .before .if1 .taken))
 
 cast-d0 : tie.Need-cast-d0
 cast-d0 c =
@@ -57,25 +57,18 @@ rising-requires c κs =
     let i = entry k .pre in
     rw (u-read i, slope-read (i .good .ends .left), slope-read (i .good .ends .right)) (facts k .input)
 
--- the result is the reading
-module _ (c : tie.After-rising) where
-  abbrev start : tie.Start
-  start = entry (at-d1 (c .before .before))
-
-  result-is : pos (c .rising .result) ≡ round (interpolant rising (segment start) (start .args .area))
-  result-is =
-      let n = start .pre .good .ends in
-      rw (c .rising .ensures, u-read (start .pre), slope-read (n .left), slope-read (n .right))
-      (sym (facts (at-d1 (c .before .before)) .reading))
-
-  result-fits : SFits w32 (pos (c .rising .result))
-  result-fits = rw result-is (reading-fits (start .pre))
-
 returns-2 : tie.Need-returns-2
-returns-2 c = toZ-pos w32 (result-fits c .sfits) ∙ result-is c
+returns-2 c =
+    let k = at-d1 (c .before .before) in
+    let i = entry k .pre in
+    let n = i .good .ends in
+    record {
+      value = rw (u-read i, slope-read (n .left), slope-read (n .right)) at (c .rising .ensures .0) ∙ sym (facts k .reading);
+      half = rw (u-read i, slope-read (n .left), slope-read (n .right)) at (c .rising .ensures .1) ∙ sym (facts k .half);
+    }
 
-pub rising-factor-spec : {M : Type 1} → statement M
-rising-factor-spec =
+pub rising-value-spec : {M : Type 1} → statement M
+rising-value-spec =
     tie.close
     (tie.spec (search needs) returns (search needs) (search needs) (search needs) (search needs) (search needs)
-    (λ c. facts (at-rise c) .values-≤) (search needs) cast-d0 cast-d1 (search needs) rising-requires result-fits returns-2)
+    (λ c. facts (at-rise c) .values-≤) (search needs) cast-d0 cast-d1 (search needs) rising-requires returns-2)
