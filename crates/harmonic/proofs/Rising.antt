@@ -19,11 +19,11 @@ use lib.Signed.{_≤ℤ_, leZ}
 use Rattle.exact.proofs.Order as Z
 use Rattle.exact.proofs.Tests.{compare, T-true}
 use Rattle.model.specs.Answer.{gives, row, _then_, row-at-each}
-use Rattle.model.specs.Points.{points-least, points-most, slope-most, Point, points, Segment, Shape, rising, shape-of}
-use Rattle.model.specs.Shape.{has-shape}
+use Rattle.model.specs.Points.{points-least, points-most, slope-most, Point, points, Segment, rising, Rule, plain, rule-of}
+use Rattle.model.specs.Shape.{has-shape, segment-test}
 use Rattle.model.specs.Check.{lengths-differ, bad-count, bad-code, bad-slope, point-rows, curve-rows, on-lists}
 use Rattle.model.specs.Inner.{Alike, between, point-at, Good}
-use Rattle.model.proofs.Codes.{rising-of-1}
+use Rattle.model.proofs.Codes.{rule-of-1}
 use Rattle.model.proofs.Rows.{then-rest}
 use Rattle.model.proofs.Answers.{on-lists-is}
 use Rattle.model.proofs.Places.{each-fails}
@@ -66,15 +66,15 @@ rows-3-to-5 i before (a ∷ areas) (v ∷ values) (s ∷ slopes) e f good =
 
 -- ---- row 6
 
-module _ (ps : List Point) (shape : Shape) (shapeless : ℕ → Bool)
-    (is : (i : ℕ) → i + 1 < length ps → has-shape shape (between (point-at ps i) (point-at ps (i + 1))) ≡ not (shapeless i)) where
-  rows-from : (m i : ℕ) → i + m + 1 ≡ length ps → segments-from ps shape i ≡ row-at-each shapeless 6 i m
+module _ (ps : List Point) (rule : Rule) (shapeless : ℕ → Bool)
+    (is : (i : ℕ) → i + 1 < length ps → segment-test rule (between (point-at ps i) (point-at ps (i + 1))) ≡ not (shapeless i)) where
+  rows-from : (m i : ℕ) → i + m + 1 ≡ length ps → segments-from ps rule i ≡ row-at-each shapeless 6 i m
   unfolding row-at-each
-  rows-from zero i e = segment-end ps shape i (omega arith)
+  rows-from zero i e = segment-end ps rule i (omega arith)
   rows-from (suc m) i e =
       let h : i + 1 < length ps = omega arith in
       let later = rows-from m (i + 1) (omega arith) in
-      sym (segment-turn ps shape i _ _ h refl refl (sym (is i h)))
+      sym (segment-turn ps rule i _ _ h refl refl (sym (is i h)))
       ∙ (rw (Bool·not-not (shapeless i), later, add-one i))
 
 -- a segment between such slopes rises unless it falls
@@ -103,8 +103,8 @@ module _ (areas values : List ℕ) (slopes : List ℤ) (alike : Alike (length ar
   ps = points areas values slopes
 
   rises-at : (i : ℕ) → i + 1 < length ps →
-      has-shape rising (between (point-at ps i) (point-at ps (i + 1))) ≡ not (falls values i)
-  unfolding falls
+      segment-test (plain rising) (between (point-at ps i) (point-at ps (i + 1))) ≡ not (falls values i)
+  unfolding falls segment-test
   rises-at i h =
       let fields = fields-of areas values slopes alike in
       let size = fields-length fields in
@@ -120,8 +120,8 @@ module _ (areas values : List ℕ) (slopes : List ℤ) (alike : Alike (length ar
       let good : (j : ℕ) → j < length slopes → bad-slope (getD slopes j (pos 0)) ≡ false =
       λ j h. in-range _ (suits .least j h) (suits .most j h) in
       let first = rows-3-to-5 0 none areas values slopes (alike .values-too) (alike .slopes-too) good in
-      let second = rows-from ps rising (falls values) rises-at (length areas - 1) 0 (omega arith) in
-      rw (size, first, rising-of-1 {code = 1} refl, second)
+      let second = rows-from ps (plain rising) (falls values) rises-at (length areas - 1) 0 (omega arith) in
+      rw (size, first, rule-of-1 {code = 1} refl, second)
 
 -- ---- slopes that are all 0
 
@@ -194,7 +194,7 @@ module _ {areas values : List ℕ} (k : Counted areas values) where
       record {
         counted = k;
         climbs = λ i h.
-            let good = chained-at (Good (shape-of 1)) good-ordered accepted i (omega (arith, zero-slope-size)) in
+            let good = chained-at (Good (rule-of 1)) good-ordered accepted i (omega (arith, zero-slope-size)) in
             let ends = rw (zero-slope-at i (omega arith), zero-slope-at (suc i) (omega arith), ← add-one i) at (good .ends) in
             record {
               ordered = ends .ordered;

@@ -1,10 +1,11 @@
--- The laws of an accepted curve, from the relations across it. Those that document 01 states of exact values: segments-meet,
--- convex-chords (specs/Laws.antt). Of factors, for the demands over every call:
+-- The laws of an accepted curve, from the relations across it. Those that document 01 and request 4 state of exact values:
+-- segments-meet, convex-chords, concave-chords (specs/Laws.antt). Of factors, for the demands over every call:
 --   factors-are-near      at most half a unit off; where it is exactly half a unit, upwards
---   factors-are-ranged    from −200,000 to 200,000
+--   factors-are-ranged    from −200,000 to 400,000
 --   rated-points-read     at a rated point the factor is the point's value
 --   rising-factors        a larger area never reads less, on a rising curve
 --   convex-steps          of three areas equally far apart, the second step is at most one unit smaller, on a convex curve
+--   falling-factors, concave-steps    the same of falling and concave curves, by the mirror: never more, at most one unit larger
 -- Assumes nothing.
 use mathlib.Core.Path.{_≡_, sym, _∙_, ap, subst, subst₂}
 use mathlib.Core.List.{List, [], _∷_, _++_}

@@ -24,7 +24,9 @@ use Rattle.model.proofs.Rows.{gives-injective, then-first, then-rest, row-passe
 use Rattle.model.proofs.Answers.{on-lists-of-is, on-lists-gives, given, reading-given}
 use Rattle.model.proofs.Lists.{fields-of}
 use Rattle.model.proofs.Laws.{curve-accepted, factor, values-are-proper, factors-are-near, segments-meet, rated-points-read}
-use Rattle.model.proofs.Laws.{rising-factors, convex-chords, convex-steps}
+use Rattle.model.proofs.Laws.{factors-are-ranged, rising-factors, convex-chords, convex-steps}
+use Rattle.model.proofs.Laws.{falling-factors, concave-chords, concave-steps}
+use Rattle.model.proofs.MirrorCurve.{mirror-accepted}
 use Rattle.model.proofs.Filling.{tabulate-at}
 use Rattle.model.proofs.Places.{each-fails, each-passes}
 use Rattle.layout.specs.Layout.{record-size, shape-code, count, points-of}
@@ -180,5 +182,13 @@ third-demand c =
           rw (← reads r₀ .same, ← reads r₁ .same, ← reads r₂ .same)
           (convex-steps c e x k (reads r₀ .area) (reads r₁ .area) (reads r₂ .area));
       convex-chords = convex-chords c;
+      falling = λ e x y f g r s h.
+          rw (← reads r .same, ← reads s .same) (falling-factors c e x y (reads r .area) (reads s .area) h);
+      concave-steps = λ e x k f₀ f₁ f₂ h r₀ r₁ r₂.
+          rw (← reads r₀ .same, ← reads r₁ .same, ← reads r₂ .same)
+          (concave-steps c e x k (reads r₀ .area) (reads r₁ .area) (reads r₂ .area));
+      concave-chords = concave-chords c;
+      mirror-accepted = mirror-accepted c;
+      ranged = λ x f r. let k = rw (reads r .same) at (factors-are-ranged c x (reads r .area)) in (k .low, k .high);
       rated-factors = λ before after p f e r. sym (reads r .same) ∙ rated-points-read c before after p e;
     }

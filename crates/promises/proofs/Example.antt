@@ -7,10 +7,10 @@ use lib.IntN.{pos}
 use Rattle.exact.specs.Fraction.{_over_, whole, _+ℚ_, _-ℚ_, _*ℚ_, _/ℚ_, leℚ, ltℚ, eqℚ}
 use Rattle.exact.specs.Rounding.{floorDiv, floor, round}
 use Rattle.model.specs.Answer.{row, _then_, row-at-each, filled}
-use Rattle.model.specs.Points.{gradient, points, segments, shape-of}
+use Rattle.model.specs.Points.{gradient, points, segments, shape-of, rule-of}
 use Rattle.model.specs.Interpolant.{chord, p, q, P, Q, rational, r-rising, r-convex}
-use Rattle.model.specs.Interpolant.{rising-curve, convex-curve, curve, interpolant}
-use Rattle.model.specs.Shape.{rises, bends, fits, has-shape}
+use Rattle.model.specs.Interpolant.{rising-curve, convex-curve, curve, interpolant, exact-curve}
+use Rattle.model.specs.Shape.{rises, bends, fits, has-shape, segment-test}
 use Rattle.model.specs.Check.{lengths-differ, bad-count, bad-code, bad-area, bad-value, bad-slope}
 use Rattle.model.specs.Check.{point-rows, segment-rows, curve-rows, on-lists}
 use Rattle.model.specs.Read.{taken, value-in, outside, exact-value, reading, read-answer}
@@ -37,8 +37,8 @@ pub record Each (c : Curve) : Type 0 where
 
 pub example : FileExample × (c : Curve) × Each c
 unfolding _over_ whole _+ℚ_ _-ℚ_ _*ℚ_ _/ℚ_ leℚ ltℚ eqℚ floorDiv floor round row _then_ row-at-each
-    gradient points segments shape-of chord p q P Q rational r-rising r-convex rising-curve convex-curve curve interpolant
-    rises bends fits has-shape
+    gradient points segments shape-of rule-of chord p q P Q rational r-rising r-convex rising-curve convex-curve curve interpolant exact-curve
+    rises bends fits has-shape segment-test
     lengths-differ bad-count bad-code bad-area bad-value bad-slope point-rows segment-rows curve-rows on-lists
     taken value-in outside exact-value reading read-answer bad-sheet tabulate sheet-answer sheet-list
     twos-complement little-endian record-at wrong-mark bad-head bad-size head-rows factors pair-answer
@@ -63,7 +63,7 @@ pub file-example : FileExample
 file-example = example .0
 
 pub write-example : WriteExample
-unfolding _over_ leℚ ltℚ eqℚ _-ℚ_ row _then_ filled gradient segments shape-of chord bends fits has-shape
+unfolding _over_ leℚ ltℚ eqℚ _-ℚ_ row _then_ filled gradient segments shape-of rule-of chord bends fits has-shape segment-test
     bad-count bad-code bad-area bad-value bad-slope point-rows segment-rows curve-rows tabulate
     twos-complement little-endian record-at in-bytes in-twos-complement record-bytes head-bytes file-bytes flatMap
     short-buffer write-answer records file shapeless

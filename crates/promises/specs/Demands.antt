@@ -1,16 +1,16 @@
--- The third demand. Proofs: proofs/Demands.antt.
+-- The third demand, and what request 4 adds to it. Proofs: proofs/Demands.antt.
 -- Assumes nothing.
 use Prim.Native.Nat.{ℕ, _+_, _*_, _≤_, _<_}
 use mathlib.Core.Path.{_≡_}
 use mathlib.Core.List.{List, _∷_, _++_, map}
-use lib.IntN.{ℤ, pos, _-ℤ_}
+use lib.IntN.{ℤ, pos, negℤ, _+ℤ_, _-ℤ_}
 use lib.Signed.{_≤ℤ_}
 use Rattle.exact.specs.Fraction.{Proper, whole, _+ℚ_, _-ℚ_, _≤ℚ_}
 use Rattle.exact.specs.Rounding.{half}
 use Rattle.model.specs.Answer.{gives, refused}
 use Rattle.model.specs.Points.{Point}
 use Rattle.model.specs.Check.{check-answer, on-lists}
-use Rattle.model.specs.Laws.{Curve, Area, exact, SegmentsMeet, ConvexChords}
+use Rattle.model.specs.Laws.{Curve, Area, exact, SegmentsMeet, ConvexChords, ConcaveChords, MirrorAccepted}
 use Rattle.model.specs.Sheet.{entry-area}
 use Rattle.desk.specs.Desk.{desk-answer}
 use Rattle.pair.specs.Pair.{Factors}
@@ -49,6 +49,17 @@ pub record ThirdDemand (c : Curve) : Type 0 where
       FactorRead c x f₀ → FactorRead c (x + k) f₁ → FactorRead c (x + 2 * k) f₂ → (f₁ -ℤ f₀ -ℤ pos 1) ≤ℤ (f₂ -ℤ f₁)
   -- of two chords of a convex curve, the one to the right is at least as steep
   pub convex-chords : ConvexChords c
-  -- beyond document 01: a factor read at a rated point is the point's value
+  -- request 4: a falling curve never reads a larger factor at a larger area
+  pub falling : c .code ≡ 3 → (x y : ℕ) (f g : ℤ) → FactorRead c x f → FactorRead c y g → x ≤ y → g ≤ℤ f
+  -- of three areas equally far apart on a concave curve, the second step is at most one unit larger than the first
+  pub concave-steps : c .code ≡ 4 → (x k : ℕ) (f₀ f₁ f₂ : ℤ) → 0 < k →
+      FactorRead c x f₀ → FactorRead c (x + k) f₁ → FactorRead c (x + 2 * k) f₂ → (f₂ -ℤ f₁) ≤ℤ (f₁ -ℤ f₀ +ℤ pos 1)
+  -- of two chords of a concave curve, the one to the right has at most the slope of the other
+  pub concave-chords : ConcaveChords c
+  -- mirrored, a falling or concave curve is accepted as rising or convex
+  pub mirror-accepted : MirrorAccepted c
+  -- beyond document 01 and request 4: each factor is from −200,000 to 400,000
+  pub ranged : (x : ℕ) (f : ℤ) → FactorRead c x f → (negℤ (pos 200000) ≤ℤ f) × (f ≤ℤ pos 400000)
+  -- and a factor read at a rated point is the point's value
   pub rated-factors : (before after : List Point) (p : Point) (f : ℤ) → c .points ≡ before ++ p ∷ after →
       FactorRead c (p .area) f → f ≡ pos (p .value)

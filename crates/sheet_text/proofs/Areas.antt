@@ -13,7 +13,7 @@ use native.Mathlib.Omega.{arith}
 use borrow.Author.Tests.{le-ltb}
 use lib.ListN.{length, length-map}
 use Rattle.model.specs.Answer.{gives, row, _then_}
-use Rattle.model.specs.Points.{points-most, area-most, Point, Shape}
+use Rattle.model.specs.Points.{points-most, area-most, Point, Rule}
 use Rattle.model.specs.Read.{outside}
 use Rattle.model.specs.Inner.{read-rows, areas-of, Good}
 use Rattle.model.proofs.Walk.{chain-ordered, good-ordered}
@@ -27,7 +27,7 @@ use Rattle.file_lookup.proofs.Placed.{areas-size, outside-is}
 use Rattle.sheet_text.specs.SheetText.{step}
 use Rattle.sheet_text.specs.Inner.{FileCurve, Lines}
 
-chain-ends : {shape : Shape} {ps : List Point} → Chained (Good shape) ps → first (areas-of ps) ≤ last (areas-of ps)
+chain-ends : {rule : Rule} {ps : List Point} → Chained (Good rule) ps → first (areas-of ps) ≤ last (areas-of ps)
 chain-ends (chained {p = p} {q = q} {ps = ps} c) =
     let index : length (areas-of (p ∷ q ∷ ps)) - 1 ≡ length (q ∷ ps) = omega (arith, length-map ps (λ p. p .area)) in
     rw (index, ← last-area-at p (q ∷ ps)) (chain-ordered _ good-ordered c)

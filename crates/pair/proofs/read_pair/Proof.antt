@@ -6,11 +6,13 @@ use mathlib.Core.List.{List}
 use Prim.Native.Nat.{ℕ, _≤_}
 use native.Mathlib.Omega.{arith}
 use borrow.Author.Needs.{needs}
-use lib.IntN.{ℤ, natAbs, _-ℤ_}
+use lib.IntN.{ℤ, pos, negℤ, natAbs, _-ℤ_}
 use lib.ListN.{length}
+use lib.Signed.{_≤ℤ_}
 use mir.Syntax.{w32}
 use mir.Val.{SFits, toZ, ofZ}
 use mir.Facts.{toZ-ofZ}
+use Rattle.exact.proofs.Order as Z
 use Rattle.exact.proofs.Magnitude.{size-between, size--, sfits-of-size}
 use Rattle.model.specs.Answer.{Answer, gives, refused, row, _then_}
 use Rattle.model.specs.Points.{Point, points}
@@ -27,7 +29,7 @@ use Rattle.pair.proofs.read_pair.Tie as tie
 record Read (areas values : List ℕ) (slopes : List ℤ) (code x : ℕ) (f : ℤ) : Type 0 where
   pub given : Given (points areas values slopes) code x f
   pub same-lengths : lengths-differ (length areas) (length values) (length slopes) ≡ false
-  pub small : natAbs f ≤ 200000
+  pub small : natAbs f ≤ 400000
 
 read-of-answer : (areas values : List ℕ) (slopes : List ℤ) (code x : ℕ) {a : Answer ℤ} {f : ℤ} →
     a ≡ on-lists areas values slopes (λ ps. read-answer ps code x) →
@@ -38,7 +40,8 @@ unfolding InRange
 read-of-answer areas values slopes code x {f = f} e r g =
     let k = on-lists-gives areas values slopes (λ ps. read-answer ps code x) (sym e ∙ g) in
     let (low, high) = subst InRange g r in
-    record { given = given _ code x (k .result); same-lengths = k .same-lengths; small = size-between f low high }
+    let lowest : negℤ (pos 400000) ≤ℤ f = Z.≤-trans (record { le = tt }) low in
+    record { given = given _ code x (k .result); same-lengths = k .same-lengths; small = size-between f lowest high }
 
 module _ {areas values : List ℕ} {slopes : List ℤ} {code x : ℕ} {f : ℤ} (k : Read areas values slopes code x f) where
   on-lists-read : {A : Type 0} (call : List Point → Answer A) →
