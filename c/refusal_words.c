@@ -8,7 +8,8 @@ const char *curve_refusal_words(int number)
         return "the lists differ in length, or there are fewer than 2 or more "
                "than 64 points";
     case CURVE_REFUSED_SHAPE:
-        return "the shape code is neither 1 (rising) nor 2 (convex)";
+        return "the shape code is none of 1 (rising), 2 (convex), 3 (falling), "
+               "4 (concave)";
     case CURVE_REFUSED_AREA:
         return "an area is above 20,000, not larger than the one before, or "
                "more than 2,000 beyond it";

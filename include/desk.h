@@ -76,8 +76,9 @@ extern "C" {
  * What the bytes hold is free.
  *
  * Returns the factor in ten-thousandths (10889 is 1.0889), from -200,000 to
- * 200,000; a convex curve may dip below zero. Or returns -1,000,000 less the
- * refusal number: use DESK_IS_REFUSED and DESK_REFUSAL.
+ * 400,000; a convex curve may dip below zero, a concave one may pass 200,000.
+ * Or returns -1,000,000 less the refusal number: use DESK_IS_REFUSED and
+ * DESK_REFUSAL.
  *
  * With a factor, the first 12 * count bytes of the scratch are the file's
  * point records, in file order; its other bytes keep what they held. With a

@@ -39,9 +39,20 @@ extern "C" {
  *   values[i]  the factor in units of one ten-thousandth, 0 to 200,000
  *   slopes[i]  hundredths of a unit for each tenth of a square metre,
  *              -10,000 to 10,000
+ *
+ * The shape code says what holds from each point to the next; their chord is
+ * the straight line between them. On a rising curve a larger area never reads
+ * a smaller factor, on a falling one never a larger. A convex curve bends up,
+ * a concave one down.
  */
-#define CURVE_RISING 1
-#define CURVE_CONVEX 2
+#define CURVE_RISING 1  /* the value rises and both slopes are 0 or more, or
+                           the value stays and both slopes are 0 */
+#define CURVE_CONVEX 2  /* the chord's slope is above the left slope and below
+                           the right one, or equals both */
+#define CURVE_FALLING 3 /* the value falls and both slopes are 0 or less, or
+                           the value stays and both slopes are 0 */
+#define CURVE_CONCAVE 4 /* the chord's slope is below the left slope and above
+                           the right one, or equals both */
 
 #define CURVE_POINTS_MAX 64    /* points of an accepted curve */
 #define CURVE_ENTRIES_MAX 1024 /* entries of a sheet */
@@ -56,7 +67,7 @@ extern "C" {
 #define CURVE_REFUSED_LENGTH 10  /* the length is not 7 + 12 * count */
 #define CURVE_REFUSED_ROOM 11    /* a lent list, or the scratch, is too short */
 #define CURVE_REFUSED_COUNT 1    /* lengths differ, or not 2 to 64 points */
-#define CURVE_REFUSED_SHAPE 2    /* the shape code is neither 1 nor 2 */
+#define CURVE_REFUSED_SHAPE 2    /* the shape code is outside 1 to 4 */
 #define CURVE_REFUSED_AREA 3     /* a point's area; the place is the point */
 #define CURVE_REFUSED_VALUE 4    /* a point's value; the place is the point */
 #define CURVE_REFUSED_SLOPE 5    /* a point's slope; the place is the point;
@@ -100,7 +111,10 @@ int64_t curve_check(const uint32_t *areas, size_t areas_len,
                     const uint32_t *values, size_t values_len,
                     const int32_t *slopes, size_t slopes_len, uint32_t shape);
 
-/* The factor at an area, in units: -200,000 to 200,000. */
+/*
+ * The factor at an area, in units: -200,000 to 400,000. Only a convex curve
+ * goes below 0, only a concave one above 200,000.
+ */
 int64_t curve_read(const uint32_t *areas, size_t areas_len,
                    const uint32_t *values, size_t values_len,
                    const int32_t *slopes, size_t slopes_len, uint32_t shape,

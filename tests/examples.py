@@ -1,8 +1,9 @@
 """Document 01's examples as cases for client.c, to standard output.
 
 The expected answers are those that document 01 states, and document 02 of the
-file that is written; filled slopes are worked out by hand. If exact_fractions.py
-gives another, it is said and the exit status is 1.
+file that is written; filled slopes, and falling and concave curves, are worked
+out by hand. If exact_fractions.py gives another, it is said and the exit status
+is 1.
 """
 
 import sys
@@ -13,6 +14,9 @@ from curve_file import curve_file
 
 FILL = 7
 STEEP = [(500, 10000, 0), (600, 14000, 10000)]
+# STEEP upside down: 24,000 less its values.
+DOWN = [(500, 14000, 0), (600, 10000, -10000)]
+HIGH = [(0, 200000, 10000), (2000, 200000, -10000)]
 
 
 def flat(count, gap):
@@ -90,6 +94,14 @@ def sheet_entries():
     yield 'sheet', (lists, 1, 0, 1, 1025), refusal(8, 0), None
 
 
+def beyond_the_values():
+    """A concave curve past 200,000, by the calls that read several areas."""
+    high = curves.lists(HIGH)
+    yield 'pair', (high, 4, 0, 1000, 3), 3, [[200000, 250000, 50000]]
+    yield 'pair', (high, 4, 1000, 2000, 3), 3, [[250000, 200000, -50000]]
+    yield 'sheet', (high, 4, 0, 1000, 3), 3, [[200000, 250000, 200000]]
+
+
 def fills(areas, values, slopes):
     yield 'fill_slopes', ((areas, values), len(areas)), len(areas), [slopes]
 
@@ -135,6 +147,26 @@ EXAMPLES = [
     ('a sheet of 1,024 entries passes, 1,025: refused 8', sheet_entries()),
     # The curve file.
     ('the file of 31 bytes', file_31_bytes()),
+    # Falling and concave curves.
+    ('118000/9 reads 13,111', reads(DOWN, 3, 550, 13111)),
+    ('13200 reads 13,200', reads(DOWN, 4, 550, 13200)),
+    ('152000/11 reads 13,818', reads(DOWN, 4, 525, 13818)),
+    ('a falling curve passes', passes(DOWN, 3)),
+    ('a concave curve passes', passes(DOWN, 4)),
+    ('1/2 reads 1, falling', reads([(0, 1, -50), (2, 0, -50)], 3, 1, 1)),
+    ('1/2 reads 1, concave', reads([(0, 1, -50), (2, 0, -50)], 4, 1, 1)),
+    ('400003/2 reads 200,002',
+     reads([(0, 200000, 300), (2, 200000, -300)], 4, 1, 200002)),
+    ('250,000 in the middle', reads(HIGH, 4, 1000, 250000)),
+    ('from 200,000 to 250,000 and back', beyond_the_values()),
+    ('K9 mirrored: refused 6 at 0',
+     not_accepted([(0, 100, -100), (100, 0, -200)], 4, 6, 0)),
+    ('K10 mirrored: refused 6 at 0',
+     not_accepted([(0, 5, 0), (10, 5, -1)], 3, 6, 0)),
+    ('K1 is not falling: refused 6', not_accepted(STEEP, 3, 6, 0)),
+    ('K3 is not concave: refused 6', not_accepted(STEEP, 4, 6, 0)),
+    ('code 5: refused 2', not_accepted(DOWN, 5, 2, 0)),
+    ('code 0: refused 2', not_accepted(DOWN, 0, 2, 0)),
     # Filled slopes.
     ('slopes 2, 0, 0, 12', fills([0, 10, 30, 35], [0, 10, 10, 40],
                                  [200, 0, 0, 1200])),

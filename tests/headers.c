@@ -19,13 +19,14 @@ static void expect(const char *name, int good)
     printf("DIFFERENCE: %s\n", name);
 }
 
-/* Document 01: the units, the sheet, the curve file. */
+/* Document 01: the units, the sheet, the curve file; document 02: shapes. */
 static void sizes(void)
 {
     expect("points", CURVE_POINTS_MAX == 64 && DESK_POINTS_MAX == 64);
     expect("entries", CURVE_ENTRIES_MAX == 1024);
     expect("count", CURVE_COUNT_MAX == 255 && DESK_COUNT_MAX == 255);
     expect("shapes", CURVE_RISING == 1 && CURVE_CONVEX == 2);
+    expect("mirrored", CURVE_FALLING == 3 && CURVE_CONCAVE == 4);
     expect("file", CURVE_FILE_MAX == 7 + 12 * 64 &&
                        DESK_FILE_MAX == 7 + 12 * 64);
     expect("scratch", DESK_SCRATCH_MAX == 12 * 64);
@@ -65,10 +66,15 @@ static void answers(void)
     }
     expect("a result", !CURVE_IS_REFUSED((int64_t)-200000) &&
                            !CURVE_IS_REFUSED((int64_t)0) &&
-                           !CURVE_IS_REFUSED((int64_t)200000) &&
-                           !DESK_IS_REFUSED(-200000));
-    expect("a result of curve_open",
-           CURVE_SHAPE((int64_t)576) == 2 && CURVE_COUNT((int64_t)576) == 64);
+                           !CURVE_IS_REFUSED((int64_t)400000) &&
+                           !DESK_IS_REFUSED(-200000) &&
+                           !DESK_IS_REFUSED(400000));
+    for (int shape = 1; shape <= 4; shape++) {
+        int64_t opened = 256 * shape + 64;
+        expect("a result of curve_open",
+               CURVE_SHAPE(opened) == (uint32_t)shape &&
+                   CURVE_COUNT(opened) == 64);
+    }
 }
 
 /* Each number has its own words, and no other number has them. */
@@ -124,6 +130,24 @@ static void calls(void)
                          check(a, 2, v, 2, s, 2, CURVE_RISING) == 1);
 }
 
+/* Document 02, item 4: a half that is rounded once; a factor past 200,000. */
+static void mirrored(void)
+{
+    const uint32_t a[] = {0, 2}, v[] = {1, 0};
+    const int32_t s[] = {-50, -50};
+    const uint32_t wide[] = {0, 2000}, level[] = {200000, 200000};
+    const int32_t bent[] = {10000, -10000};
+    uint8_t file[CURVE_FILE_MAX], scratch[DESK_SCRATCH_MAX];
+    int64_t answer = curve_check(a, 2, v, 2, s, 2, 5);
+    expect("code 5", CURVE_REFUSAL(answer) == CURVE_REFUSED_SHAPE);
+    expect("falling", curve_read(a, 2, v, 2, s, 2, CURVE_FALLING, 1) == 1);
+    answer = curve_read(wide, 2, level, 2, bent, 2, CURVE_CONCAVE, 1000);
+    expect("concave", answer == 250000);
+    answer = curve_write(wide, 2, level, 2, bent, 2, CURVE_CONCAVE, file, 31);
+    expect("concave, by the desk",
+           answer == 31 && desk_reading(file, 31, 1000, scratch, 24) == 250000);
+}
+
 int main(void)
 {
     sizes();
@@ -131,6 +155,7 @@ int main(void)
     answers();
     words();
     calls();
+    mirrored();
     printf("%d tests, %d failures\n", tests, failures);
     return failures > 0 || tests == 0;
 }

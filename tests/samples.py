@@ -28,7 +28,7 @@ STEEP = [(500, 10000, 0), (600, 14000, 10000)]
 # One file for each refusal that a file can show; the engine writes none.
 REFUSED = {
     'refused-1-one-point.trf': curve_file(STEEP[:1], 1),
-    'refused-2-shape-code.trf': curve_file(STEEP, 3),
+    'refused-2-shape-code.trf': curve_file(STEEP, 5),
     # At point 2: 2,001 beyond the one before.
     'refused-3-gap.trf': curve_file(STEEP + [(2601, 18000, 0)], 1),
     # At point 1.
@@ -123,6 +123,17 @@ def test_files():
     dip = ref.ratesheet(stored['dips-below-zero.trf'])
     expect('dips below zero', ' -' in dip, True)
     expect('points of points-64', stored['points-64.trf'][6], 64)
+    shapes = {data[5] for name, data in stored.items() if name not in REFUSED}
+    expect('shapes shown', shapes, {1, 2, 3, 4})
+    discount = stored['large-home-discount.trf']
+    _, values, slopes = ref.file_lists(discount)
+    expect('a discount', (discount[5], max(slopes), sorted(values)[::-1]),
+           (3, 0, list(values)))
+    expect('its level stretch', len(set(values)), len(values) - 1)
+    _, values, slopes = ref.file_lists(stored['flattening.trf'])
+    expect('a rise', (stored['flattening.trf'][5], sorted(values)),
+           (4, list(values)))
+    expect('that flattens', sorted(set(slopes))[::-1], list(slopes))
     filled_slopes = ref.file_lists(stored['without-slopes.trf'])[2]
     expect('without slopes', filled_slopes, (577, 376, 269, 0, 0, 208, 165))
     expect('document 01', stored['document-01.trf'].hex(),
@@ -171,9 +182,9 @@ def test_quote(program):
 def sheet_inputs():
     yield from sample_files()
     rng = random.Random('ratesheets 1')
-    for index in range(80):
-        points = curves.some_curve(rng, 1 + index % 2)
-        data = curve_file(points, 1 + index % 2)
+    for index in range(160):
+        shape = 1 + index % 4
+        data = curve_file(curves.some_curve(rng, shape), shape)
         yield 'curve %d' % index, data
         if index % 4 == 0:
             flipped = bytearray(data)

@@ -39,6 +39,9 @@ TEXT = os.path.join(SAMPLES, 'document-01.txt')
 WITHOUT_SLOPES = os.path.join(SAMPLES, 'without-slopes.txt')
 FILLED = 'factor-curves: %s has no slopes; they were filled by the harmonic rule\n'
 TWO = [os.path.join(SAMPLES, 'same-points-%s.trf' % shape) for shape in ('rising', 'convex')]
+DISCOUNT = os.path.join(SAMPLES, 'large-home-discount.trf')
+FLATTENING = os.path.join(SAMPLES, 'flattening.trf')
+NAMES = {1: 'rising', 2: 'convex', 3: 'falling', 4: 'concave'}
 COMMAND = [sys.executable, '-m', 'factor_curves']
 MATPLOTLIB = importlib.util.find_spec('matplotlib') is not None
 
@@ -150,7 +153,7 @@ class Commands(Case):
         rng = random.Random('command line')
         yield from (data for _, data in sample_files())
         for index in range(40):
-            data = curve_file(curves.some_curve(rng, 1 + index % 2), 1 + index % 2)
+            data = curve_file(curves.some_curve(rng, 1 + index % 4), 1 + index % 4)
             yield data
             flipped = bytearray(data)
             flipped[rng.randrange(len(data))] ^= 1 << rng.randrange(8)
@@ -194,7 +197,7 @@ class Commands(Case):
             count = len(areas)
             segments = '1 segment' if count == 2 else '%d segments' % (count - 1)
             self.assertEqual(inside('check', path).out, 'accepted: shape %d (%s), %d points, %s\n'
-                             % (shape, {1: 'rising', 2: 'convex'}[shape], count, segments))
+                             % (shape, NAMES[shape], count, segments))
 
     def test_read(self):
         rng = random.Random('read')
@@ -217,7 +220,7 @@ class Commands(Case):
             count = len(areas)
             segments = '1 segment' if count == 2 else '%d segments' % (count - 1)
             self.assertEqual(first, 'shape %d  # %s, %d points, %s'
-                             % (shape, {1: 'rising', 2: 'convex'}[shape], count, segments))
+                             % (shape, NAMES[shape], count, segments))
             self.assertEqual(header.split(), ['#', 'area', 'value', 'slope', '#', 'point', 'm2',
                                               'factor', 'factor/m2'])
             table = [line.split() for line in lines]
@@ -231,6 +234,51 @@ class Commands(Case):
             self.assertEqual({len(line) for line in lines + [header]}, {len(header)})
             self.assertEqual({line.rindex('#') for line in lines + [header]},
                              {header.rindex('#')})
+
+
+class FallingAndConcave(Case):
+    """What the commands print for the new shapes; factors are worked out by hand."""
+
+    def assert_prints(self, text, *words, data=b''):
+        done = inside(*words, data=data)
+        self.assertEqual((done.status, done.out, done.err), (0, text, ''))
+
+    def test_check(self):
+        self.assert_prints('accepted: shape 3 (falling), 7 points, 6 segments\n',
+                           'check', DISCOUNT)
+        self.assert_prints('accepted: shape 4 (concave), 6 points, 5 segments\n',
+                           'check', FLATTENING)
+
+    def test_show(self):
+        shown = inside('show', DISCOUNT).out.splitlines()
+        self.assertEqual(shown[0], 'shape 3  # falling, 7 points, 6 segments')
+        self.assertEqual(shown[2:4],
+                         ['  1200   10000       0  #     0   120.0   1.0000    0.00000',
+                          '  1600    9800     -80  #     1   160.0   0.9800   -0.00080'])
+        shown = inside('show', FLATTENING).out.splitlines()
+        self.assertEqual(shown[0], 'shape 4  # concave, 6 points, 5 segments')
+        self.assertEqual(shown[-1],
+                         '  2000   13500      30  #     5   200.0   1.3500    0.00030')
+
+    def test_read(self):
+        # At 1400 it is 10000 - 200 * 5/18, at 3500 level; at 500 it is 9700 + 700 + 100.
+        self.assert_prints('1400 9944\n3500 8600\n', 'read', DISCOUNT, '1400', '3500')
+        self.assert_prints('500 10500\n', 'read', FLATTENING, '500')
+
+    def test_sheet(self):
+        for points, shape, factors in [
+                ([(0, 1, -2), (50, 0, -2)], 3, [1, 1, 0]),                  # 1/2 reads 1
+                ([(0, 1, -2), (50, 0, -2)], 4, [1, 1, 0]),
+                ([(0, 200000, 10000), (50, 200000, -10000)], 4, [200000, 201250, 200000])]:
+            lines = ['%d %d\n' % (25 * index, each) for index, each in enumerate(factors)]
+            self.assert_prints('shape %d points 2\n%s' % (shape, ''.join(lines)),
+                               'sheet', '-', data=curve_file(points, shape))
+
+    def test_refused(self):
+        rising = open_bytes(GOOD)
+        for code, number in [(0, 2), (3, 6), (4, 6), (5, 2), (255, 2)]:
+            self.assert_refused(inside('check', '-', data=rising[:5] + bytes([code]) + rising[6:]),
+                                number, 0)
 
 
 class Sheets(Case):
@@ -410,12 +458,22 @@ class Making(MakingCase):
                      + '600 14000 10000'):
             self.assert_made(text, data)
 
+    def test_falling_and_concave(self):
+        down = [(500, 14000, 0), (600, 10000, -10000)]
+        for text, first in [('shape %d\n500 14000 0\n600 10000 -10000\n', 2),
+                            ('shape,%d\narea,value,slope\n500,14000,0\n600,10000,-10000', 3)]:
+            for code in (3, 4):
+                self.assert_made(text % code, curve_file(down, code))
+            for code, number, line in [(1, 6, first), (2, 6, first), (5, 2, 1)]:
+                self.assert_refused(self.make(text % code), number, 0,
+                                    ' (%s, line %d)' % (self.text, line))
+
     def test_refused(self):
         """The refusal of the exact fractions, with the line of the point or of the shape."""
         rng = random.Random('refused texts')
         seen = set()
         for points, shape in curves.random_curves('refused texts', 150):
-            shape = rng.choice([shape, shape, 3 - shape, 0, 3, 258, 2**32 - 1])
+            shape = rng.choice([shape, shape, shape, 1, 2, 3, 4, 0, 5, 258, 2**32 - 1])
             points = rng.choice([curves.past_limit, curves.shapeless_points])(rng, points)
             lists = curves.lists(points)
             points = list(zip(*lists))
@@ -451,6 +509,7 @@ class Making(MakingCase):
 
     def test_shape_mistakes(self):
         before = 'no line `shape N` before the first point'
+        codes = ' (1 is rising, 2 is convex, 3 is falling, 4 is concave)'
         for text, line, column, message in [
                 ('', 1, 1, 'the text is empty'),
                 ('\ufeff', 1, 1, 'the text has no line `shape N`'),
@@ -465,10 +524,11 @@ class Making(MakingCase):
                  'a second shape; the first is in line 1'),
                 ('#\nshape;2\nshape;1', 3, 1, 'a second shape; the first is in line 2'),
                 ('shape 2 3', 1, 9, "a shape line has one number; this is a second one: '3'"),
-                ('shape rising', 1, 7, "the shape is not a whole number: 'rising'"
-                 ' (1 is rising, 2 is convex)'),
-                ('\ufeffshape\tConvex', 1, 7, "the shape is not a whole number: 'Convex'"
-                 ' (1 is rising, 2 is convex)'),
+                ('shape rising', 1, 7, "the shape is not a whole number: 'rising'" + codes),
+                ('\ufeffshape\tConvex', 1, 7, "the shape is not a whole number: 'Convex'" + codes),
+                ('shape;FALLING', 1, 7, "the shape is not a whole number: 'FALLING'" + codes),
+                ('shape concave', 1, 7, "the shape is not a whole number: 'concave'" + codes),
+                ('shape level', 1, 7, "the shape is not a whole number: 'level'"),
                 ('shape 2.0', 1, 7, "the shape is not a whole number: '2.0'"),
                 ('shape -2', 1, 7, "the shape must have no sign: '-2'"),
                 ('shape 4294967296', 1, 7, 'the shape must be from 0 to 4294967295:'
@@ -506,7 +566,7 @@ class Making(MakingCase):
         for text, line, column in [
                 ('1 1 1\n500 10000 # 1\n', 3, 10), ('1,1,1\n500,10000,\n', 3, 10),
                 ('area,value,slope\n1,1,1\n2;2;2\n\n5;"7" ;;', 6, 5)]:
-            for code in (2, 3):
+            for code in (2, 3, 4, 5):
                 self.assert_mistake('shape %d\n%s' % (code, text), line, column,
                                     'the slope is missing')
 
@@ -814,7 +874,7 @@ class MakingWithoutSlopes(MakingCase):
         missing = 'the slope is missing (%s)' % self.ONLY_RISING
         names = 'the names of the columns must be area, value, slope (%s)' % self.ONLY_RISING
         columns = 'the columns in line 1 are area and value, but ' + self.ONLY_RISING
-        for code in (2, 0, 3, 257, 2**32 - 1):
+        for code in (2, 0, 3, 4, 5, 257, 2**32 - 1):
             for text, line, column, message in [
                     ('shape %d\n500 10000\n600 14000', 2, 10, missing),
                     ('shape %d\n\n500,10000,\n', 3, 10, missing),
@@ -1168,7 +1228,7 @@ class Pictures(Case):
     def test_figure(self):
         from factor_curves import Curve, _plot
         named = []
-        for path in [GOOD] + TWO:
+        for path in [GOOD] + TWO + [DISCOUNT, FLATTENING]:
             curve = Curve.from_file(path)
             factors = [curve.read(area) for area in range(curve.first_area, curve.last_area + 1)]
             named.append((path, curve, factors))
@@ -1182,12 +1242,13 @@ class Pictures(Case):
                 for area in areas])
         points = sorted({(point.area, point.value) for _, curve, _ in named
                          for point in curve.points})
-        self.assertEqual(len(points), 6)
+        self.assertEqual(len(points), 2 + 4 + 7 + 6)
         self.assertEqual(list(zip(marks.get_xdata(), marks.get_ydata())),
                          [(area / 10, value / 10000) for area, value in points])
         self.assertEqual([text.get_text() for text in axes.get_legend().get_texts()],
                          ['convex (document-01)', 'rising (same-points-rising)',
-                          'convex (same-points-convex)', 'rated points'])
+                          'convex (same-points-convex)', 'falling (large-home-discount)',
+                          'concave (flattening)', 'rated points'])
         self.assertEqual((axes.get_xlabel(), axes.get_ylabel()),
                          ('floor area (m\u00b2)', 'factor'))
 

@@ -123,7 +123,7 @@ class Lists(unittest.TestCase):
         self.same(fc.sheet, ref.sheet, *curve, 0, 1, 1024)
         for count in (1025, 10**15):            # no list of that length is made
             self.assertEqual(answer(fc.sheet, *curve, 0, 1, count), ('refused', 8, 0))
-        curve[3] = 3                            # row 2 comes before row 8
+        curve[3] = 5                            # row 2 comes before row 8
         self.assertEqual(answer(fc.sheet, *curve, 0, 1, 10**15), ('refused', 2, 0))
 
     def test_faults(self):
@@ -138,7 +138,7 @@ class Lists(unittest.TestCase):
                 wrong[field][at] = number
                 self.same(fc.check, ref.check, *wrong)
                 self.same(fc.read, ref.read, *wrong, points[0][0])
-            for code in (0, 3 - shape, 3, 256 + shape, LARGEST):
+            for code in (*range(6), 256 + shape, LARGEST):
                 self.same(fc.check, ref.check, *curve[:3], code)
 
     def test_lengths(self):
@@ -302,7 +302,7 @@ class Writing(unittest.TestCase):
                     given = writing(*wrong, shape)
                     self.assertEqual(answer(fc.write, *wrong, shape), given)
                     seen.add(given[1] if given[0] == 'refused' else 0)
-            for code in (0, 3, 256 + shape, LARGEST):
+            for code in (0, 5, 256 + shape, LARGEST):
                 self.assertEqual(answer(fc.write, *lists(points), code), ('refused', 2, 0))
         self.assertEqual(seen, {0, 3, 4, 5, 6})
         for which in range(3):
@@ -327,7 +327,7 @@ class Writing(unittest.TestCase):
 
     def test_arguments_stay(self):
         columns = lists(STEEP)
-        for shape in (2, 3):
+        for shape in (2, 3, 5):
             answer(fc.write, *columns, shape)
             self.assertEqual(columns, lists(STEEP))
         curve = fc.Curve(STEEP, 2)
@@ -374,6 +374,101 @@ class Writing(unittest.TestCase):
         with multiprocessing.pool.ThreadPool(4) as pool:
             files = pool.map(fc.Curve.to_bytes, made)
         self.assertEqual(files, [curve_file(curve.points, curve.shape) for curve in made])
+
+
+def mirrored(points):
+    """The points with each value taken from 200,000 and the slopes' signs changed."""
+    return [(area, 200000 - value, -slope) for area, value, slope in points]
+
+
+class FallingAndConcave(unittest.TestCase):
+    """Document 02, item 4: shapes 3 and 4 are shapes 1 and 2 of the mirrored points."""
+
+    # Points, shape, area and factor; the exact value, worked out by hand, beside it.
+    DOWN = [(500, 14000, 0), (600, 10000, -10000)]
+    HIGH = [(0, 200000, 10000), (2000, 200000, -10000)]
+    READINGS = [
+        (DOWN, 3, 550, 13111),                                      # 118000/9
+        (DOWN, 3, 525, 13771),                                      # 96400/7
+        (DOWN, 4, 550, 13200),
+        (DOWN, 4, 525, 13818),                                      # 152000/11
+        ([(0, 1, -50), (2, 0, -50)], 3, 1, 1),                      # 1/2
+        ([(0, 1, -50), (2, 0, -50)], 4, 1, 1),                      # 1/2
+        ([(0, 5, 0), (10, 5, 0)], 3, 7, 5),
+        ([(0, 200000, 300), (2, 200000, -300)], 4, 1, 200002),      # 400003/2
+        (HIGH, 4, 1000, 250000),
+        ([(1200, 10000, 0), (2000, 9000, -100)], 3, 1600, 9643),    # 67500/7
+    ]
+    SHAPELESS = [
+        (STEEP, 3), (STEEP, 4), (DOWN, 1), (DOWN, 2), ([(0, 5, 0), (10, 5, -1)], 3),
+        ([(0, 5, 0), (10, 4, 1)], 3), ([(0, 5, 1), (10, 4, 0)], 3),
+        ([(0, 100, -100), (100, 0, -200)], 4), ([(0, 100, 0), (100, 0, -100)], 4),
+        ([(0, 200000, -10000), (2000, 200000, 10000)], 4), ([(0, 7, -1), (10, 7, 1)], 4),
+    ]
+
+    def test_readings(self):
+        for points, shape, area, factor in self.READINGS:
+            curve, data = fc.Curve(points, shape), curve_file(points, shape)
+            self.assertEqual(fc.check(*lists(points), shape), 1)
+            self.assertEqual(fc.read(*lists(points), shape, area), factor)
+            self.assertEqual(curve.read(area), factor)
+            self.assertEqual(curve.sheet(area, 1, 1), [factor])
+            self.assertEqual(curve.pair(area, area), (factor, factor, 0))
+            self.assertEqual(fc.desk_reading(data, area), factor)
+            self.assertEqual([curve.read(point[0]) for point in points],
+                             [point[1] for point in points])
+
+    def test_files(self):
+        for points, shape, _, _ in self.READINGS:
+            curve, data = fc.Curve(points, shape), curve_file(points, shape)
+            self.assertEqual(curve.shape, shape)
+            self.assertEqual(curve.to_bytes(), data)
+            self.assertEqual(fc.Curve.from_bytes(data), curve)
+            self.assertEqual(fc.open_bytes(data), fc.Lists(*map(tuple, lists(points)), shape))
+
+    def test_refused(self):
+        for points, shape in self.SHAPELESS:
+            self.assertEqual(answer(fc.Curve, points, shape), ('refused', 6, 0), (points, shape))
+            self.assertEqual(answer(fc.open_bytes, curve_file(points, shape)), ('refused', 6, 0))
+        for code in (0, 5, 6, 255, 259, LARGEST):
+            self.assertEqual(answer(fc.Curve, self.DOWN, code), ('refused', 2, 0))
+        for code in (0, 5, 255):
+            self.assertEqual(answer(fc.open_bytes, curve_file(self.DOWN, code)),
+                             ('refused', 2, 0))
+
+    def test_mirrored_curves(self):
+        """The exact value of the mirror, taken from 200,000 and then rounded."""
+        rng = random.Random('mirrored')
+        halves = 0
+        for index in range(200):
+            shape = 1 + index % 2
+            points = curves.some_curve(rng, shape)
+            curve = fc.Curve(mirrored(points), shape + 2)
+            self.assertEqual(curve.points, tuple(mirrored(points)))
+            for _ in range(8):
+                area = curves.inner_area(rng, points)
+                exact = 200000 - ref.exact_value(*lists(points), shape, area)
+                halves += Fraction(exact).denominator == 2
+                self.assertEqual(curve.read(area), ref.reading(exact))
+        self.assertGreater(halves, 0)
+
+    def test_shape_of_the_samples(self):
+        """Their factors never rise, or their steps grow by at most one unit."""
+        falling, concave = (fc.Curve.from_file(os.path.join(ROOT, 'samples', name + '.trf'))
+                            for name in ('large-home-discount', 'flattening'))
+        self.assertEqual((falling.shape, concave.shape), (fc.FALLING, fc.CONCAVE))
+        for curve in (falling, concave):
+            factors = [curve.read(area) for area in range(curve.first_area, curve.last_area + 1)]
+            if curve is falling:
+                self.assertEqual(factors, sorted(factors, reverse=True))
+                continue
+            for apart in (1, 7, 100):
+                for one, two, three in zip(factors, factors[apart:], factors[2 * apart:]):
+                    self.assertLessEqual(three - two, two - one + 1)
+
+    def test_slopes_are_filled_for_rising_curves_only(self):
+        self.assertEqual(answer(fc.fill_slopes, [0, 10, 20], [9, 5, 1]), ('refused', 6, 0))
+        self.assertEqual(answer(fc.Curve.rising, [0, 10, 20], [1, 5, 4]), ('refused', 6, 1))
 
 
 def filling(areas, values):
@@ -605,7 +700,7 @@ class TheCurve(unittest.TestCase):
 
     def test_refused(self):
         for points, shape, number, place in [
-                ([], 1, 1, 0), (STEEP[:1], 1, 1, 0), (STEEP, 3, 2, 0),
+                ([], 1, 1, 0), (STEEP[:1], 1, 1, 0), (STEEP, 0, 2, 0), (STEEP, 5, 2, 0),
                 (STEEP + [(600, 1, 1)], 1, 3, 2), ([(500, 200001, 0)] + STEEP[1:], 2, 4, 0),
                 (STEEP[:1] + [(600, 14000, 10001)], 2, 5, 1), (STEEP[::-1], 2, 3, 1),
                 ([(0, 0, 100), (100, 100, 200)], 2, 6, 0)]:
@@ -711,6 +806,14 @@ class Refusals(unittest.TestCase):
         for number in (-1, 13, 2**31 - 1, -2**31):
             self.assertEqual(fc.refusal_words(number), words[0])
 
+    def test_words_for_the_shape_code(self):
+        """They name every code; the README has the same."""
+        words = fc.refusal_words(fc.Refusal.SHAPE)
+        self.assertEqual(words, 'the shape code is none of 1 (rising), 2 (convex), 3 (falling),'
+                         ' 4 (concave)')
+        with open(os.path.join(ROOT, 'README.md'), encoding='utf-8') as file:
+            self.assertIn('\n| 2 | %s |\n' % words, file.read())
+
 
 class Package(unittest.TestCase):
 
@@ -720,8 +823,11 @@ class Package(unittest.TestCase):
 
     def test_constants_are_the_header_s(self):
         header = self.defines('factor_curves.h')
-        for name in ('RISING', 'CONVEX', 'POINTS_MAX', 'ENTRIES_MAX', 'FILE_MAX', 'COUNT_MAX'):
+        shapes = ('RISING', 'CONVEX', 'FALLING', 'CONCAVE')
+        for name in shapes + ('POINTS_MAX', 'ENTRIES_MAX', 'FILE_MAX', 'COUNT_MAX'):
             self.assertEqual(getattr(fc, name), int(header['CURVE_' + name]), name)
+        self.assertEqual([getattr(fc, name) for name in shapes], [1, 2, 3, 4])
+        self.assertEqual(fc.SHAPE_NAMES, {getattr(fc, name): name.lower() for name in shapes})
         numbers = {name[14:]: int(number) for name, number in header.items()
                    if name.startswith('CURVE_REFUSED_')}
         self.assertEqual({each.name: each.value for each in fc.Refusal}, numbers)

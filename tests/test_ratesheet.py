@@ -8,6 +8,7 @@ RATESHEET names the program; without it target/bin/ratesheet is tried. Expected 
 import fcntl
 import os
 import random
+import re
 import resource
 import signal
 import socket
@@ -70,6 +71,20 @@ class Sheets(unittest.TestCase):
     def test_empty_input(self):
         self.assertEqual(self.expect(b''), b'refused 9 at 0\n')
 
+    def test_falling_and_concave(self):
+        """The exact value at 25 is 1/2, and 200,000 + 1,250."""
+        falls, bends = [(0, 1, -2), (50, 0, -2)], [(0, 200000, 10000), (50, 200000, -10000)]
+        self.assertEqual(self.expect(curve_file(falls, 3)), b'shape 3 points 2\n0 1\n25 1\n50 0\n')
+        self.assertEqual(self.expect(curve_file(falls, 4)), b'shape 4 points 2\n0 1\n25 1\n50 0\n')
+        self.assertEqual(self.expect(curve_file(bends, 4)), b'shape 4 points 2\n0 200000\n25 201250\n50 200000\n')
+        self.assertEqual(self.expect(curve_file(bends, 3)), b'refused 6 at 0\n')
+
+    def test_shape_codes(self):
+        level = [(0, 5, 0), (25, 5, 0)]
+        for code in range(256):
+            self.assertEqual(self.expect(curve_file(level, code)),
+                             b'shape %d points 2\n0 5\n25 5\n' % code if 1 <= code <= 4 else b'refused 2 at 0\n')
+
     def test_801_lines(self):
         self.assertEqual(self.expect(LONGEST).count(b'\n'), 802)
 
@@ -91,8 +106,8 @@ class Sheets(unittest.TestCase):
 
     def test_random_files(self):
         rng = random.Random('sheets 2')
-        for index in range(60):
-            shape = 1 + index % 2
+        for index in range(120):
+            shape = 1 + index % 4
             self.expect(curve_file(curves.some_curve(rng, shape), shape))
 
     def test_input_in_small_pieces(self):
@@ -110,6 +125,19 @@ class Sheets(unittest.TestCase):
                     run(data=data, stdout=its)
                 self.assertEqual(ours.recv(1 << 20), sheet(data))
                 self.assertEqual(ours.recv(1 << 20), b'')
+
+
+class ManualPage(unittest.TestCase):
+    def test_examples(self):
+        """They print what the page says; `head` takes the first lines."""
+        page = read_file('man', 'ratesheet.1').decode('ascii').replace('\\-', '-')
+        examples = page.split('.SH EXAMPLES\n.nf\n')[1].split('.fi\n')[0]
+        found = re.findall(r'^\$ ratesheet < (\S+)(?: \| head -n (\d+))?\n((?:[^$].*\n)*)', examples, re.MULTILINE)
+        self.assertEqual(len(found), examples.count('$ '))
+        for path, lines, text in found:
+            printed = run(data=read_file(path)).stdout.decode('ascii').splitlines(True)
+            self.assertEqual(''.join(printed[:int(lines)] if lines else printed), text, path)
+        self.assertEqual(len(found), 4)
 
 
 class Arguments(unittest.TestCase):

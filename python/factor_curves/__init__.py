@@ -1,6 +1,6 @@
 """Price factors between a tariff's rated points, by the proved library libfactor_curves.
 
-    >>> from factor_curves import CONVEX, Curve
+    >>> from factor_curves import CONVEX, FALLING, Curve
     >>> curve = Curve([(500, 10000, 0), (600, 14000, 10000)], CONVEX)
     >>> curve.read(550)
     10800
@@ -16,6 +16,11 @@ ten-thousandth: 10800 is the factor 1.08. What the library does not accept is ra
     Traceback (most recent call last):
     ...
     factor_curves.Refused: refused 7 at 0: an area is outside the curve
+
+The shape is RISING, CONVEX, FALLING or CONCAVE:
+
+    >>> Curve([(1200, 10000, 0), (2000, 9000, -100)], FALLING).read(1600)
+    9643
 
 The slopes of a rising curve can be filled by the harmonic rule:
 
@@ -33,8 +38,8 @@ importing the package does not need it. `python3 -m factor_curves --help` says w
 line offers.
 """
 
-from ._calls import (CONVEX, COUNT_MAX, ENTRIES_MAX, FILE_MAX, POINTS_MAX, RISING,
-                     SCRATCH_ENOUGH, SHAPE_NAMES, Lists, Pair, Refusal, Refused, check,
+from ._calls import (CONCAVE, CONVEX, COUNT_MAX, ENTRIES_MAX, FALLING, FILE_MAX, POINTS_MAX,
+                     RISING, SCRATCH_ENOUGH, SHAPE_NAMES, Lists, Pair, Refusal, Refused, check,
                      desk_reading, fill_slopes, open_bytes, pair, read, refusal_words, sheet,
                      write)
 from ._curve import Curve, Point
@@ -43,10 +48,10 @@ from ._library import LibraryNotFound
 __version__ = "0.3.0"
 
 __all__ = [
-    'CONVEX', 'COUNT_MAX', 'ENTRIES_MAX', 'FILE_MAX', 'POINTS_MAX', 'RISING', 'SCRATCH_ENOUGH',
-    'SHAPE_NAMES', 'Curve', 'LibraryNotFound', 'Lists', 'Pair', 'Point', 'Refusal', 'Refused',
-    'check', 'desk_reading', 'fill_slopes', 'open_bytes', 'pair', 'read', 'refusal_words',
-    'sheet', 'write',
+    'CONCAVE', 'CONVEX', 'COUNT_MAX', 'ENTRIES_MAX', 'FALLING', 'FILE_MAX', 'POINTS_MAX',
+    'RISING', 'SCRATCH_ENOUGH', 'SHAPE_NAMES', 'Curve', 'LibraryNotFound', 'Lists', 'Pair',
+    'Point', 'Refusal', 'Refused', 'check', 'desk_reading', 'fill_slopes', 'open_bytes', 'pair',
+    'read', 'refusal_words', 'sheet', 'write',
 ]
 
 for _name in ('Curve', 'LibraryNotFound', 'Lists', 'Pair', 'Point', 'Refusal', 'Refused'):

@@ -28,14 +28,14 @@ examples:
   factor-curves show - < samples/rising.trf
   factor-curves make samples/rising.csv -o rising.trf
   factor-curves make samples/without-slopes.txt -o filled.trf
-  factor-curves plot samples/rising.trf samples/dips-below-zero.trf -o curves.svg
+  factor-curves plot samples/flattening.trf samples/large-home-discount.trf -o curves.svg
 
 exit status: 0 done; 1 the curve, an area or the sheet is refused; 2 wrong usage, a mistake in a
 text, or a file or the library that cannot be read; 3 output that cannot be written
 '''
 TEXT_FORMAT = '''
-The text has a line `shape N` (1 is rising, 2 convex), then a line with area, value and slope for
-each point, in whole numbers:
+The text has a line `shape N` (1 is rising, 2 convex, 3 falling, 4 concave), then a line with area,
+value and slope for each point, in whole numbers:
 
   # two points
   shape 2

@@ -14,7 +14,9 @@ from ._library import library
 
 RISING = 1              #: shape code of a rising curve
 CONVEX = 2              #: shape code of a convex curve
-SHAPE_NAMES = {RISING: 'rising', CONVEX: 'convex'}
+FALLING = 3             #: shape code of a falling curve
+CONCAVE = 4             #: shape code of a concave curve
+SHAPE_NAMES = {RISING: 'rising', CONVEX: 'convex', FALLING: 'falling', CONCAVE: 'concave'}
 
 POINTS_MAX = 64         #: points of an accepted curve
 ENTRIES_MAX = 1024      #: entries of a sheet
@@ -36,7 +38,7 @@ class Refusal(enum.IntEnum):
     LENGTH = 10         #: the file's length is not 7 + 12 * count
     ROOM = 11           #: a lent list, or the scratch, is too short
     COUNT = 1           #: list lengths differ, or not 2 to 64 points
-    SHAPE = 2           #: the shape code is neither 1 nor 2
+    SHAPE = 2           #: the shape code is outside 1 to 4
     AREA = 3            #: a point's area; the place is the point
     VALUE = 4           #: a point's value; the place is the point
     SLOPE = 5           #: a point's slope; the place is the point; fill_slopes: after 6

@@ -44,8 +44,9 @@ def _columns(points: Iterable[Iterable[int]]) -> Tuple[List[int], List[int], Lis
 class Curve:
     """A curve through rated points; always one that the library accepts, and never changed.
 
-    Curve(points, shape) takes points as (area, value, slope), and RISING or CONVEX. A curve
-    that is not accepted is Refused. Two curves are equal if their points and shapes are.
+    Curve(points, shape) takes points as (area, value, slope), and RISING, CONVEX, FALLING or
+    CONCAVE. A curve that is not accepted is Refused. Two curves are equal if their points and
+    shapes are.
     """
 
     __slots__ = ('_points', '_shape', '_arguments')
@@ -103,7 +104,7 @@ class Curve:
 
     @property
     def shape(self) -> int:
-        """The shape code, RISING or CONVEX."""
+        """The shape code: RISING, CONVEX, FALLING or CONCAVE."""
         return self._shape
 
     @property
@@ -132,7 +133,10 @@ class Curve:
         return self._points[-1].area
 
     def read(self, area: int) -> int:
-        """The factor at an area, in units of one ten-thousandth."""
+        """The factor at an area, in units of one ten-thousandth.
+
+        Only a convex curve goes below 0, only a concave one above 200,000.
+        """
         return _calls.read_at(self._arguments, area)
 
     def pair(self, form: int, plan: int) -> Pair:

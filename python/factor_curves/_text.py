@@ -12,7 +12,7 @@ import codecs
 import re
 from typing import List, NamedTuple, Optional
 
-from ._calls import RISING, Lists
+from ._calls import RISING, SHAPE_NAMES, Lists
 
 NAMES = ['area', 'value', 'slope']
 NAMES_WITHOUT_SLOPE = NAMES[:2]
@@ -38,7 +38,8 @@ _HINTS = [
     (re.compile("[+-]?[0-9]{1,3}(?:[.,'_\u00a0\u2009\u2019\u202f][0-9]{3})+"),
      'digits only, without thousands separators'),
     (re.compile('[\u2010-\u2015\u2212][0-9]+'), 'the minus sign is -'),
-    (re.compile('rising|convex', re.IGNORECASE), '1 is rising, 2 is convex'),
+    (re.compile('|'.join(SHAPE_NAMES.values()), re.IGNORECASE),
+     ', '.join('%d is %s' % each for each in SHAPE_NAMES.items())),
 ]
 
 
