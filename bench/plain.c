@@ -6,6 +6,8 @@
 
 #include <string.h>
 
+enum { RISING = 1, CONVEX, FALLING, CONCAVE };
+
 typedef struct {
     uint32_t area;
     uint32_t value;
@@ -59,18 +61,23 @@ static inline int point_fault(point p, uint32_t before, int first)
     return 0;
 }
 
-/* For points within the limits, where 32 bits hold every product. */
+/*
+ * For points within the limits, where 32 bits hold every product. Falling and
+ * concave are rising and convex with every sign changed.
+ */
 static inline int has_shape(point l, point r, uint32_t shape)
 {
+    int32_t sign = shape <= CONVEX ? 1 : -1;
     int32_t h = (int32_t)(r.area - l.area);
-    int32_t rise = (int32_t)(r.value - l.value);
-    if (shape == 1) {
+    int32_t rise = sign * (int32_t)(r.value - l.value);
+    int32_t d0 = sign * l.slope, d1 = sign * r.slope;
+    if (shape == RISING || shape == FALLING) {
         if (rise > 0)
-            return (l.slope | r.slope) >= 0;
-        return rise == 0 && (l.slope | r.slope) == 0;
+            return (d0 | d1) >= 0;
+        return rise == 0 && (d0 | d1) == 0;
     }
-    int32_t b = 100 * rise - h * l.slope;
-    int32_t a = h * r.slope - 100 * rise;
+    int32_t b = 100 * rise - h * d0;
+    int32_t a = h * d1 - 100 * rise;
     return (a > 0 && b > 0) || (a == 0 && b == 0);
 }
 
@@ -95,6 +102,13 @@ static inline int32_t rising(point l, point r, int64_t t, int64_t u)
     return (int32_t)(l.value + (int64_t)(n / (uint64_t)(2 * den)));
 }
 
+/* Rising, seen from the right end. */
+static inline int32_t falling(point l, point r, int64_t t, int64_t u)
+{
+    point first = {0, r.value, -r.slope}, last = {0, l.value, -l.slope};
+    return rising(first, last, u, t);
+}
+
 /* The left tangent plus (b t)^2 / w, rounded once. */
 static inline int32_t convex(point l, point r, int64_t t, int64_t u)
 {
@@ -111,12 +125,34 @@ static inline int32_t convex(point l, point r, int64_t t, int64_t u)
     return (int32_t)floor_div(n, 2 * scale);
 }
 
+/* The chord plus its distance from the curve, rounded once. */
+static inline int32_t concave(point l, point r, int64_t t, int64_t u)
+{
+    int64_t h = t + u;
+    int64_t g = 100 * ((int64_t)r.value - l.value);
+    uint64_t au = (uint64_t)((g - h * r.slope) * u);
+    uint64_t bt = (uint64_t)((h * l.slope - g) * t);
+    uint64_t n = (uint64_t)(200 * (l.value * u + r.value * t) + 100 * h);
+    if (au + bt != 0)
+        n += (uint64_t)((unsigned __int128)au * (2 * bt) / (au + bt));
+    return (int32_t)(n / (uint64_t)(200 * h));
+}
+
 static inline int32_t segment_factor(point l, point r, uint32_t shape,
                                      uint32_t area)
 {
     int64_t t = (int64_t)area - l.area;
     int64_t u = (int64_t)r.area - area;
-    return shape == 1 ? rising(l, r, t, u) : convex(l, r, t, u);
+    switch (shape) {
+    case RISING:
+        return rising(l, r, t, u);
+    case CONVEX:
+        return convex(l, r, t, u);
+    case FALLING:
+        return falling(l, r, t, u);
+    default:
+        return concave(l, r, t, u);
+    }
 }
 
 /* ---- points in a file ---- */
@@ -156,12 +192,20 @@ static inline int64_t head_fault(const uint8_t *bytes, size_t bytes_len)
 static inline int64_t file_fault(const uint8_t *bytes)
 {
     size_t count = bytes[6];
-    uint32_t shape = bytes[5];
     if (count < 2 || count > 64)
         return refused(1, 0);
-    if (shape != 1 && shape != 2)
+    switch (bytes[5]) {
+    case RISING:
+        return scan(bytes + 7, count, RISING);
+    case CONVEX:
+        return scan(bytes + 7, count, CONVEX);
+    case FALLING:
+        return scan(bytes + 7, count, FALLING);
+    case CONCAVE:
+        return scan(bytes + 7, count, CONCAVE);
+    default:
         return refused(2, 0);
-    return shape == 1 ? scan(bytes + 7, count, 1) : scan(bytes + 7, count, 2);
+    }
 }
 
 /* The last segment whose left area is not above the area. */
@@ -265,9 +309,18 @@ static inline int64_t lists_fault(lists c, size_t values_len,
         return refused(1, 0);
     if (c.count < 2 || c.count > 64)
         return refused(1, 0);
-    if (shape != 1 && shape != 2)
+    switch (shape) {
+    case RISING:
+        return scan_lists(c, RISING);
+    case CONVEX:
+        return scan_lists(c, CONVEX);
+    case FALLING:
+        return scan_lists(c, FALLING);
+    case CONCAVE:
+        return scan_lists(c, CONCAVE);
+    default:
         return refused(2, 0);
-    return shape == 1 ? scan_lists(c, 1) : scan_lists(c, 2);
+    }
 }
 
 static inline int outside(lists c, uint32_t area)
@@ -352,8 +405,19 @@ static inline void fill_sheet(lists c, uint32_t shape, uint32_t start,
     for (size_t k = 0; k + 1 < c.count && i < m; k++) {
         point l = point_at(c, k), r = point_at(c, k + 1);
         uint64_t end = k + 2 < c.count ? r.area : (uint64_t)r.area + 1;
-        i = shape == 1 ? fill(l, r, 1, end, start, step, out, i, m)
-                       : fill(l, r, 2, end, start, step, out, i, m);
+        switch (shape) {
+        case RISING:
+            i = fill(l, r, RISING, end, start, step, out, i, m);
+            break;
+        case CONVEX:
+            i = fill(l, r, CONVEX, end, start, step, out, i, m);
+            break;
+        case FALLING:
+            i = fill(l, r, FALLING, end, start, step, out, i, m);
+            break;
+        default:
+            i = fill(l, r, CONCAVE, end, start, step, out, i, m);
+        }
     }
 }
 
