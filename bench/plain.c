@@ -1,5 +1,5 @@
 /*
- * The calls in plain C, with __int128 for the one product that 64 bits cannot
+ * The calls in plain C, with __int128 for the products that 64 bits cannot
  * hold. Same checks, same order of refusals, same answers.
  */
 #include "plain.h"
@@ -63,22 +63,22 @@ static inline int point_fault(point p, uint32_t before, int first)
 
 /*
  * For points within the limits, where 32 bits hold every product. Falling and
- * concave are rising and convex with every sign changed.
+ * concave are rising and convex with the signs changed.
  */
 static inline int has_shape(point l, point r, uint32_t shape)
 {
     int32_t sign = shape <= CONVEX ? 1 : -1;
     int32_t h = (int32_t)(r.area - l.area);
-    int32_t rise = sign * (int32_t)(r.value - l.value);
-    int32_t d0 = sign * l.slope, d1 = sign * r.slope;
+    int32_t rise = (int32_t)(r.value - l.value);
     if (shape == RISING || shape == FALLING) {
-        if (rise > 0)
+        int32_t d0 = sign * l.slope, d1 = sign * r.slope;
+        if (sign * rise > 0)
             return (d0 | d1) >= 0;
         return rise == 0 && (d0 | d1) == 0;
     }
-    int32_t b = 100 * rise - h * d0;
-    int32_t a = h * d1 - 100 * rise;
-    return (a > 0 && b > 0) || (a == 0 && b == 0);
+    int32_t b = 100 * rise - h * l.slope;
+    int32_t a = h * r.slope - 100 * rise;
+    return (sign * a > 0 && sign * b > 0) || (a == 0 && b == 0);
 }
 
 /* The greatest whole number not above n / d, for d above 0. */
@@ -125,17 +125,18 @@ static inline int32_t convex(point l, point r, int64_t t, int64_t u)
     return (int32_t)floor_div(n, 2 * scale);
 }
 
-/* The chord plus its distance from the curve, rounded once. */
+/* The chord plus au bt / (100 h w), rounded once; w is 1 on a straight line. */
 static inline int32_t concave(point l, point r, int64_t t, int64_t u)
 {
     int64_t h = t + u;
     int64_t g = 100 * ((int64_t)r.value - l.value);
     uint64_t au = (uint64_t)((g - h * r.slope) * u);
     uint64_t bt = (uint64_t)((h * l.slope - g) * t);
-    uint64_t n = (uint64_t)(200 * (l.value * u + r.value * t) + 100 * h);
-    if (au + bt != 0)
-        n += (uint64_t)((unsigned __int128)au * (2 * bt) / (au + bt));
-    return (int32_t)(n / (uint64_t)(200 * h));
+    uint64_t w = au + bt + (au + bt == 0);
+    uint64_t line = (uint64_t)(200 * (l.value * u + r.value * t) + 100 * h);
+    unsigned __int128 n = (unsigned __int128)line * w +
+                          (unsigned __int128)au * (2 * bt);
+    return (int32_t)(n / ((uint64_t)(200 * h) * w));
 }
 
 static inline int32_t segment_factor(point l, point r, uint32_t shape,
@@ -143,16 +144,13 @@ static inline int32_t segment_factor(point l, point r, uint32_t shape,
 {
     int64_t t = (int64_t)area - l.area;
     int64_t u = (int64_t)r.area - area;
-    switch (shape) {
-    case RISING:
+    if (shape == RISING)
         return rising(l, r, t, u);
-    case CONVEX:
+    if (shape == CONVEX)
         return convex(l, r, t, u);
-    case FALLING:
+    if (shape == FALLING)
         return falling(l, r, t, u);
-    default:
-        return concave(l, r, t, u);
-    }
+    return concave(l, r, t, u);
 }
 
 /* ---- points in a file ---- */
@@ -192,20 +190,18 @@ static inline int64_t head_fault(const uint8_t *bytes, size_t bytes_len)
 static inline int64_t file_fault(const uint8_t *bytes)
 {
     size_t count = bytes[6];
+    uint32_t shape = bytes[5];
     if (count < 2 || count > 64)
         return refused(1, 0);
-    switch (bytes[5]) {
-    case RISING:
+    if (shape == RISING)
         return scan(bytes + 7, count, RISING);
-    case CONVEX:
+    if (shape == CONVEX)
         return scan(bytes + 7, count, CONVEX);
-    case FALLING:
+    if (shape == FALLING)
         return scan(bytes + 7, count, FALLING);
-    case CONCAVE:
+    if (shape == CONCAVE)
         return scan(bytes + 7, count, CONCAVE);
-    default:
-        return refused(2, 0);
-    }
+    return refused(2, 0);
 }
 
 /* The last segment whose left area is not above the area. */
@@ -309,18 +305,15 @@ static inline int64_t lists_fault(lists c, size_t values_len,
         return refused(1, 0);
     if (c.count < 2 || c.count > 64)
         return refused(1, 0);
-    switch (shape) {
-    case RISING:
+    if (shape == RISING)
         return scan_lists(c, RISING);
-    case CONVEX:
+    if (shape == CONVEX)
         return scan_lists(c, CONVEX);
-    case FALLING:
+    if (shape == FALLING)
         return scan_lists(c, FALLING);
-    case CONCAVE:
+    if (shape == CONCAVE)
         return scan_lists(c, CONCAVE);
-    default:
-        return refused(2, 0);
-    }
+    return refused(2, 0);
 }
 
 static inline int outside(lists c, uint32_t area)
@@ -405,19 +398,14 @@ static inline void fill_sheet(lists c, uint32_t shape, uint32_t start,
     for (size_t k = 0; k + 1 < c.count && i < m; k++) {
         point l = point_at(c, k), r = point_at(c, k + 1);
         uint64_t end = k + 2 < c.count ? r.area : (uint64_t)r.area + 1;
-        switch (shape) {
-        case RISING:
+        if (shape == RISING)
             i = fill(l, r, RISING, end, start, step, out, i, m);
-            break;
-        case CONVEX:
+        else if (shape == CONVEX)
             i = fill(l, r, CONVEX, end, start, step, out, i, m);
-            break;
-        case FALLING:
+        else if (shape == FALLING)
             i = fill(l, r, FALLING, end, start, step, out, i, m);
-            break;
-        default:
+        else
             i = fill(l, r, CONCAVE, end, start, step, out, i, m);
-        }
     }
 }
 
@@ -505,16 +493,16 @@ static inline uint64_t end_slope(chord own, chord other)
 static inline int64_t rising_fault(const uint32_t *areas,
                                    const uint32_t *values, size_t count)
 {
-    size_t falling = count;
+    size_t fall = count;
     for (size_t i = 0; i < count; i++) {
         point p = {areas[i], values[i], 0};
         int fault = point_fault(p, i == 0 ? 0 : areas[i - 1], i == 0);
         if (fault)
             return refused(fault, i);
-        if (i > 0 && values[i] < values[i - 1] && falling == count)
-            falling = i - 1;
+        if (i > 0 && values[i] < values[i - 1] && fall == count)
+            fall = i - 1;
     }
-    return falling < count ? refused(6, falling) : 0;
+    return fall < count ? refused(6, fall) : 0;
 }
 
 int64_t plain_curve_fill_slopes(const uint32_t *areas, size_t areas_len,
