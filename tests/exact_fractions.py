@@ -93,6 +93,7 @@ def segment_read(areas, area):
     return found
 
 
+@remembered
 def exact_value(areas, values, slopes, shape, area):
     """The exact value, a Fraction.
 
@@ -110,7 +111,6 @@ def reading(v):
     return math.floor(v + Fraction(1, 2))
 
 
-@remembered
 def factor(areas, values, slopes, shape, area):
     """The reading of the exact value; only where there is one."""
     return reading(exact_value(areas, values, slopes, shape, area))
