@@ -1,8 +1,6 @@
 """Wrong versions of bench/plain.c: the first text, which occurs there once,
 becomes the second. Those of the shapes are in wrong_shapes.py."""
 
-import wrong_shapes
-
 CHECKED = '''\
     int64_t fault = lists_fault(c, values_len, slopes_len, shape);
 '''
@@ -630,11 +628,6 @@ after.rise > 100 * after.gap ? 10001 : 100 * after.rise /''')),
 # For the comparison.
 COMPARED = [
     ('of points and segments', POINTS),
-    ('of the tests of shapes', wrong_shapes.TESTS),
-    ('of the curves of shapes', wrong_shapes.CURVES),
-    ('of the shapes in one call', wrong_shapes.ONE_CALL),
-    ('of shape codes', wrong_shapes.CODES),
-    ('of shapes in files', wrong_shapes.STORED),
     ('of curve files', FILES),
     ('of desk_reading', DESK),
     ('of curve_check', CHECK),

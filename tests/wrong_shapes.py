@@ -1,6 +1,8 @@
 """Wrong versions of bench/plain.c as wrong_edits.py has them: of the shapes'
 tests, curves and codes, those of falling and concave most of all."""
 
+from wrong_edits import CHECKED, REFUSED_FAULT
+
 # ---- when a segment has its shape ----
 
 SIGN = 'shape <= CONVEX ? 1 : -1'
@@ -54,7 +56,8 @@ TESTS = [
                     '(sign * b > 0)', '(a > 0) == (b > 0) && a && b')],
     # straight lines: refused, or by one side alone
     *[(STRAIGHT, only(shape, wrong, STRAIGHT))
-      for shape in ('CONVEX', 'CONCAVE') for wrong in ('0', 'a == 0', 'b == 0')],
+      for shape in ('CONVEX', 'CONCAVE')
+      for wrong in ('0', 'a == 0', 'b == 0')],
 ]
 
 # ---- the curve and its rounding ----
@@ -226,12 +229,14 @@ def codes(scan, end):
     yield last, last.replace('CONCAVE)\n', 'CONCAVE || shape == 255)\n')
     yield first + scan % 'RISING', (first.replace('==', '<=')
                                     + scan % 'RISING')
-    # 5 is the first code that is refused; by another number, after row 3
+    # row 2: another number, another place, after rows 3 to 5
     yield end, end.replace('(2, 0)', '(6, 0)')
     yield end, end.replace('(2, 0)', '(2, 1)')
-    after = scan.replace(');', ')') % 'RISING'
-    yield end, end.replace('refused(2, 0)', '-(%s) >> 32 > 0 && -(%s) >> 32 < 6'
-                           ' ?\n        %s : refused(2, 0)' % ((after,) * 3))
+    yield end, end.replace('    return', '''\
+    int64_t fault = %s
+    if (fault && -fault >> 32 < 6)
+        return fault;
+    return''' % (scan % 'RISING'))
 
 
 CODES = [
@@ -250,6 +255,34 @@ CODES = [
      '    shape = (int32_t)shape < 0 ? -shape : shape;\n'
      + TRIED % 'RISING' + IN_LISTS % 'RISING'),
 ]
+
+# What follows where a call tries rows 1 to 6.
+LIST_CALLS = ['    return fault ?',                            # check
+              *[REFUSED_FAULT + text for text in (
+                  '    if (outside(c, area))',                 # read
+                  '    if (outside(c, form))',                 # pair
+                  '    if (step == 0',                         # sheet
+                  '    size_t length')]]                       # write
+FILE_FAULT = '    fault = file_fault(bytes);\n    if (fault)\n        return '
+FILE_CALLS = [FILE_FAULT + 'desk_refused', FILE_FAULT + 'fault;']
+
+
+def codes_of_one_call():
+    """5 accepted, 3 or 4 refused, 3 tested as 1, 4 as 2, 3 and 4 exchanged."""
+    for after in LIST_CALLS:
+        for code in ('shape == 5 ? 4 : shape', 'shape == 3 ? 5 : shape',
+                     'shape == 4 ? 5 : shape', 'shape == 3 ? 1 : shape',
+                     'shape == 4 ? 2 : shape',
+                     'shape == 3 || shape == 4 ? 7 - shape : shape'):
+            yield CHECKED + after, CHECKED.replace(' shape', ' ' + code) + after
+    for text in FILE_CALLS:
+        for fault in ('bytes[5] == 5 ? 0 : ', 'bytes[5] == 3 ? refused(2, 0) : ',
+                      'bytes[5] == 4 ? refused(2, 0) : ',
+                      'bytes[5] == 3 ? scan(bytes + 7, count, 1) : ',
+                      'bytes[5] == 4 ? scan(bytes + 7, count, 2) : ',
+                      'bytes[5] == 3 ? scan(bytes + 7, count, 4) : '):
+            yield text, text.replace('file_fault', fault + 'file_fault')
+
 
 # ---- what is written and opened ----
 
@@ -273,4 +306,13 @@ STORED = [
      'values[i] = bytes[5] > 2 ? 200000 - p.value : p.value;'),
     ('slopes[i] = p.slope;',
      'slopes[i] = bytes[5] > 2 ? -p.slope : p.slope;'),
+]
+
+COMPARED = [
+    ('of the tests of shapes', TESTS),
+    ('of the curves of shapes', CURVES),
+    ('of the factors of one call', ONE_CALL),
+    ('of shape codes', CODES),
+    ('of the shape codes of one call', list(codes_of_one_call())),
+    ('of shapes in files', STORED),
 ]
