@@ -290,7 +290,6 @@ def wanted_of_codes(call):
     """Codes that row 2 must have refused."""
     codes = [0, 5, 255]
     if call not in ('desk', 'open'):
-        codes += [2**32 - 1]
         for shape in SHAPES:
             codes += list_kinds.far_codes(shape)
     for code in codes:

@@ -62,7 +62,7 @@ def hills(rng):
     yield from readings(rng, points, 4, 5)
 
 
-def upright_half_curve(rng):
+def half_curve(rng):
     """A short curve likely to have exact halves (and quarters)."""
     gap = 2 * rng.choice([1, 1, 2, 2, 4, 5, 10, 50, 100, 500])
     value = rng.randint(0, 20)
@@ -75,14 +75,14 @@ def upright_half_curve(rng):
     spread = rng.choice([0, 25, 50, 100, 300, 1500]) * rng.randint(1, 4)
     low = max(0, -rise)
     if rest or abs(middle) + spread > curves.SLOPE_MAX:
-        return upright_half_curve(rng)
+        return half_curve(rng)
     return [(0, low, middle - spread),
             (gap, low + rise, middle + spread)], curves.CONVEX
 
 
-def half_curve(rng):
+def any_half_curve(rng):
     """One of these, or its mirror, low or high."""
-    points, shape = upright_half_curve(rng)
+    points, shape = half_curve(rng)
     if rng.random() < 0.5:
         return points, shape
     top = max(value for _, value, _ in points)
@@ -92,7 +92,7 @@ def half_curve(rng):
 
 def halves(rng):
     """Areas whose exact value is a whole number and a half."""
-    points, shape = half_curve(rng)
+    points, shape = any_half_curve(rng)
     data = curve_file(points, shape)
     middle = points[1][0] // 2
     for area in {1, middle, middle // 2, middle + middle // 2}:
@@ -103,7 +103,7 @@ def halves(rng):
 
 def beside_halves(rng):
     """Exact values within a hundredth of a half, but not on it."""
-    points, shape = half_curve(rng)
+    points, shape = any_half_curve(rng)
     at = rng.randrange(2)
     slope = points[at][2] + rng.choice([-1, 1])
     if shape == curves.RISING:

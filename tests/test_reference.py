@@ -143,38 +143,38 @@ def test_rounding_and_exact_values():
 
 # Document 02, item 4: the points of K1 to K10 with 200,000 less the value
 # and the slopes' signs changed.
-BELOW_STEEP = [(500, 190000, 0), (600, 186000, -10000)]
-BELOW_K5 = [(500, 190000, -2000), (600, 186000, -6000)]
-ABOVE_K6 = [(0, 200000, -50), (2, 199999, -50)]
-ABOVE_K7 = [(0, 200000, 300), (2, 200000, -300)]
-ABOVE_K8 = [(0, 200000, 0), (2, 199999, -100)]
-ABOVE_K9 = [(0, 200000, -100), (100, 199900, -200)]
-BELOW_K10 = [(0, 199995, 0), (10, 199995, -1)]
+MIRROR_STEEP = [(500, 190000, 0), (600, 186000, -10000)]
+MIRROR_K5 = [(500, 190000, -2000), (600, 186000, -6000)]
+MIRROR_K6 = [(0, 200000, -50), (2, 199999, -50)]
+MIRROR_K7 = [(0, 200000, 300), (2, 200000, -300)]
+MIRROR_K8 = [(0, 200000, 0), (2, 199999, -100)]
+MIRROR_K9 = [(0, 200000, -100), (100, 199900, -200)]
+MIRROR_K10 = [(0, 199995, 0), (10, 199995, -1)]
 
 
 def test_mirrored_readings():
     """Item 4: K1 to K10 as shapes 3 and 4. Of K6 and K7 the exact values are
     199,999.5 and 200,001.5, so that both go up; no other is a half."""
-    expect('K1', read(BELOW_STEEP, 3, 550), ('ok', 200000 - 10889))
-    expect('K2', read(BELOW_STEEP, 3, 525), ('ok', 200000 - 10229))
-    expect('K3', read(BELOW_STEEP, 4, 550), ('ok', 200000 - 10800))
-    expect('K4', read(BELOW_STEEP, 4, 525), ('ok', 200000 - 10182))
-    expect('K5', read(BELOW_K5, 3, 501), ('ok', 200000 - 10020))
-    expect('K6', read(ABOVE_K6, 4, 1), ('ok', 200000))
-    expect('K7', read(ABOVE_K7, 4, 1), ('ok', 200002))
-    expect('K8', read(ABOVE_K8, 4, 1), ('ok', 200000))
-    expect('K9', read(ABOVE_K9, 4, 1), refused(6, 0))
-    expect('K9 check', check(ABOVE_K9, 4), refused(6, 0))
-    expect('K10', read(BELOW_K10, 3, 1), refused(6, 0))
-    expect('K10 check', check(BELOW_K10, 3), refused(6, 0))
+    expect('K1', read(MIRROR_STEEP, 3, 550), ('ok', 200000 - 10889))
+    expect('K2', read(MIRROR_STEEP, 3, 525), ('ok', 200000 - 10229))
+    expect('K3', read(MIRROR_STEEP, 4, 550), ('ok', 200000 - 10800))
+    expect('K4', read(MIRROR_STEEP, 4, 525), ('ok', 200000 - 10182))
+    expect('K5', read(MIRROR_K5, 3, 501), ('ok', 200000 - 10020))
+    expect('K6', read(MIRROR_K6, 4, 1), ('ok', 200000))
+    expect('K7', read(MIRROR_K7, 4, 1), ('ok', 200002))
+    expect('K8', read(MIRROR_K8, 4, 1), ('ok', 200000))
+    expect('K9', read(MIRROR_K9, 4, 1), refused(6, 0))
+    expect('K9 check', check(MIRROR_K9, 4), refused(6, 0))
+    expect('K10', read(MIRROR_K10, 3, 1), refused(6, 0))
+    expect('K10 check', check(MIRROR_K10, 3), refused(6, 0))
     for points, shape, area, value in (
-            (ABOVE_K6, 4, 1, Fraction(399999, 2)),
-            (ABOVE_K7, 4, 1, Fraction(400003, 2)),
-            (ABOVE_K8, 4, 1, Fraction(799999, 4))):
+            (MIRROR_K6, 4, 1, Fraction(399999, 2)),
+            (MIRROR_K7, 4, 1, Fraction(400003, 2)),
+            (MIRROR_K8, 4, 1, Fraction(799999, 4))):
         expect('exact', ref.exact_value(*lists(points), shape, area), value)
-    # As shapes 1 and 2 they are refused, and as 4 what is not bent so.
-    for points, shape in ((BELOW_STEEP, 1), (BELOW_STEEP, 2), (BELOW_K5, 2),
-                          (STEEP, 3), (STEEP, 4), (K5, 4), (ABOVE_K7, 2)):
+    # With another shape code they are refused.
+    for points, shape in ((MIRROR_STEEP, 1), (MIRROR_STEEP, 2), (MIRROR_K5, 2),
+                          (STEEP, 3), (STEEP, 4), (K5, 4), (MIRROR_K7, 2)):
         expect('another shape', check(points, shape), refused(6, 0))
 
 
@@ -599,7 +599,7 @@ def test_write_and_open():
     """Document 02, item 1: it opens as the points and shape that went in."""
     curves = [(points, shape) for points, shape, _ in FILES]
     curves += [(flat(64, 317), 1), (K5, 1), (K6, 2), (K7, 2), (K8, 2),
-               (flat(64, 317), 3), (K6, 4), (ABOVE_K7, 4), (BELOW_K5, 3)]
+               (flat(64, 317), 3), (K6, 4), (MIRROR_K7, 4), (MIRROR_K5, 3)]
     for points, shape in curves:
         count = len(points)
         data = write(points, shape, b'\xff' * 900)[2][:7 + 12 * count]
@@ -785,9 +785,9 @@ def test_desk():
            (10182, FILE_31[7:]))
     expect('desk, below 0', ref.desk(curve_file(K7, 2), 1, bytes(24))[0], -1)
     expect('desk, above 200,000',
-           ref.desk(curve_file(ABOVE_K7, 4), 1, bytes(24)),
-           (200002, curve_file(ABOVE_K7, 4)[7:]))
-    expect('desk, falling', ref.desk(curve_file(BELOW_STEEP, 3), 550,
+           ref.desk(curve_file(MIRROR_K7, 4), 1, bytes(24)),
+           (200002, curve_file(MIRROR_K7, 4)[7:]))
+    expect('desk, falling', ref.desk(curve_file(MIRROR_STEEP, 3), 550,
                                      bytes(24))[0], 189111)
     expect('desk, scratch of 23', ref.desk(FILE_31, 550, bytes(23)),
            (-1000011, bytes(23)))
@@ -824,7 +824,7 @@ def test_c_answers():
                (-11 * 2**32, [4, 5]))
     expect('sheet', ref.curve_sheet(*steep, 2, 500, 25, [0] * 5),
            (5, [10000, 10182, 10800, 12000, 14000]))
-    below = lists(BELOW_STEEP)
+    below = lists(MIRROR_STEEP)
     expect('falling, read', ref.curve_read(*below, 3, 550), (189111,))
     expect('falling, pair', ref.curve_pair(*below, 3, 525, 550, [4, 5, 6, 7]),
            (3, [189771, 189111, -660, 7]))
@@ -847,7 +847,7 @@ def test_c_open():
     expect('open, rising', ref.curve_open(curve_file(flat(3), 1), [0] * 3,
                                           [0] * 3, [1] * 3),
            (259, [0, 1, 2], [5, 5, 5], [0, 0, 0]))
-    expect('open, falling', ref.curve_open(curve_file(BELOW_K5, 3), [7] * 2,
+    expect('open, falling', ref.curve_open(curve_file(MIRROR_K5, 3), [7] * 2,
                                            [7] * 2, [7] * 2),
            (770, [500, 600], [190000, 186000], [-2000, -6000]))
     expect('open, concave', ref.curve_open(FILE_HILL, [7] * 2, [7] * 2,
@@ -903,10 +903,10 @@ def test_ratesheet():
     expect('31 bytes', ref.ratesheet(FILE_31), PRINTED_31)
     expect('not beyond the last', ref.ratesheet(curve_file(flat(2, 60), 1)),
            'shape 1 points 2\n0 5\n25 5\n50 5\n')
-    expect('falling', ref.ratesheet(curve_file(BELOW_STEEP, 3)),
+    expect('falling', ref.ratesheet(curve_file(MIRROR_STEEP, 3)),
            'shape 3 points 2\n500 190000\n525 189771\n550 189111\n'
            '575 187943\n600 186000\n')
-    expect('concave', ref.ratesheet(curve_file(BELOW_STEEP, 4)),
+    expect('concave', ref.ratesheet(curve_file(MIRROR_STEEP, 4)),
            'shape 4 points 2\n500 190000\n525 189818\n550 189200\n'
            '575 188000\n600 186000\n')
     expect('775 bytes', ref.ratesheet(curve_file(flat(64), 1)),
