@@ -341,9 +341,9 @@ static void widen(call *c, const timing *t)
 
 static void print_head(void)
 {
-    printf("| %-12s | points | shape  | tariff  | archive |   plain | ratio "
+    printf("| %-12s | points | shape   | tariff  | archive |   plain | ratio "
            "|  native | ratio |     GSL | ratio |\n"
-           "|--------------|--------|--------|---------|---------|---------|"
+           "|--------------|--------|---------|---------|---------|---------|"
            "-------|---------|-------|---------|-------|\n",
            "call");
 }
@@ -351,7 +351,7 @@ static void print_head(void)
 static void print_row(const char *name, const char *shape, int count,
                       const char *tariff, const timing *t)
 {
-    printf("| %-12s | %6d | %-6s | %-7s | %7.2f |", name, count, shape, tariff,
+    printf("| %-12s | %6d | %-7s | %-7s | %7.2f |", name, count, shape, tariff,
            t->ns[ARCHIVE]);
     for (int k = PLAIN; k < SIDES; k++)
         if (k < t->sides)
@@ -377,7 +377,8 @@ static void print_range(const call *c)
 
 static void rows(call *c, const char *folder)
 {
-    static const char *const shapes[] = {"rising", "convex"};
+    static const char *const shapes[] = {"rising", "convex", "falling",
+                                         "concave"};
     static const char *const tariffs[] = {"typical", "extreme"};
     static const int counts[] = {2, 8, 64}, loops[] = {6, 3, 1};
     for (int n = 0; n < 3; n++)
@@ -400,13 +401,13 @@ static void rows(call *c, const char *folder)
 int main(int argc, char **argv)
 {
     call calls[] = {
-        CALL("desk reading", desk_reading, desk, CALLS, 2, 2),
-        CALL("sheet entry", curve_sheet, sheet, CURVES, 2, 2),
-        CALL("read", curve_read, read, CALLS, 2, 2),
-        CALL("pair", curve_pair, pair, CALLS, 2, 1),
-        CALL("check", curve_check, check, CALLS, 2, 1),
-        CALL("open", curve_open, open, CALLS, 2, 1),
-        CALL("write", curve_write, write, CALLS, 2, 1),
+        CALL("desk reading", desk_reading, desk, CALLS, 4, 2),
+        CALL("sheet entry", curve_sheet, sheet, CURVES, 4, 2),
+        CALL("read", curve_read, read, CALLS, 4, 2),
+        CALL("pair", curve_pair, pair, CALLS, 4, 1),
+        CALL("check", curve_check, check, CALLS, 4, 1),
+        CALL("open", curve_open, open, CALLS, 4, 1),
+        CALL("write", curve_write, write, CALLS, 4, 1),
         CALL("fill slopes", curve_fill_slopes, fill_slopes, CALLS, 1, 1),
     };
     size_t count = sizeof calls / sizeof *calls;

@@ -5,7 +5,8 @@
 64 curves for each shape, number of points and tariff, always the same ones,
 in FOLDER/SHAPE-POINTS-TARIFF-NN.trf. Typical tariffs have small rises and
 slopes; extreme ones have gaps, values and slopes near the limits, as far as
-the number of points allows.
+the number of points allows. Falling and concave curves are rising and convex
+ones upside down.
 """
 import random
 import sys
@@ -65,17 +66,30 @@ def convex(rng, count, tariff):
     return list(zip(areas, [value - lowest for value in values], slopes))
 
 
+def mirrored(points, tariff):
+    """Upside down, within the same values; extreme ones within the limits."""
+    values = [value for _, value, _ in points]
+    both = 200000 if tariff == 'extreme' else min(values) + max(values)
+    return [(area, both - value, -slope) for area, value, slope in points]
+
+
+# The shapes of codes 1 and 2, and of 3 and 4, their mirrors.
+SHAPES = [(rising, 'rising', 'falling'), (convex, 'convex', 'concave')]
+
+
 def write_curves(folder):
     folder.mkdir(parents=True, exist_ok=True)
-    for code, (shape, make) in enumerate([('rising', rising),
-                                          ('convex', convex)], start=1):
+    for code, (make, shape, mirror) in enumerate(SHAPES, start=1):
         for count in COUNTS:
             for tariff in TARIFFS:
                 rng = random.Random(f'{shape} {count} {tariff}')
                 for i in range(CURVES):
-                    name = f'{shape}-{count}-{tariff}-{i:02}.trf'
-                    data = curve_file(make(rng, count, tariff), code)
-                    (folder / name).write_bytes(data)
+                    tail = f'{count}-{tariff}-{i:02}.trf'
+                    points = make(rng, count, tariff)
+                    data = curve_file(points, code)
+                    (folder / f'{shape}-{tail}').write_bytes(data)
+                    data = curve_file(mirrored(points, tariff), code + 2)
+                    (folder / f'{mirror}-{tail}').write_bytes(data)
 
 
 if __name__ == '__main__':

@@ -1,10 +1,12 @@
 /*
- * The calls in plain C, with __int128 for the one product that 64 bits cannot
+ * The calls in plain C, with __int128 for the products that 64 bits cannot
  * hold. Same checks, same order of refusals, same answers.
  */
 #include "plain.h"
 
 #include <string.h>
+
+enum { RISING = 1, CONVEX, FALLING, CONCAVE };
 
 typedef struct {
     uint32_t area;
@@ -59,19 +61,24 @@ static inline int point_fault(point p, uint32_t before, int first)
     return 0;
 }
 
-/* For points within the limits, where 32 bits hold every product. */
+/*
+ * For points within the limits, where 32 bits hold every product. Falling and
+ * concave are rising and convex with the signs changed.
+ */
 static inline int has_shape(point l, point r, uint32_t shape)
 {
+    int32_t sign = shape <= CONVEX ? 1 : -1;
     int32_t h = (int32_t)(r.area - l.area);
     int32_t rise = (int32_t)(r.value - l.value);
-    if (shape == 1) {
-        if (rise > 0)
-            return (l.slope | r.slope) >= 0;
-        return rise == 0 && (l.slope | r.slope) == 0;
+    if (shape == RISING || shape == FALLING) {
+        int32_t d0 = sign * l.slope, d1 = sign * r.slope;
+        if (sign * rise > 0)
+            return (d0 | d1) >= 0;
+        return rise == 0 && (d0 | d1) == 0;
     }
     int32_t b = 100 * rise - h * l.slope;
     int32_t a = h * r.slope - 100 * rise;
-    return (a > 0 && b > 0) || (a == 0 && b == 0);
+    return (sign * a > 0 && sign * b > 0) || (a == 0 && b == 0);
 }
 
 /* The greatest whole number not above n / d, for d above 0. */
@@ -95,6 +102,13 @@ static inline int32_t rising(point l, point r, int64_t t, int64_t u)
     return (int32_t)(l.value + (int64_t)(n / (uint64_t)(2 * den)));
 }
 
+/* Rising, seen from the right end. */
+static inline int32_t falling(point l, point r, int64_t t, int64_t u)
+{
+    point first = {0, r.value, -r.slope}, last = {0, l.value, -l.slope};
+    return rising(first, last, u, t);
+}
+
 /* The left tangent plus (b t)^2 / w, rounded once. */
 static inline int32_t convex(point l, point r, int64_t t, int64_t u)
 {
@@ -111,12 +125,32 @@ static inline int32_t convex(point l, point r, int64_t t, int64_t u)
     return (int32_t)floor_div(n, 2 * scale);
 }
 
+/* The chord plus au bt / (100 h w), rounded once; w is 1 on a straight line. */
+static inline int32_t concave(point l, point r, int64_t t, int64_t u)
+{
+    int64_t h = t + u;
+    int64_t g = 100 * ((int64_t)r.value - l.value);
+    uint64_t au = (uint64_t)((g - h * r.slope) * u);
+    uint64_t bt = (uint64_t)((h * l.slope - g) * t);
+    uint64_t w = au + bt + (au + bt == 0);
+    uint64_t line = (uint64_t)(200 * (l.value * u + r.value * t) + 100 * h);
+    unsigned __int128 n = (unsigned __int128)line * w +
+                          (unsigned __int128)au * (2 * bt);
+    return (int32_t)(n / ((uint64_t)(200 * h) * w));
+}
+
 static inline int32_t segment_factor(point l, point r, uint32_t shape,
                                      uint32_t area)
 {
     int64_t t = (int64_t)area - l.area;
     int64_t u = (int64_t)r.area - area;
-    return shape == 1 ? rising(l, r, t, u) : convex(l, r, t, u);
+    if (shape == RISING)
+        return rising(l, r, t, u);
+    if (shape == CONVEX)
+        return convex(l, r, t, u);
+    if (shape == FALLING)
+        return falling(l, r, t, u);
+    return concave(l, r, t, u);
 }
 
 /* ---- points in a file ---- */
@@ -159,9 +193,15 @@ static inline int64_t file_fault(const uint8_t *bytes)
     uint32_t shape = bytes[5];
     if (count < 2 || count > 64)
         return refused(1, 0);
-    if (shape != 1 && shape != 2)
-        return refused(2, 0);
-    return shape == 1 ? scan(bytes + 7, count, 1) : scan(bytes + 7, count, 2);
+    if (shape == RISING)
+        return scan(bytes + 7, count, RISING);
+    if (shape == CONVEX)
+        return scan(bytes + 7, count, CONVEX);
+    if (shape == FALLING)
+        return scan(bytes + 7, count, FALLING);
+    if (shape == CONCAVE)
+        return scan(bytes + 7, count, CONCAVE);
+    return refused(2, 0);
 }
 
 /* The last segment whose left area is not above the area. */
@@ -265,9 +305,15 @@ static inline int64_t lists_fault(lists c, size_t values_len,
         return refused(1, 0);
     if (c.count < 2 || c.count > 64)
         return refused(1, 0);
-    if (shape != 1 && shape != 2)
-        return refused(2, 0);
-    return shape == 1 ? scan_lists(c, 1) : scan_lists(c, 2);
+    if (shape == RISING)
+        return scan_lists(c, RISING);
+    if (shape == CONVEX)
+        return scan_lists(c, CONVEX);
+    if (shape == FALLING)
+        return scan_lists(c, FALLING);
+    if (shape == CONCAVE)
+        return scan_lists(c, CONCAVE);
+    return refused(2, 0);
 }
 
 static inline int outside(lists c, uint32_t area)
@@ -352,8 +398,14 @@ static inline void fill_sheet(lists c, uint32_t shape, uint32_t start,
     for (size_t k = 0; k + 1 < c.count && i < m; k++) {
         point l = point_at(c, k), r = point_at(c, k + 1);
         uint64_t end = k + 2 < c.count ? r.area : (uint64_t)r.area + 1;
-        i = shape == 1 ? fill(l, r, 1, end, start, step, out, i, m)
-                       : fill(l, r, 2, end, start, step, out, i, m);
+        if (shape == RISING)
+            i = fill(l, r, RISING, end, start, step, out, i, m);
+        else if (shape == CONVEX)
+            i = fill(l, r, CONVEX, end, start, step, out, i, m);
+        else if (shape == FALLING)
+            i = fill(l, r, FALLING, end, start, step, out, i, m);
+        else
+            i = fill(l, r, CONCAVE, end, start, step, out, i, m);
     }
 }
 
@@ -441,16 +493,16 @@ static inline uint64_t end_slope(chord own, chord other)
 static inline int64_t rising_fault(const uint32_t *areas,
                                    const uint32_t *values, size_t count)
 {
-    size_t falling = count;
+    size_t fall = count;
     for (size_t i = 0; i < count; i++) {
         point p = {areas[i], values[i], 0};
         int fault = point_fault(p, i == 0 ? 0 : areas[i - 1], i == 0);
         if (fault)
             return refused(fault, i);
-        if (i > 0 && values[i] < values[i - 1] && falling == count)
-            falling = i - 1;
+        if (i > 0 && values[i] < values[i - 1] && fall == count)
+            fall = i - 1;
     }
-    return falling < count ? refused(6, falling) : 0;
+    return fall < count ? refused(6, fall) : 0;
 }
 
 int64_t plain_curve_fill_slopes(const uint32_t *areas, size_t areas_len,

@@ -37,6 +37,10 @@ CHUNK = 500                     # cases that one random generator makes
 CALLS = ['desk', 'check', 'read', 'pair', 'sheet', 'open', 'write',
          'fill_slopes']
 LIMITS = [(0, 20000), (0, 200000), (-10000, -1, 0, 1, 10000)]
+SLOPE_LIMITS = {1: (0, 1, 10000), 2: LIMITS[2], 3: (-10000, -1, 0),
+                4: LIMITS[2]}
+SHAPES = (1, 2, 3, 4)
+READING = ('desk', 'read', 'pair', 'sheet')
 HEAD = struct.Struct('<BBB3I4Iq')
 PERIODS = [bytes(1 + (fill + 31 * i) % 255 for i in range(255))
            for fill in range(256)]
@@ -138,20 +142,54 @@ def outcome(call, answer):
 
 
 def curve_of(call, arguments):
-    """Shape and count of an accepted curve."""
+    """Shape and count, if rows 9 and 10 are passed."""
     if call in ('desk', 'open'):
         return arguments[0][5], arguments[0][6]
     shape = ref.RISING if call == 'fill_slopes' else arguments[1]
     return shape, len(arguments[0][0])
 
 
+def lists_of(call, arguments):
+    """The lists of a curve, of a file's too."""
+    if call in ('desk', 'open'):
+        return ref.file_lists(arguments[0])
+    return arguments[0]
+
+
 def limits_of(call, arguments):
     """The limits that the points of an accepted curve have."""
-    count = curve_of(call, arguments)[1]
-    lists = ref.file_lists(arguments[0]) if call == 'open' else arguments[0]
-    for field, (limits, entries) in enumerate(zip(LIMITS, lists)):
+    curve = curve_of(call, arguments)
+    for field, (limits, entries) in enumerate(
+            zip(LIMITS, lists_of(call, arguments))):
         for limit in set(limits).intersection(entries):
-            yield call, 'limit', count, field, limit
+            yield call, 'limit', *curve, field, limit
+
+
+def areas_read(call, arguments):
+    if call == 'desk':
+        return arguments[1:2]
+    if call == 'sheet':
+        _, _, start, step, length = arguments
+        return range(start, start + step * length, step)
+    return arguments[2:4]                       # read, pair
+
+
+def noted_of_reading(call, arguments):
+    """Exact halves, and factors that no value can have."""
+    lists, shape = lists_of(call, arguments), curve_of(call, arguments)[0]
+    for area in areas_read(call, arguments):
+        value = ref.exact_value(*lists, shape, area)
+        if value.denominator == 2:
+            yield call, 'half', shape
+        if value < 0:
+            yield call, 'below', shape
+        if value > 200000:
+            yield call, 'above', shape
+
+
+def shapes_that_fit(lists):
+    return [shape for shape in SHAPES
+            if ref.check(*lists, shape)[0] == 'ok']
 
 
 def noted_of_write(arguments, number, place):
@@ -211,8 +249,14 @@ def noted(call, arguments, answer):
         yield from noted_of_fill(arguments, number, result)
     if number != 'ok':
         yield call, number, result
+        if number in (2, 3, 4, 5, 6):
+            yield call, number, result, curve_of(call, arguments)[0]
         return
     yield (call, 'ok') + curve_of(call, arguments)
+    if call == 'check':
+        yield 'fits', *shapes_that_fit(arguments[0])
+    if call in READING:
+        yield from noted_of_reading(call, arguments)
     if call == 'sheet':
         yield 'entries', result
     if call in ('open', 'write', 'fill_slopes'):
@@ -220,12 +264,49 @@ def noted(call, arguments, answer):
 
 
 def wanted_of_limits():
-    for call in ('open', 'write', 'fill_slopes'):
-        fields = LIMITS[:2] if call == 'fill_slopes' else LIMITS
+    for call, shape in itertools.product(('open', 'write'), SHAPES):
+        fields = [*LIMITS[:2], SLOPE_LIMITS[shape]]
         for field, limits in enumerate(fields):
-            for limit in limits:
-                yield call, 'limit', 2, field, limit
-                yield call, 'limit', 64, field, limit
+            for limit, count in itertools.product(limits, (2, 64)):
+                yield call, 'limit', shape, count, field, limit
+    for field, limits in enumerate(LIMITS[:2]):
+        for limit, count in itertools.product(limits, (2, 64)):
+            yield 'fill_slopes', 'limit', 1, count, field, limit
+
+
+def wanted_of_reading():
+    """What the calls that read must have shown of factors, and Check of
+    points that fit several shapes."""
+    for call in READING:
+        for shape in SHAPES:
+            yield call, 'half', shape
+        yield from [(call, 'below', 2), (call, 'above', 4)]
+    for shapes in ((1,), (2,), (3,), (4,), (1, 2), (1, 4), (2, 3), (3, 4),
+                   (1, 2, 4), (2, 3, 4), SHAPES):
+        yield 'fits', *shapes
+
+
+def wanted_of_codes(call):
+    """Codes that row 2 must have refused."""
+    codes = [0, 5, 255]
+    if call not in ('desk', 'open'):
+        for shape in SHAPES:
+            codes += list_kinds.far_codes(shape)
+    for code in codes:
+        yield call, 2, 0, code
+
+
+def wanted_of_rows(call):
+    """Rows 1 to 6, and results, by a call that takes a shape code."""
+    yield call, 1, 0
+    yield from wanted_of_codes(call)
+    for shape in SHAPES:
+        for count in range(2, 65):
+            yield call, 'ok', shape, count
+        for number in (3, 4, 5, 6):
+            places = 1 if call == 'desk' else 63 if number == 6 else 64
+            for place in range(places):
+                yield call, number, place, shape
 
 
 def wanted_of_write():
@@ -242,8 +323,14 @@ def wanted_of_write():
 
 
 def wanted_of_fill():
-    """What Fill Slopes must have shown of level segments, of its list, and of
-    slopes in each position."""
+    """What Fill Slopes must have shown: results and rows, level segments, its
+    list, and slopes in each position."""
+    yield 'fill_slopes', 1, 0
+    for count in range(2, 65):
+        yield 'fill_slopes', 'ok', 1, count
+    for number in (3, 4, 5, 6):
+        for place in range(63 if number == 6 else 64):
+            yield 'fill_slopes', number, place
     for segments in range(1, 6):
         for level in itertools.product((False, True), repeat=segments):
             yield 'level', *level
@@ -266,18 +353,10 @@ def wanted():
     yield from wanted_of_limits()
     yield from wanted_of_write()
     yield from wanted_of_fill()
+    yield from wanted_of_reading()
     for call in CALLS:
-        shapes = (1,) if call == 'fill_slopes' else (1, 2)
-        for shape in shapes:
-            for count in range(2, 65):
-                yield call, 'ok', shape, count
-        yield call, 1, 0
-        if len(shapes) > 1:
-            yield call, 2, 0
-        for number in (3, 4, 5, 6):
-            places = 1 if call == 'desk' else 63 if number == 6 else 64
-            for place in range(places):
-                yield call, number, place
+        if call != 'fill_slopes':
+            yield from wanted_of_rows(call)
     for call in ('open', 'desk'):
         for number in (9, 10, 11):
             yield call, number, 0

@@ -26,9 +26,9 @@
 #include "factor_curves.h"
 #include "lend.h"
 
-enum { NUMBER_MAX = 12, SHOWN = 5, ENTRIES_SHOWN = 70 };
+enum { NUMBER_MAX = 12, SHOWN = 5, ENTRIES_SHOWN = 70, VALUE_MAX = 200000 };
 
-static unsigned long ran[KINDS_MAX], failures, below_zero, filled;
+static unsigned long ran[KINDS_MAX], failures, below_zero, high, filled;
 static unsigned long called[CALLS], refusals[CALLS][NUMBER_MAX + 1];
 static int use_heap, some, first;
 static test_case current;
@@ -251,6 +251,7 @@ static void run_all(test_case *c)
         if (number <= NUMBER_MAX)
             refusals[c->call][number]++;
         below_zero += number == 0 && c->wanted < 0;
+        high += number == 0 && c->wanted > VALUE_MAX;
         filled += number == 0 && c->call == SHEET ? c->length[3] : 0;
         free(c->data);
     }
@@ -293,8 +294,8 @@ static int report(unsigned long least)
     for (int k = 0; k < kinds; k++)
         printf("  %8lu  %s\n", ran[k], names[k]);
     int missing = report_calls();
-    printf("  %8lu  in all; %lu factors read below zero; %lu entries of "
-           "sheets\n", taken, below_zero, filled);
+    printf("  %8lu  in all; %lu factors read below zero, %lu above 200,000; "
+           "%lu entries of sheets\n", taken, below_zero, high, filled);
     if (!some && missing > 0)
         faults += printf("  an answer that a call can give was not seen\n");
     for (int call = 0; !some && call < CALLS; call++)

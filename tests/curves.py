@@ -13,6 +13,9 @@ SLOPE_MAX = 10000
 POINTS_MAX = 64
 RISING = 1
 CONVEX = 2
+FALLING = 3
+CONCAVE = 4
+SHAPES = (RISING, CONVEX, FALLING, CONCAVE)
 
 
 def lists(points):
@@ -177,7 +180,25 @@ def gentle_convex_curve(rng, count):
             return points
 
 
+# ---- falling and concave curves ----
+
+def mirrored(points, total=VALUE_MAX):
+    """Upside down: rising becomes falling, convex becomes concave, and back."""
+    return [(area, total - value, -slope) for area, value, slope in points]
+
+
+def mirrored_at_times(rng, points, shape):
+    """(points, shape) of a rising or convex curve, or of its mirror."""
+    if rng.random() < 0.5:
+        return points, shape
+    return mirrored(points), shape + 2
+
+
+# ---- curves of any shape ----
+
 def some_curve(rng, shape):
+    if shape > CONVEX:
+        return mirrored(some_curve(rng, shape - 2))
     count = some_count(rng)
     if shape == RISING:
         return rising_curve(rng, count)
@@ -187,8 +208,24 @@ def some_curve(rng, shape):
 
 
 def any_curve(rng):
-    shape = rng.choice([RISING, CONVEX])
+    shape = rng.choice(SHAPES)
     return some_curve(rng, shape), shape
+
+
+def straight_curve(rng):
+    """A line of even gaps: of shapes 2 and 4, and of 1, of 3 or of both."""
+    while True:
+        gaps = [max(2, gap - gap % 2)
+                for gap in some_gaps(rng, some_count(rng))]
+        if sum(gaps) <= AREA_MAX:
+            break
+    most = min(SLOPE_MAX, 100 * VALUE_MAX // sum(gaps)) // 50
+    slope = 50 * rng.choice([0, 1, most, rng.randint(0, most)])
+    rises = [gap * slope // 100 for gap in gaps]
+    areas = running(placed(rng, sum(gaps), AREA_MAX), gaps)
+    values = running(placed(rng, sum(rises), VALUE_MAX), rises)
+    points = list(zip(areas, values, [slope] * len(areas)))
+    return rng.choice([points, mirrored(points)])
 
 
 # ---- curves at the limits ----
@@ -227,22 +264,19 @@ def limit_convex(rng):
 
 def limit_curve(rng):
     """(points, shape) with fields at their limits."""
-    kind = rng.randrange(4)
-    if kind == 0:
-        return full_ladder(rng), RISING
-    if kind == 1:
-        return limit_rising(rng), RISING
-    return limit_convex(rng), CONVEX
+    make, shape = rng.choice([(full_ladder, RISING), (limit_rising, RISING),
+                              (limit_convex, CONVEX), (limit_convex, CONVEX)])
+    return mirrored_at_times(rng, make(rng), shape)
 
 
 def random_curves(seed, number):
-    """(points, shape), both shapes, and some at the limits."""
+    """(points, shape), all shapes, and some at the limits."""
     rng = random.Random(seed)
     for index in range(number):
         if index % 5 == 4:
             yield limit_curve(rng)
         else:
-            yield some_curve(rng, 1 + index % 2), 1 + index % 2
+            yield some_curve(rng, 1 + index % 4), 1 + index % 4
 
 
 def convex_through(rng, slopes, gap):
@@ -262,23 +296,33 @@ def convex_through(rng, slopes, gap):
     return list(zip(areas, running(start, rises), slopes))
 
 
-def limit_file(rng):
-    """(points, shape) of 2 or 64 points with fields at their limits."""
-    count = rng.choice([2, POINTS_MAX])
-    if rng.random() < 0.5:
-        gap = rng.choice([1, GAP_MAX]) if count == 2 else AREA_MAX // 63
-        rise = rng.choice([1, VALUE_MAX // (count - 1)])
-        areas = [AREA_MAX - gap * i for i in range(count)][::-1]
-        values = [VALUE_MAX - rise * i for i in range(count)][::-1]
-        slopes = [rng.choice([0, 1, SLOPE_MAX]) for _ in range(count)]
-        return list(zip(areas, values, slopes)), RISING
+def limit_rising_file(rng, count):
+    gap = rng.choice([1, GAP_MAX]) if count == 2 else AREA_MAX // 63
+    rise = rng.choice([1, VALUE_MAX // (count - 1)])
+    areas = running(rng.choice([0, AREA_MAX - gap * (count - 1)]),
+                    [gap] * (count - 1))
+    values = running(rng.choice([0, VALUE_MAX - rise * (count - 1)]),
+                     [rise] * (count - 1))
+    slopes = [rng.choice([0, 1, SLOPE_MAX]) for _ in range(count)]
+    return list(zip(areas, values, slopes))
+
+
+def limit_convex_file(rng, count):
     slopes = [-SLOPE_MAX, -1, 0, 1, SLOPE_MAX]
     if count == 2:
         gap = rng.choice([101, GAP_MAX, rng.randint(101, GAP_MAX)])
-        return convex_through(rng, sorted(rng.sample(slopes, 2)), gap), CONVEX
+        return convex_through(rng, sorted(rng.sample(slopes, 2)), gap)
     slopes += rng.sample(range(2, 3000), 30)
     slopes += [-slope for slope in rng.sample(range(2, 3000), 29)]
-    return convex_through(rng, sorted(slopes), 101), CONVEX
+    return convex_through(rng, sorted(slopes), 101)
+
+
+def limit_file(rng):
+    """(points, shape) of 2 or 64 points with fields at their limits."""
+    make, shape = rng.choice([(limit_rising_file, RISING),
+                              (limit_convex_file, CONVEX)])
+    count = rng.choice([2, POINTS_MAX])
+    return mirrored_at_times(rng, make(rng, count), shape)
 
 
 def dipping_curve(rng):

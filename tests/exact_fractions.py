@@ -16,6 +16,10 @@ from fractions import Fraction
 # Document 01, The figures and their units: shape codes.
 RISING = 1
 CONVEX = 2
+# Document 02, item 4: two more, each the mirror of one of the others.
+FALLING = 3
+CONCAVE = 4
+MIRROR = {FALLING: RISING, CONCAVE: CONVEX}
 
 
 def refused(number, place):
@@ -30,6 +34,13 @@ def remembered(function):
     def look(areas, values, slopes, *rest):
         return known(tuple(areas), tuple(values), tuple(slopes), *rest)
     return look
+
+
+# ---- Document 02, item 4: curves that fall or flatten ----
+
+def mirrored(values, slopes):
+    """200,000 less each value, and the slopes with their signs changed."""
+    return [200000 - value for value in values], [-slope for slope in slopes]
 
 
 # ---- Document 01, The exact curve ----
@@ -49,6 +60,9 @@ def p_over_q(left_value, right_value, h, d0, d1, r, t):
 
 def segment_value(areas, values, slopes, shape, segment, area):
     """The exact curve of one segment that has its shape."""
+    if shape in MIRROR:                  # item 4: taken from 200,000 again
+        return 200000 - segment_value(areas, *mirrored(values, slopes),
+                                      MIRROR[shape], segment, area)
     left, right = segment, segment + 1
     h = areas[right] - areas[left]
     F = values[right] - values[left]
@@ -79,6 +93,7 @@ def segment_read(areas, area):
     return found
 
 
+@remembered
 def exact_value(areas, values, slopes, shape, area):
     """The exact value, a Fraction.
 
@@ -96,7 +111,6 @@ def reading(v):
     return math.floor(v + Fraction(1, 2))
 
 
-@remembered
 def factor(areas, values, slopes, shape, area):
     """The reading of the exact value; only where there is one."""
     return reading(exact_value(areas, values, slopes, shape, area))
@@ -105,6 +119,9 @@ def factor(areas, values, slopes, shape, area):
 # ---- Document 01, When a segment has its shape ----
 
 def has_shape(areas, values, slopes, shape, segment):
+    if shape in MIRROR:                  # item 4: the test of the mirror
+        return has_shape(areas, *mirrored(values, slopes), MIRROR[shape],
+                         segment)
     left, right = segment, segment + 1
     h = areas[right] - areas[left]
     F = values[right] - values[left]
@@ -151,7 +168,7 @@ def check(areas, values, slopes, shape):
         return refused(1, 0)
     if count < 2 or count > 64:
         return refused(1, 0)
-    if shape != RISING and shape != CONVEX:
+    if shape < 1 or shape > 4:           # item 4
         return refused(2, 0)
     # Rows 3, 4 and 5 together: the first point with any of them decides.
     for point in range(count):

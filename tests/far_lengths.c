@@ -116,7 +116,7 @@ static void write_far_buffer(void)
 {
     static const uint8_t found[32] = {7, [31] = 7};
     uint8_t *out = far_list(found, sizeof found);
-    expect("write, no shape", curve_write(areas, 2, values, 2, slopes, 2, 3,
+    expect("write, no shape", curve_write(areas, 2, values, 2, slopes, 2, 5,
                                           out, FAR + 4), REFUSED(2));
     expect("no byte written", memcmp(out, found, sizeof found), 0);
     for (size_t more = 0; more < 32; more += 4) {

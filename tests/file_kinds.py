@@ -40,6 +40,14 @@ def convex(rng):
     yield from readings(rng, curves.some_curve(rng, 2), 2, 20)
 
 
+def falling(rng):
+    yield from readings(rng, curves.some_curve(rng, 3), 3, 20)
+
+
+def concave(rng):
+    yield from readings(rng, curves.some_curve(rng, 4), 4, 20)
+
+
 def limits(rng):
     points, shape = curves.limit_curve(rng)
     yield from readings(rng, points, shape, 10)
@@ -47,6 +55,11 @@ def limits(rng):
 
 def dips(rng):
     yield from readings(rng, curves.dipping_curve(rng), 2, 5)
+
+
+def hills(rng):
+    points = curves.mirrored(curves.dipping_curve(rng))
+    yield from readings(rng, points, 4, 5)
 
 
 def half_curve(rng):
@@ -67,9 +80,19 @@ def half_curve(rng):
             (gap, low + rise, middle + spread)], curves.CONVEX
 
 
+def any_half_curve(rng):
+    """One of these, or its mirror, low or high."""
+    points, shape = half_curve(rng)
+    if rng.random() < 0.5:
+        return points, shape
+    top = max(value for _, value, _ in points)
+    total = rng.choice([top, top + rng.randint(0, 20), curves.VALUE_MAX])
+    return curves.mirrored(points, total), shape + 2
+
+
 def halves(rng):
     """Areas whose exact value is a whole number and a half."""
-    points, shape = half_curve(rng)
+    points, shape = any_half_curve(rng)
     data = curve_file(points, shape)
     middle = points[1][0] // 2
     for area in {1, middle, middle // 2, middle + middle // 2}:
@@ -80,10 +103,14 @@ def halves(rng):
 
 def beside_halves(rng):
     """Exact values within a hundredth of a half, but not on it."""
-    points, shape = half_curve(rng)
+    points, shape = any_half_curve(rng)
     at = rng.randrange(2)
     slope = points[at][2] + rng.choice([-1, 1])
-    points = changed(points, at, 2, max(0, slope) if shape == 1 else slope)
+    if shape == curves.RISING:
+        slope = max(0, slope)
+    if shape == curves.FALLING:
+        slope = min(0, slope)
+    points = changed(points, at, 2, slope)
     lists = curves.lists(points)
     if ref.check(*lists, shape)[0] != 'ok':
         return
@@ -117,7 +144,7 @@ def shifted(rng):
 def counts_and_codes(rng):
     points, shape = any_curve(rng)
     area = curves.inner_area(rng, points)
-    code = rng.choice([0, 3, 4, 127, 128, 129, 130, 254, 255])
+    code = rng.choice([0, 5, 6, 7, 8, 127, 128, 129, 130, 131, 132, 254, 255])
     count = rng.choice([0, 1, 65, 66, 127, 128, 129, 254, 255])
     many = (points * (count // len(points) + 1))[:count]
     for data in (curve_file(points, code),
@@ -127,26 +154,38 @@ def counts_and_codes(rng):
 
 
 def equal_side(rng):
-    """Convex, but at one end the slope equals the chord's."""
+    """Convex or concave, but at one end the slope equals the chord's."""
     gap = rng.choice([1, 2, 4, 20, 100, 500, 2000])
     chord = rng.randint(-50, 50) * 100
     rise = gap * chord // 100
     slopes = rng.choice([(chord - 1, chord), (chord, chord + 1),
                          (chord, chord), (chord - 1, chord + 1),
-                         (chord + 1, chord), (chord, chord - 1)])
+                         (chord + 1, chord), (chord, chord - 1),
+                         (chord + 1, chord - 1)])
     value = rng.randint(max(0, -rise), curves.VALUE_MAX - max(0, rise))
     return [(0, value, slopes[0]), (gap, value + rise, slopes[1])]
 
 
+def nearly_level(rng):
+    """Two points with a rise and slopes of -1, 0 or 1."""
+    value = rng.choice([1, 7, curves.VALUE_MAX - 1])
+    rise, left, right = (rng.choice([-1, 0, 0, 1]) for _ in range(3))
+    return [(0, value, left),
+            (rng.choice([1, 2, 100, 2000]), value + rise, right)]
+
+
 def shapeless(rng):
-    points = equal_side(rng)
-    yield curve_file(points, 2), points[0][0], 24
+    for make, codes in ((equal_side, (2, 4)), (nearly_level, (1, 3))):
+        points = make(rng)
+        for code in codes:
+            yield curve_file(points, code), curves.inner_area(rng, points), 24
     points, shape = any_curve(rng)
     for _ in range(4):
         data = curve_file(shapeless_points(rng, points), shape)
         yield data, curves.inner_area(rng, points), scratch_for(rng, data)
-    data = curve_file(points, 3 - shape)         # the other shape
-    yield data, curves.inner_area(rng, points), scratch_for(rng, data)
+    for other in set(curves.SHAPES) - {shape}:
+        data = curve_file(points, other)
+        yield data, curves.inner_area(rng, points), scratch_for(rng, data)
 
 
 def marks(rng):
@@ -187,7 +226,7 @@ def scratches(rng):
     """A byte short, exact, longer, none; also of files with faults."""
     data, area = any_file(rng)
     if rng.random() < 0.2:
-        data = data[:5] + bytes([rng.choice([0, 3])]) + data[6:]
+        data = data[:5] + bytes([rng.choice([0, 5])]) + data[6:]
     need = 12 * data[6]
     for length in (need - 1, need, need + 1, need + 12, 0, need // 2,
                    rng.randrange(need), rng.randrange(3100)):
@@ -211,7 +250,7 @@ def several_faults(rng):
     for _ in range(rng.randint(1, 3)):
         points = rng.choice([past_limit, shapeless_points])(rng, points)
     if rng.random() < 0.1:
-        shape = rng.choice([0, 3])
+        shape = rng.choice([0, 5])
     data = curve_file(points, shape)
     scratch = scratch_for(rng, data) - rng.choice([0, 0, 0, 0, 0, 0, 100])
     if rng.random() < 0.1:
@@ -224,18 +263,21 @@ def noise(rng):
     count = rng.randint(0, 66)
     data = rng.randbytes(12 * count)
     if rng.random() < 0.8:
-        data = b'TRF\1\0' + bytes([rng.randint(0, 3), count]) + data
+        data = b'TRF\1\0' + bytes([rng.randint(0, 5), count]) + data
     yield data, rng.randrange(2**32), rng.randrange(900)
 
 
 # Kind, its name, and at least how many readings of the desk.
 KINDS = [
-    (rising, 'rising curves', 65000),
-    (convex, 'convex curves', 65000),
+    (rising, 'rising curves', 40000),
+    (convex, 'convex curves', 40000),
+    (falling, 'falling curves', 40000),
+    (concave, 'concave curves', 40000),
     (limits, 'fields at the limits', 16000),
-    (dips, 'convex curves close to zero', 8000),
-    (halves, 'exact halves', 8000),
-    (beside_halves, 'close to a half', 6000),
+    (dips, 'convex curves close to zero', 6000),
+    (hills, 'concave curves close to 200,000', 6000),
+    (halves, 'exact halves', 12000),
+    (beside_halves, 'close to a half', 8000),
     (one_past, 'one field past its limit', 14000),
     (shifted, 'gap of 2,000 or 2,001', 3000),
     (counts_and_codes, 'wrong count or shape code', 6000),

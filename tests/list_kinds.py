@@ -13,6 +13,8 @@ is given by its length:
     'fill_slopes', the first two lists, length of the slope list
 """
 
+import itertools
+
 import curves
 import exact_fractions as ref
 from curve_file import curve_file
@@ -132,7 +134,7 @@ def unequal(rng):
     if rng.random() < 0.1:
         points = curves.past_limit(rng, points)
     if rng.random() < 0.1:
-        shape = rng.choice([0, 3])
+        shape = rng.choice([0, 5])
     for _ in range(4):
         yield from list_calls(rng, resized(rng, curves.lists(points)), shape,
                               area)
@@ -140,6 +142,8 @@ def unequal(rng):
 
 def simple_points(count, shape):
     """A curve of this many points, accepted if they are 2 to 64."""
+    if shape > curves.CONVEX:
+        return curves.mirrored(simple_points(count, shape - 2))
     if shape == curves.RISING:
         return [(3 * i, 7 * i, 50) for i in range(count)]
     return [(10 * i, i * i, 20 * i) for i in range(count)]
@@ -148,7 +152,7 @@ def simple_points(count, shape):
 def all_lengths(rng):
     """Equal lists of 0 to 70 points, by every call."""
     for count in range(71):
-        for shape in (1, 2):
+        for shape in curves.SHAPES:
             area = rng.randint(0, 3 * max(1, count - 1))
             points = simple_points(count, shape)
             yield from all_calls(rng, points, shape, area)
@@ -160,14 +164,15 @@ def all_lengths(rng):
 def far_lengths(rng):
     """Lengths that a byte or two bytes cannot hold."""
     for count in (2, 64):
-        lists = curves.lists(simple_points(count, 2))
+        shape = rng.choice(curves.SHAPES)
+        lists = curves.lists(simple_points(count, shape))
         for more in (2**8, 2**16):
             longer = tuple((numbers * (more // count + 1))[:more + count]
                            for numbers in lists)
             for k in range(4):
                 mixed = longer if k == 3 else (
                     lists[:k] + (longer[k],) + lists[k + 1:])
-                yield from list_calls(rng, mixed, 2, 1)
+                yield from list_calls(rng, mixed, shape, 1)
 
 
 def same_lists(rng):
@@ -178,28 +183,46 @@ def same_lists(rng):
         numbers.append(numbers[-1] + rng.randint(1, 150))
     areas = tuple(numbers)
     slopes = rng.choice([areas, areas, (0,) * count])
-    yield from list_calls(rng, (areas, areas, slopes), 1,
+    yield from list_calls(rng, (areas, areas, slopes),
+                          rng.choice([1, 1, 1, 2, 3, 4]),
                           rng.randint(areas[0], areas[-1]))
 
 
+def far_codes(shape):
+    """Codes beyond a byte with this one inside."""
+    return [256 + shape, 512 + shape, 2**16 + shape, 2**24 + shape,
+            2**31 + shape, 256 * shape, 2**32 - shape]
+
+
 def codes(rng):
-    """Shape codes beyond a byte too, most of them with a 1 or 2 inside."""
+    """Shape codes beyond a byte too, most of them with 1 to 4 inside."""
     points, shape = any_curve(rng)
     area = curves.inner_area(rng, points)
     if rng.random() < 0.2:
         points = curves.past_limit(rng, points)
-    code = rng.choice([0, 3, 255, 256, 256 + shape, 512 + shape,
-                       2**16 + shape, 2**24 + shape, 2**31 + shape,
-                       256 * shape, 2**32 - shape, TOP, rng.randrange(2**32)])
+    code = rng.choice([0, 5, 6, 8, 255, 256, TOP, rng.randrange(2**32),
+                       *far_codes(shape)])
     yield from list_calls(rng, curves.lists(points), code, area)
 
 
-def fault_at(number, place):
+def each_code(rng):
+    """One curve with each code; some curves fit several shapes."""
+    points = rng.choice([curves.straight_curve(rng), any_curve(rng)[0],
+                         simple_points(rng.randint(2, 64),
+                                       rng.choice(curves.SHAPES))])
+    area = curves.inner_area(rng, points)
+    for code in (*curves.SHAPES, rng.choice([0, 5, 255])):
+        yield from all_calls(rng, points, code, area)
+
+
+def fault_at(number, place, shape):
     """64 points, the first fault this number's, at this place.
 
     Points or segments after it may have faults, with smaller numbers too.
     """
-    points = simple_points(64, 1)
+    if shape > curves.CONVEX:
+        return curves.mirrored(fault_at(number, place, shape - 2))
+    points = simple_points(64, shape)
     if number == 6:
         points = curves.changed(points, place + 1, 1, points[place][1])
         return curves.changed(points, 63, 1, 0) if place < 62 else points
@@ -212,11 +235,11 @@ def fault_at(number, place):
 
 
 def each_place(rng):
-    for number in (3, 4, 5, 6):
+    for number, shape in itertools.product((3, 4, 5, 6), curves.SHAPES):
         for place in range(63 if number == 6 else 64):
-            points = fault_at(number, place)
-            yield from all_calls(rng, points, 1, rng.randint(0, 3 * 63))
-            yield 'write', curves.lists(points), 1, rng.randrange(775)
+            points = fault_at(number, place, shape)
+            yield from all_calls(rng, points, shape, rng.randint(0, 3 * 63))
+            yield 'write', curves.lists(points), shape, rng.randrange(775)
 
 
 # ---- Pair ----
@@ -230,7 +253,7 @@ def pair_rooms(rng):
         curves.shapeless_points(rng, points)]))
     if rng.random() < 0.2:
         lists = resized(rng, lists)
-    code = rng.choice([shape, shape, shape, 0, 258])
+    code = rng.choice([shape, shape, shape, shape, 0, 5, 256 + shape])
     for length in (0, 1, 2, 3, 4, rng.randint(5, 70)):
         yield 'pair', lists, code, area, other_area(rng, lists[0], area), length
 
@@ -293,15 +316,16 @@ def sheet_wraps(rng):
 
 def sheet_places(rng):
     """Each entry as the first one outside, and beside the last point."""
-    points = [(i * 1000, 3 * i, 10) for i in range(21)]
+    points, shape = curves.mirrored_at_times(
+        rng, [(i * 1000, 3 * i, 10) for i in range(21)], curves.RISING)
     lists = curves.lists(points)
     for place in range(ENTRIES_MAX):
         step = rng.randint(1, 20000 // max(1, place))
         start = 20000 - max(0, place - 1) * step + (place == 0)
         entries = min(ENTRIES_MAX, place + 1 + rng.randrange(3))
-        yield 'sheet', lists, 1, start, step, entries
+        yield 'sheet', lists, shape, start, step, entries
     for entries in (1, 2, 1023, ENTRIES_MAX):
-        yield 'sheet', lists, 1, 20000 - 19 * (entries - 1), 19, entries
+        yield 'sheet', lists, shape, 20000 - 19 * (entries - 1), 19, entries
 
 
 def whole_sheets(rng):
@@ -329,7 +353,7 @@ def open_lists(rng):
     elif rng.random() < 0.2:
         points = rng.choice([curves.past_limit,
                              curves.shapeless_points])(rng, points)
-    code = rng.choice([shape, shape, shape, shape, 0, 255])
+    code = rng.choice([shape, shape, shape, shape, 0, 5, 255])
     data = curve_file(points, code)
     count = len(points)
     for _ in range(6):
@@ -363,7 +387,7 @@ def write_rooms(rng):
         curves.shapeless_points(rng, points)]))
     if rng.random() < 0.1:
         lists = resized(rng, lists)
-    code = rng.choice([shape, shape, shape, shape, shape, 0, 256 + shape])
+    code = rng.choice([shape, shape, shape, shape, shape, 0, 5, 256 + shape])
     need = 7 + 12 * len(lists[0])
     for length in (need - 1, need, need + 1, need + 12, max(0, need - 12), 0,
                    6, rng.randrange(need), need + rng.randint(2, 3000)):
@@ -373,11 +397,12 @@ def write_rooms(rng):
 def far_rooms(rng):
     """Buffers as long as a byte or two bytes cannot say."""
     for count in (2, 64):
-        lists = curves.lists(simple_points(count, 2))
+        shape = rng.choice(curves.SHAPES)
+        lists = curves.lists(simple_points(count, shape))
         need = 7 + 12 * count
         for length in (255, 256, 256 + need, 2**16 - 1, 2**16, 2**16 + 1,
                        2**16 + need - 1, 2**16 + need):
-            yield 'write', lists, rng.choice([2, 2, 2, 3]), length
+            yield 'write', lists, rng.choice([shape, shape, shape, 5]), length
 
 
 def limit_files(rng):
@@ -398,6 +423,7 @@ KINDS = [
     (far_lengths, 'lists of more points', 60),
     (same_lists, 'one list for several', 5000),
     (codes, 'shape codes beyond a byte', 10000),
+    (each_code, 'one curve with each shape code', 8000),
     (each_place, 'each refusal at each place', 500),
     (pair_rooms, 'pair: out short, exact, longer', 8000),
     (pair_areas, 'pair: areas inside and outside', 8000),

@@ -126,7 +126,10 @@ def test_rounding_and_exact_values():
     # At a rated point the segments on both sides give the point's value.
     rising = [(0, 10, 200), (7, 90, 300), (20, 100, 5)]
     convex = [(0, 90, -2000), (7, 10, -100), (20, 100, 900)]
-    for shape, points in ((1, rising), (2, convex)):
+    falling = [(0, 100, -5), (13, 90, -300), (20, 10, -200)]
+    concave = [(0, 10, 2000), (7, 90, 100), (20, 0, -900)]
+    for shape, points in ((1, rising), (2, convex), (3, falling),
+                          (4, concave)):
         expect('two segments', check(points, shape), ('ok', 2))
         for segment, point in ((0, 0), (0, 1), (1, 1), (1, 2)):
             got = ref.segment_value(*lists(points), shape, segment,
@@ -136,6 +139,200 @@ def test_rounding_and_exact_values():
     dip = read([(0, 0, -10000), (2000, 0, 10000)], 2, 1000)
     expect('dip is read', dip[0], 'ok')
     expect('dip', -200000 <= dip[1] < 0, True)
+
+
+# Document 02, item 4: the points of K1 to K10 with 200,000 less the value
+# and the slopes' signs changed.
+MIRROR_STEEP = [(500, 190000, 0), (600, 186000, -10000)]
+MIRROR_K5 = [(500, 190000, -2000), (600, 186000, -6000)]
+MIRROR_K6 = [(0, 200000, -50), (2, 199999, -50)]
+MIRROR_K7 = [(0, 200000, 300), (2, 200000, -300)]
+MIRROR_K8 = [(0, 200000, 0), (2, 199999, -100)]
+MIRROR_K9 = [(0, 200000, -100), (100, 199900, -200)]
+MIRROR_K10 = [(0, 199995, 0), (10, 199995, -1)]
+
+
+def test_mirrored_readings():
+    """Item 4: K1 to K10 as shapes 3 and 4. Of K6 and K7 the exact values are
+    199,999.5 and 200,001.5, so that both go up; no other is a half."""
+    expect('K1', read(MIRROR_STEEP, 3, 550), ('ok', 200000 - 10889))
+    expect('K2', read(MIRROR_STEEP, 3, 525), ('ok', 200000 - 10229))
+    expect('K3', read(MIRROR_STEEP, 4, 550), ('ok', 200000 - 10800))
+    expect('K4', read(MIRROR_STEEP, 4, 525), ('ok', 200000 - 10182))
+    expect('K5', read(MIRROR_K5, 3, 501), ('ok', 200000 - 10020))
+    expect('K6', read(MIRROR_K6, 4, 1), ('ok', 200000))
+    expect('K7', read(MIRROR_K7, 4, 1), ('ok', 200002))
+    expect('K8', read(MIRROR_K8, 4, 1), ('ok', 200000))
+    expect('K9', read(MIRROR_K9, 4, 1), refused(6, 0))
+    expect('K9 check', check(MIRROR_K9, 4), refused(6, 0))
+    expect('K10', read(MIRROR_K10, 3, 1), refused(6, 0))
+    expect('K10 check', check(MIRROR_K10, 3), refused(6, 0))
+    for points, shape, area, value in (
+            (MIRROR_K6, 4, 1, Fraction(399999, 2)),
+            (MIRROR_K7, 4, 1, Fraction(400003, 2)),
+            (MIRROR_K8, 4, 1, Fraction(799999, 4))):
+        expect('exact', ref.exact_value(*lists(points), shape, area), value)
+    # With another shape code they are refused.
+    for points, shape in ((MIRROR_STEEP, 1), (MIRROR_STEEP, 2), (MIRROR_K5, 2),
+                          (STEEP, 3), (STEEP, 4), (K5, 4), (MIRROR_K7, 2)):
+        expect('another shape', check(points, shape), refused(6, 0))
+
+
+def test_one_rounding():
+    """Item 4: from 200,000 first, then rounded; and above 200,000."""
+    half = [(0, 1, -50), (2, 0, -50)]
+    for shape in (2, 3, 4):
+        expect('a half', ref.exact_value(*lists(half), shape, 1),
+               Fraction(1, 2))
+        expect('a half reads 1', read(half, shape, 1), ('ok', 1))
+    # Between equal slopes of both signs the curve is a parabola.
+    hill = [(0, 200000, 10000), (2000, 200000, -10000)]
+    for area, factor in ((0, 200000), (1, 200100), (1000, 250000),
+                         (1999, 200100), (2000, 200000)):
+        expect('hill', read(hill, 4, area), ('ok', factor))
+    expect('hill, exact', ref.exact_value(*lists(hill), 4, 1),
+           200000 + Fraction(1999, 20))
+    expect('hill, pair', pair(hill, 4, 1000, 0),
+           ('ok', 250000, 200000, -50000))
+
+
+def test_hyperbola_and_parabola():
+    """Three points of 3600 / (x + 10) with its derivatives: in each segment
+    d0 d1 is the chord's slope squared, and then shape 3 is the hyperbola. Of
+    500 + 20 x - x x / 8: the chord's slope is half way between d0 and d1, and
+    then shape 4 is the parabola."""
+    falling = [(0, 360, -3600), (10, 180, -900), (30, 90, -225)]
+    expect('falling', check(falling, 3), ('ok', 2))
+    for area in range(31):
+        value = Fraction(3600, area + 10)
+        expect('hyperbola', ref.exact_value(*lists(falling), 3, area), value)
+    for area, factor in ((0, 360), (5, 240), (9, 189), (10, 180), (11, 171),
+                         (22, 113), (29, 92), (30, 90)):
+        expect('falling at %d' % area, read(falling, 3, area), ('ok', factor))
+    concave = [(0, 500, 2000), (40, 1100, 1000), (100, 1250, -500)]
+    expect('concave', check(concave, 4), ('ok', 2))
+    for area in range(101):
+        value = 500 + 20 * area - Fraction(area * area, 8)
+        expect('parabola', ref.exact_value(*lists(concave), 4, area), value)
+    for area, factor in ((0, 500), (1, 520), (2, 540), (38, 1080), (40, 1100),
+                         (42, 1120), (80, 1300), (100, 1250)):
+        expect('concave at %d' % area, read(concave, 4, area), ('ok', factor))
+
+
+def test_three_points():
+    """Shape 4 on no parabola: at 50 the chord's 2,050 and 8 * 2,500 / 300, at
+    200 the chord's 1,550 and 42.75 * 10,000 / 1,400. Shape 3 after a level
+    segment: 100 - 90 p p, as its slopes are 0 and twice the chord's."""
+    concave = [(0, 2000, 500), (100, 2100, -100), (300, 1000, -1500)]
+    for area, factor in ((50, 2117), (100, 2100), (200, 1855), (300, 1000)):
+        expect('concave at %d' % area, read(concave, 4, area), ('ok', factor))
+    falling = [(0, 100, 0), (10, 100, 0), (20, 10, -1800)]
+    for area, factor in ((0, 100), (9, 100), (10, 100), (11, 99), (13, 92),
+                         (15, 78), (20, 10)):
+        expect('falling at %d' % area, read(falling, 3, area), ('ok', factor))
+    # The second segment has another shape.
+    for shape, points in ((3, [(0, 100, 0), (10, 90, 0), (20, 91, 0)]),
+                          (3, [(0, 100, 0), (10, 90, 0), (20, 80, 1)]),
+                          (4, [(0, 100, 500), (100, 200, -100),
+                               (300, 1100, 1500)])):
+        expect('refused', check(points, shape), refused(6, 1))
+
+
+def test_several_shapes():
+    """Points that fit several shapes read the same as each: straight lines,
+    of which a level one fits all."""
+    for points, slope, shapes in (
+            ([(0, 5, 0), (10, 5, 0), (20, 5, 0)], 0, (1, 2, 3, 4)),
+            ([(0, 0, 50), (2, 1, 50), (10, 5, 50)], 50, (1, 2, 4)),
+            ([(0, 5, -50), (8, 1, -50), (10, 0, -50)], -50, (2, 3, 4))):
+        for shape in range(1, 5):
+            expect('fits %d' % shape, check(points, shape),
+                   ('ok', 2) if shape in shapes else refused(6, 0))
+        for shape in shapes:
+            for area in range(points[-1][0] + 1):
+                value = points[0][1] + Fraction(area * slope, 100)
+                expect('line', read(points, shape, area),
+                       ('ok', (value + Fraction(1, 2)) // 1))
+
+
+def random_curves(shape, number):
+    """Random curves of a shape, with 20 of their areas in order."""
+    rng = random.Random('shape %d' % shape)
+    for _ in range(number):
+        points = curves.some_curve(rng, shape)
+        first, last = points[0][0], points[-1][0]
+        areas = sorted(rng.randint(first, last) for _ in range(20))
+        yield (*lists(points), shape), areas
+
+
+def test_larger_areas():
+    """Document 01's third demand, shape 1; document 02, item 4, shape 3."""
+    for shape, sign in ((1, 1), (3, -1)):
+        for curve, areas in random_curves(shape, 200):
+            factors = [sign * ref.factor(*curve, area) for area in areas]
+            expect('shape %d' % shape, factors, sorted(factors))
+            ends = [sign * curve[1][0], sign * curve[1][-1]]
+            expect('between the ends', ends[0] <= factors[0]
+                   and factors[-1] <= ends[1], True)
+
+
+def changes(curve, areas):
+    """By how much the second of two equal steps is larger than the first."""
+    for x, z in zip(areas, areas[5:]):
+        k = (z - x) // 2
+        first, middle, last = (ref.factor(*curve, area)
+                               for area in (x, x + k, x + 2 * k))
+        yield (last - middle) - (middle - first)
+
+
+def test_three_areas():
+    """Document 01's third demand, shape 2; document 02, item 4, shape 4. Also
+    the exact values' chords, from left to right."""
+    for shape, sign in ((2, 1), (4, -1)):
+        least = 0
+        for curve, areas in random_curves(shape, 200):
+            least = min([least, *(sign * c for c in changes(curve, areas))])
+            at = sorted(set(areas))
+            values = [ref.exact_value(*curve, area) for area in at]
+            chords = [sign * (values[i + 1] - values[i]) / (at[i + 1] - at[i])
+                      for i in range(len(at) - 1)]
+            expect('chords', chords, sorted(chords))
+        expect('shape %d' % shape, least, -1)
+
+
+def test_mirror_images():
+    """Item 4: a reading and its mirror's make 200,000, and 1 more where both
+    are halves that went up."""
+    for shape, other in ((3, 1), (4, 2)):
+        seen = set()
+        for (areas, values, slopes, _), places in random_curves(shape, 200):
+            mirror = (areas, [200000 - value for value in values],
+                      [-slope for slope in slopes], other)
+            expect('accepted', ref.check(*mirror), ('ok', len(areas) - 1))
+            for area in places:
+                value = ref.exact_value(*mirror, area)
+                both = (ref.factor(areas, values, slopes, shape, area)
+                        + ref.factor(*mirror, area))
+                expect('both', both, 200000 + (value.denominator == 2))
+                seen.add(both)
+        expect('sums', seen, {200000, 200001})
+
+
+def test_range():
+    """No factor is below -200,000 or above 400,000; values and areas at their
+    limits."""
+    rng = random.Random('range')
+    least, most = 0, 0
+    for _ in range(2000):
+        points, shape = curves.limit_curve(rng)
+        middle = (points[0][0] + points[1][0]) // 2
+        factor = read(points, shape, middle)[1]
+        least, most = min(least, factor), max(most, factor)
+        if shape in (1, 3):
+            expect('between the values', min(point[1] for point in points)
+                   <= factor <= max(point[1] for point in points), True)
+    expect('least', -200000 <= least < -49000, True)
+    expect('most', 249000 < most <= 400000, True)
 
 
 def test_segment_read():
@@ -172,6 +369,28 @@ def test_has_shape():
         ('both slopes above', 2, (500, 0, 101), (600, 100, 102), False),
         ('both slopes below', 2, (500, 0, 98), (600, 100, 99), False),
         ('convex, falling', 2, (500, 100, -101), (600, 0, -99), True),
+        # Document 02, item 4.
+        ('falling', 3, (0, 1, 0), (10, 0, 0), True),
+        ('falling, both slopes', 3, (0, 1, -10000), (10, 0, -1), True),
+        ('falling, left slope above 0', 3, (0, 1, 1), (10, 0, 0), False),
+        ('falling, right slope above 0', 3, (0, 1, 0), (10, 0, 1), False),
+        ('constant', 3, (0, 5, 0), (10, 5, 0), True),
+        ('constant, left slope', 3, (0, 5, -1), (10, 5, 0), False),
+        ('constant, right slope', 3, (0, 5, 0), (10, 5, -1), False),
+        ('constant, left slope above 0', 3, (0, 5, 1), (10, 5, 0), False),
+        ('rising', 3, (0, 4, 0), (10, 5, 0), False),
+        ('rising, slopes below 0', 3, (0, 4, -1), (10, 5, -1), False),
+        ('falling by all of it', 3, (0, 200000, 0), (1, 0, 0), True),
+        ('concave', 4, (500, 0, 101), (600, 100, 99), True),
+        ('straight', 4, (500, 0, 100), (600, 100, 100), True),
+        ('left equal only', 4, (500, 0, 100), (600, 100, 99), False),
+        ('right equal only', 4, (500, 0, 101), (600, 100, 100), False),
+        ('convex', 4, (500, 0, 99), (600, 100, 101), False),
+        ('both slopes above', 4, (500, 0, 102), (600, 100, 101), False),
+        ('both slopes below', 4, (500, 0, 99), (600, 100, 98), False),
+        ('concave, falling', 4, (500, 100, -99), (600, 0, -101), True),
+        ('concave, level', 4, (500, 7, 1), (600, 7, -1), True),
+        ('level', 4, (500, 7, 0), (600, 7, 0), True),
     ]
     for name, shape, left, right, wanted in cases:
         expect(name, check([left, right], shape),
@@ -188,7 +407,7 @@ def test_rows_1_to_6():
     expect('values longer', ref.check([0, 1], [5, 5, 5], [0, 0], 1),
            refused(1, 0))
     expect('slopes shorter', ref.check([0, 1], [5, 5], [0], 1), refused(1, 0))
-    for shape in (0, 3, 255):
+    for shape in (0, 5, 6, 255, 256, 257, 2**31 + 3, 2**32 - 4, LARGEST):
         expect('shape %d' % shape, check(flat(2), shape), refused(2, 0))
     ok, big = (19999, 5, 0), (20001, 5, 0)
     expect('area 20,000', check([ok, (20000, 5, 0)], 1), ('ok', 1))
@@ -308,7 +527,7 @@ def test_open():
            refused(1, 0))
 
 
-# Two files by hand: -900 is 0xFFFFFC7C, 20,000 is 0x4E20, 200,000 is 0x30D40,
+# Files by hand: -900 is 0xFFFFFC7C, 20,000 is 0x4E20, 200,000 is 0x30D40,
 # 10,000 is 0x2710 and -10,000 is 0xFFFFD8F0.
 FALLING = [(100, 12000, -900), (300, 11000, -200)]
 FILE_FALLING = bytes.fromhex('54 52 46 01 00 02 02'
@@ -319,7 +538,13 @@ FILE_HIGH = bytes.fromhex('54 52 46 01 00 02 03'
                           '50 46 00 00 40 0D 03 00 F0 D8 FF FF'
                           '38 4A 00 00 F0 49 02 00 01 00 00 00'
                           '20 4E 00 00 40 0D 03 00 10 27 00 00')
-FILES = [(STEEP, 2, FILE_31), (FALLING, 2, FILE_FALLING), (HIGH, 2, FILE_HIGH)]
+HILL = [(18000, 150000, 10000), (20000, 150000, -10000)]
+FILE_HILL = bytes.fromhex('54 52 46 01 00 04 02'
+                          '50 46 00 00 F0 49 02 00 10 27 00 00'
+                          '20 4E 00 00 F0 49 02 00 F0 D8 FF FF')
+FILES = [(STEEP, 2, FILE_31), (FALLING, 2, FILE_FALLING), (HIGH, 2, FILE_HIGH),
+         (FALLING, 3, FILE_FALLING[:5] + b'\3' + FILE_FALLING[6:]),
+         (HILL, 4, FILE_HILL)]
 
 
 def test_write():
@@ -353,8 +578,10 @@ def test_write_refusals():
         (flat(65), 1, 1, 0),
         (flat(1), 1, 1, 0),
         ([], 1, 1, 0),
-        (flat(2), 3, 2, 0),
+        (flat(2), 0, 2, 0),
+        (flat(2), 5, 2, 0),
         (flat(2), 258, 2, 0),
+        (flat(2), 259, 2, 0),
         ([start, (1, 5, 0), (20001, 5, 0)], 1, 3, 2),
         ([start, (1, 200001, 0)], 1, 4, 1),
         ([(0, 5, -10001), (1, 5, 0)], 2, 5, 0),
@@ -371,7 +598,8 @@ def test_write_refusals():
 def test_write_and_open():
     """Document 02, item 1: it opens as the points and shape that went in."""
     curves = [(points, shape) for points, shape, _ in FILES]
-    curves += [(flat(64, 317), 1), (K5, 1), (K6, 2), (K7, 2), (K8, 2)]
+    curves += [(flat(64, 317), 1), (K5, 1), (K6, 2), (K7, 2), (K8, 2),
+               (flat(64, 317), 3), (K6, 4), (MIRROR_K7, 4), (MIRROR_K5, 3)]
     for points, shape in curves:
         count = len(points)
         data = write(points, shape, b'\xff' * 900)[2][:7 + 12 * count]
@@ -520,7 +748,9 @@ def bad_files():
     """Files for each of rows 2 to 6, with the number and the place."""
     start = (0, 5, 0)
     return [
-        (curve_file(flat(2), 3), 2, 0),
+        (curve_file(flat(2), 0), 2, 0),
+        (curve_file(flat(2), 5), 2, 0),
+        (curve_file(flat(2), 255), 2, 0),
         (curve_file([start, (LARGEST, 5, 0)], 1), 3, 1),
         (curve_file([start, (2**24 + 1, 5, 0)], 1), 3, 1),
         (curve_file([start, (1, LARGEST, 0)], 1), 4, 1),
@@ -528,6 +758,8 @@ def bad_files():
         (curve_file([start, (1, 5, -2**31)], 1), 5, 1),
         (curve_file(K9, 2), 6, 0),
         (curve_file(flat(2) + [(2, 4, 0)], 1), 6, 1),
+        (curve_file(flat(2) + [(2, 6, 0)], 3), 6, 1),
+        (curve_file([(0, 5, 0), (1, 4, -101), (2, 3, -101)], 4), 6, 1),
     ]
 
 
@@ -552,6 +784,11 @@ def test_desk():
     expect('desk, scratch of 24', ref.desk(FILE_31, 525, bytes(24)),
            (10182, FILE_31[7:]))
     expect('desk, below 0', ref.desk(curve_file(K7, 2), 1, bytes(24))[0], -1)
+    expect('desk, above 200,000',
+           ref.desk(curve_file(MIRROR_K7, 4), 1, bytes(24)),
+           (200002, curve_file(MIRROR_K7, 4)[7:]))
+    expect('desk, falling', ref.desk(curve_file(MIRROR_STEEP, 3), 550,
+                                     bytes(24))[0], 189111)
     expect('desk, scratch of 23', ref.desk(FILE_31, 550, bytes(23)),
            (-1000011, bytes(23)))
     expect('desk, 499', ref.desk(FILE_31, 499, scratch), (-1000007, scratch))
@@ -587,6 +824,13 @@ def test_c_answers():
                (-11 * 2**32, [4, 5]))
     expect('sheet', ref.curve_sheet(*steep, 2, 500, 25, [0] * 5),
            (5, [10000, 10182, 10800, 12000, 14000]))
+    below = lists(MIRROR_STEEP)
+    expect('falling, read', ref.curve_read(*below, 3, 550), (189111,))
+    expect('falling, pair', ref.curve_pair(*below, 3, 525, 550, [4, 5, 6, 7]),
+           (3, [189771, 189111, -660, 7]))
+    expect('concave, sheet', ref.curve_sheet(*below, 4, 500, 25, [0] * 5),
+           (5, [190000, 189818, 189200, 188000, 186000]))
+    expect('no such shape', ref.curve_read(*below, 5, 550), (-2 * 2**32,))
     expect('sheet, entry 5', ref.curve_sheet(*steep, 2, 500, 25, [9] * 7),
            (-7 * 2**32 - 5, [9] * 7))
     expect('sheet, step 0', ref.curve_sheet(*steep, 2, 500, 0, [9]),
@@ -603,6 +847,12 @@ def test_c_open():
     expect('open, rising', ref.curve_open(curve_file(flat(3), 1), [0] * 3,
                                           [0] * 3, [1] * 3),
            (259, [0, 1, 2], [5, 5, 5], [0, 0, 0]))
+    expect('open, falling', ref.curve_open(curve_file(MIRROR_K5, 3), [7] * 2,
+                                           [7] * 2, [7] * 2),
+           (770, [500, 600], [190000, 186000], [-2000, -6000]))
+    expect('open, concave', ref.curve_open(FILE_HILL, [7] * 2, [7] * 2,
+                                           [7] * 2),
+           (1026, [18000, 20000], [150000] * 2, [10000, -10000]))
     expect('open, a list short', ref.curve_open(FILE_31, [7], [8, 8], [9, 9]),
            (-11 * 2**32, [7], [8, 8], [9, 9]))
     expect('open, no shape', ref.curve_open(curve_file(K9, 2), [7, 7], [8, 8],
@@ -653,6 +903,12 @@ def test_ratesheet():
     expect('31 bytes', ref.ratesheet(FILE_31), PRINTED_31)
     expect('not beyond the last', ref.ratesheet(curve_file(flat(2, 60), 1)),
            'shape 1 points 2\n0 5\n25 5\n50 5\n')
+    expect('falling', ref.ratesheet(curve_file(MIRROR_STEEP, 3)),
+           'shape 3 points 2\n500 190000\n525 189771\n550 189111\n'
+           '575 187943\n600 186000\n')
+    expect('concave', ref.ratesheet(curve_file(MIRROR_STEEP, 4)),
+           'shape 4 points 2\n500 190000\n525 189818\n550 189200\n'
+           '575 188000\n600 186000\n')
     expect('775 bytes', ref.ratesheet(curve_file(flat(64), 1)),
            'shape 1 points 64\n0 5\n25 5\n50 5\n')
     file_65 = curve_file(flat(65), 1)

@@ -1,5 +1,5 @@
 """Wrong versions of bench/plain.c: the first text, which occurs there once,
-becomes the second."""
+becomes the second. Those of the shapes are in wrong_shapes.py."""
 
 CHECKED = '''\
     int64_t fault = lists_fault(c, values_len, slopes_len, shape);
@@ -23,8 +23,6 @@ POINTS = [
     ('(a == 0 && b == 0)', '(a == 0)'),
     ('(a == 0 && b == 0)', '(b == 0)'),
     ('|| (a == 0 && b == 0)', ''),
-    ('return rise == 0 && (l.slope', 'return rise <= 0 && (l.slope'),
-    ('return (l.slope | r.slope) >= 0;', 'return l.slope >= 0;'),
     # the curve and the rounding
     ('int64_t w = a * u + b * t;', 'int64_t w = a * t + b * u;'),
     ('(uint64_t)den;', '0;'),
@@ -57,11 +55,6 @@ FILES = [
     (FILE_COUNT, FILE_COUNT.replace('> 64', '> 65')),
     (FILE_COUNT, FILE_COUNT.replace('> 64', '>= 64')),
     (FILE_COUNT, FILE_COUNT.replace('< 2', '< 3')),
-    ('''shape != 2)
-        return refused(2, 0);
-    return shape == 1 ? scan(''', '''shape > 3)
-        return refused(2, 0);
-    return shape == 1 ? scan('''),
     ('shapeless < count ? refused(6, shapeless)',
      'shapeless < count ? refused(5, shapeless)'),
 ]
@@ -93,14 +86,8 @@ CHECK = [
     ('c.count < 2 ||', 'c.count < 1 ||'),
     ('c.count < 2 || c.count > 64', 'c.count < 2 || c.count > 65'),
     ('c.count < 2 || c.count > 64', 'c.count < 2 || c.count >= 64'),
-    # a shape code cut to a byte; the shape code before the lengths
-    ('''    if (shape != 1 && shape != 2)
-        return refused(2, 0);
-    return shape == 1 ? scan_lists''', '''    shape &= 255;
-    if (shape != 1 && shape != 2)
-        return refused(2, 0);
-    return shape == 1 ? scan_lists'''),
-    ('    if (values_len != c.count', '''    if (shape != 1 && shape != 2)
+    # the shape code before the lengths
+    ('    if (values_len != c.count', '''    if (shape < 1 || shape > 4)
         return refused(2, 0);
     if (values_len != c.count'''),
     # places, the last segment for the first, segments before later points
@@ -412,8 +399,9 @@ FILL_POINT = '        point p = {areas[i], values[i], 0};\n'
 FILL_PLACE = '''\
             return refused(fault, i);
         if (i > 0'''
-FALLING = 'values[i] < values[i - 1] && falling == count'
-FALLING_AT = '            falling = i - 1;\n'
+FALL = 'values[i] < values[i - 1] && fall == count'
+FALL_AT = '            fall = i - 1;\n'
+FALL_REFUSED = 'return fall < count ? refused(6, fall) : 0;'
 FILL_FAULT = '''\
     int64_t fault = rising_fault(areas, values, count);
     if (fault)
@@ -469,15 +457,17 @@ FILL_ROWS = [
         if (values[i] > 200000)
             return refused(4, i);
 ''' + FILL_POINT),
-    ('    size_t falling = count;\n',
-     '    size_t falling = count;\n' + AREAS_FIRST),
+    ('    size_t fall = count;\n', '    size_t fall = count;\n' + AREAS_FIRST),
     (FILL_PLACE, FILL_PLACE.replace('(fault, i)', '(fault, 0)')),
     # row 6: its place, level segments, later points
-    (FALLING_AT, '            falling = i;\n'),
-    (FALLING_AT, '            return refused(6, i - 1);\n'),
-    (FALLING, 'values[i] < values[i - 1]'),
-    (FALLING, 'values[i] <= values[i - 1] && falling == count'),
-    (FALLING, 'values[i] + 1 < values[i - 1] && falling == count'),
+    (FALL_AT, '            fall = i;\n'),
+    (FALL_AT, '            return refused(6, i - 1);\n'),
+    (FALL, 'values[i] < values[i - 1]'),
+    (FALL, 'values[i] <= values[i - 1] && fall == count'),
+    (FALL, 'values[i] + 1 < values[i - 1] && fall == count'),
+    # row 6: not for a curve that falls from end to end
+    (FALL_REFUSED, FALL_REFUSED.replace(
+        '?', '&& values[0] <= values[count - 1] ?')),
     # row 5: before row 6, its limit, slopes cut before it is tried
     (FILL_START, SLOPES_ON_THE_WAY),
     (FILL_ROW_5, FILL_ROW_5.replace('> 10000', '>= 10000')),

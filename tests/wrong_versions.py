@@ -4,8 +4,9 @@
 
 Builds client.c and far_lengths.c with the plain C version of bench/, which
 must pass on the file CASES, then with the wrong versions of it that
-wrong_edits.py has, which must not. With "threads" also threads.c under the
-thread sanitizer. Nor may the client pass on streams that leave something out.
+wrong_edits.py and wrong_shapes.py have, which must not. With "threads" also
+threads.c under the thread sanitizer. Nor may the client pass on streams that
+leave something out.
 """
 
 import multiprocessing.pool
@@ -15,6 +16,7 @@ import subprocess
 import sys
 
 import wrong_edits
+import wrong_shapes
 
 HERE = os.path.dirname(os.path.abspath(__file__))
 ROOT = os.path.join(HERE, '..')
@@ -24,6 +26,7 @@ CALLS = ['desk_reading', 'curve_check', 'curve_read', 'curve_pair',
 FLAGS = ['-std=c99', '-I' + os.path.join(ROOT, 'include'),
          '-I' + os.path.join(ROOT, 'bench')]
 FLAGS += ['-Dplain_%s=%s' % (call, call) for call in CALLS]
+COMPARED = wrong_edits.COMPARED + wrong_shapes.COMPARED
 
 
 class Test:
@@ -68,7 +71,7 @@ THREADS = Test('threads', ['1', '1'], ['threads', 'stream'],
 
 def jobs(with_threads):
     """(test, edit), the edit (None, None) for the right version."""
-    groups = [(CLIENT, edits) for _, edits in wrong_edits.COMPARED]
+    groups = [(CLIENT, edits) for _, edits in COMPARED]
     groups += [(FAR, wrong_edits.FAR)]
     if with_threads:
         groups += [(THREADS, wrong_edits.SHARED)]
@@ -134,7 +137,7 @@ def main():
     faults += left_out(os.path.join(folder, 'client0'), cases)
     for fault in faults:
         print('FAILED ' + fault)
-    for name, edits in wrong_edits.COMPARED:
+    for name, edits in COMPARED:
         print('  %8d  %s' % (len(edits), name))
     wrong = [test for test, (old, _) in todo if old is not None]
     print('  %8d  of lengths beyond 32 bits' % wrong.count(FAR))
