@@ -125,18 +125,17 @@ static inline int32_t convex(point l, point r, int64_t t, int64_t u)
     return (int32_t)floor_div(n, 2 * scale);
 }
 
-/* The chord plus au bt / (100 h w), rounded once; w is 1 on a straight line. */
+/* The chord plus au bt / (100 h (au + bt)), rounded once. */
 static inline int32_t concave(point l, point r, int64_t t, int64_t u)
 {
     int64_t h = t + u;
     int64_t g = 100 * ((int64_t)r.value - l.value);
     uint64_t au = (uint64_t)((g - h * r.slope) * u);
     uint64_t bt = (uint64_t)((h * l.slope - g) * t);
-    uint64_t w = au + bt + (au + bt == 0);
-    uint64_t line = (uint64_t)(200 * (l.value * u + r.value * t) + 100 * h);
-    unsigned __int128 n = (unsigned __int128)line * w +
-                          (unsigned __int128)au * (2 * bt);
-    return (int32_t)(n / ((uint64_t)(200 * h) * w));
+    uint64_t n = (uint64_t)(200 * (l.value * u + r.value * t) + 100 * h);
+    if (au + bt != 0)
+        n += (uint64_t)((unsigned __int128)au * (2 * bt) / (au + bt));
+    return (int32_t)(n / (uint64_t)(200 * h));
 }
 
 static inline int32_t segment_factor(point l, point r, uint32_t shape,

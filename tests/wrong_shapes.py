@@ -74,13 +74,10 @@ FALLING = 'return falling(l, r, t, u);'
 CONCAVE = 'return concave(l, r, t, u);'
 SAG_LEFT = '(g - h * r.slope) * u'
 SAG_RIGHT = '(h * l.slope - g) * t'
-NOT_ZERO = ' + (au + bt == 0)'
+NOT_ZERO = 'if (au + bt != 0)'
 LINE = '200 * (l.value * u + r.value * t) + 100 * h'
-SAG = '''\
-    unsigned __int128 n = (unsigned __int128)line * w +
-                          (unsigned __int128)au * (2 * bt);
-'''
-LAST_DIVISION = 'return (int32_t)(n / ((uint64_t)(200 * h) * w));'
+SAG = 'n += (uint64_t)((unsigned __int128)au * (2 * bt) / (au + bt));'
+LAST_DIVISION = 'return (int32_t)(n / (uint64_t)(200 * h));'
 
 CURVES = [
     # falling: signs, slopes and values exchanged, read from the other end
@@ -114,7 +111,7 @@ CURVES = [
     (SAG_LEFT, '(g - h * r.slope) * t'),
     (SAG_RIGHT, '(h * l.slope - g) * u'),
     # concave: below the chord, the chord alone, its ends exchanged
-    (SAG, SAG.replace('w +\n', 'w -\n')),
+    (SAG, SAG.replace('+=', '-=')),
     (SAG, SAG.replace('(2 * bt)', '0')),
     (SAG, SAG.replace('(2 * bt)', 'bt')),
     (LINE, '200 * (l.value * t + r.value * u) + 100 * h'),
@@ -125,14 +122,13 @@ CURVES = [
     (CONCAVE, MIRRORED_ENDS + '    return 200000 - convex(first, last, t, u);'),
     (CONCAVE, MIRRORED_ENDS + '    return convex(first, last, t, u);'),
     # concave: the sag rounded by itself
-    (LAST_DIVISION, '''\
-uint64_t sag = (uint64_t)((unsigned __int128)au * bt / w);
-    return (int32_t)(line / (uint64_t)(200 * h) +
-                     (sag + 50 * (uint64_t)h) / (uint64_t)(100 * h));'''),
+    (SAG, '''\
+return (int32_t)(n / (uint64_t)(200 * h) +
+                         ((uint64_t)((unsigned __int128)au * bt / (au + bt)) +
+                          50 * (uint64_t)h) / (uint64_t)(100 * h));'''),
     # concave: 64 bits for a product, nothing done about 0
-    (SAG, SAG.replace('(unsigned __int128)line', 'line')),
     (SAG, SAG.replace('(unsigned __int128)au', 'au')),
-    (NOT_ZERO, ''),
+    (NOT_ZERO, 'if (1)'),
     # concave: the curve of another shape
     (CONCAVE, 'return convex(l, r, t, u);'),
     (CONCAVE, 'return rising(l, r, t, u);'),

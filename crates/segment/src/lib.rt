@@ -93,9 +93,9 @@ struct Bent {
     b: u64,
 }
 
-// Hundredths, and what is left of the division that they come from.
+// A sum of hundredths, and what is left of the division in it.
 struct Sum {
-    hundredths: u64,
+    sum: u64,
     rest: u64,
 }
 
@@ -105,25 +105,25 @@ struct Sum {
 // an h that is the same for all of them is 0.
 fn raised(ties: u64, t: u64, u: u64, h: u64, left: u64, d: u64, a: u64, b: u64) -> Sum
     requires { ⌜ ConvexInput t u h left d a b ⌝ }
-    ensures hundreds { λ s. ⌜ s .hundredths / 100 ≡ inner.raised t u h left d a b / 100 ⌝ }
+    ensures hundreds { λ s. ⌜ s .sum / 100 ≡ inner.raised t u h left d a b / 100 ⌝ }
     ensures tie { λ s. ⌜ (ties ≡ 1 →
-        ends-in-0 (s .rest) (s .hundredths) ≡ convex-tie t u h left d a b) ⌝ }
+        ends-in-0 (s .rest) (s .sum) ≡ convex-tie t u h left d a b) ⌝ }
 {
     let tangent = 50 * (2 * left + 1) + d * t;
     let w = b * t;
     if w == 0 {
         return Sum {
-            hundredths: tangent,
+            sum: tangent,
             rest: 0,
         };
     }
     let divisor = a * u + w;
     // b h is the largest w of the segment. It is asked, and not w, so that all areas of a segment take one branch.
     if b * h < 0x1_0000_0000 {
-        return Sum {
-            hundredths: tangent + w * w / (divisor * (t + u)),
-            rest: w * w % (divisor * (t + u)),
-        };
+        let c = divisor * (t + u);
+        let sum = tangent + w * w / c;
+        let rest = w * w % c;
+        return Sum { sum, rest };
     }
     // w w may pass 64 bits. From the leading bits the sum is at most 1 too low, which changes the last two digits alone unless
     // they are 99; unless they are 99 or 0, the value is no exact half.
@@ -131,15 +131,14 @@ fn raised(ties: u64, t: u64, u: u64, h: u64, left: u64, d: u64, a: u64, b: u64) 
     let least = tangent + v * v / (divisor * h / 1024 + 1);
     if (least + 1) % 100 > ties {
         return Sum {
-            hundredths: least,
+            sum: least,
             rest: 1,
         };
     }
     let s = exact::mul_div(w, w, divisor);
-    Sum {
-        hundredths: tangent + s.q / (t + u),
-        rest: s.r + s.q % (t + u),
-    }
+    let sum = tangent + s.q / (t + u);
+    let rest = s.r + s.q % (t + u);
+    Sum { sum, rest }
 }
 
 // An area of a convex segment.
@@ -164,18 +163,18 @@ fn bent_at(p: Point, q: Point, area: u32) -> Bent
 
 // The value of raised hundredths.
 fn lowered(t: u64, s: Sum) -> Nearest
-    requires { ⌜ RaisedSize t (s .hundredths) ⌝ }
-    ensures value { λ r. ⌜ r .value ≡ floorDiv (pos (s .hundredths) -ℤ pos (slope-most * t)) 100 ⌝ }
-    ensures tie { λ r. ⌜ r .tie ≡ ends-in-0 (s .rest) (s .hundredths) ⌝ }
+    requires { ⌜ RaisedSize t (s .sum) ⌝ }
+    ensures value { λ r. ⌜ r .value ≡ floorDiv (pos (s .sum) -ℤ pos (slope-most * t)) 100 ⌝ }
+    ensures tie { λ r. ⌜ r .tie ≡ ends-in-0 (s .rest) (s .sum) ⌝ }
 {
-    let n = (s.hundredths as i64) - ((SLOPE_MOST as u64 * t) as i64);
+    let n = (s.sum as i64) - ((SLOPE_MOST as u64 * t) as i64);
     let value = exact::floor_div(n, 100) as i32;
     if s.rest != 0 {
         return Nearest { value, tie: false };
     }
     Nearest {
         value,
-        tie: s.hundredths % 100 == 0,
+        tie: s.sum % 100 == 0,
     }
 }
 

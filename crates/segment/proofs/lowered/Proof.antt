@@ -47,7 +47,7 @@ sub-n c = let k = c .before .pre in rw (lowered-read k) (lowered-fits k)
 -- the quotient
 value-is : (c : tie.After-floor-div) →
     (let s = c .before .before .args in
-    toZ w64 (ofZ w64 (c .floor-div .result)) ≡ floorDiv (pos (s .s .hundredths) -ℤ pos (slope-most * s .t)) 100)
+    toZ w64 (ofZ w64 (c .floor-div .result)) ≡ floorDiv (pos (s .s .sum) -ℤ pos (slope-most * s .t)) 100)
 value-is c =
     let k = c .before .before .pre in
     toZ-ofZ (record { sfits = c .floor-div .ok }) ∙ (rw (lowered-read k, toZ-ofZ (lowered-fits k)) at (c .floor-div .ensures))

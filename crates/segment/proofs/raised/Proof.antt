@@ -19,19 +19,19 @@ returns c = (
 )
 
 -- w w in 64 bits
-mul-t20 : tie.Need-mul-t20
-mul-t20 c =
+mul-sum : tie.Need-mul-sum
+mul-sum c =
     let n = w-most (c .before .before .pre) in
     record { fits = product-size 32 32 (omega arith) (omega arith) }
 
-mul-t22 : tie.Need-mul-t22
-mul-t22 c = let k = c .before .before .pre in rw (← k .sum) (omega (arith, denominator-size k))
+mul-c : tie.Need-mul-c
+mul-c c = let k = c .before .before .pre in rw (← k .sum) (omega (arith, denominator-size k))
 
-div-t23 : tie.Need-div-t23
-div-t23 c = let k = c .before .before .pre in rw (← k .sum) (mul-pos (omega arith) (h-positive k))
+div-sum : tie.Need-div-sum
+div-sum c = let k = c .before .before .pre in rw (← k .sum) (mul-pos (omega arith) (h-positive k))
 
-add-t24 : tie.Need-add-t24
-add-t24 c = let k = c .before .before .pre in rw (← k .sum) (omega (arith, raised-size k))
+add-sum : tie.Need-add-sum
+add-sum c = let k = c .before .before .pre in rw (← k .sum) (omega (arith, raised-size k))
 
 returns-2 : tie.Need-returns-2
 returns-2 c = rw (c .before .before .pre .sum) (refl, λ _. refl)
@@ -64,13 +64,13 @@ mul-div-requires c κs =
     let n = divisor-size (c .before .before .before .pre) in
     record { part = omega arith; above-0 = omega arith; divisor = omega arith; factor = omega arith }
 
-add-t29 : tie.Need-add-t29
-add-t29 c =
+add-sum-3 : tie.Need-add-sum-3
+add-sum-3 c =
     let k = c .before .before .before .before .before .pre in
     omega (arith, full-sum k (c .before .mul-div .ensures) (omega arith), raised-size k)
 
-add-t30 : tie.Need-add-t30
-add-t30 c =
+add-rest-2 : tie.Need-add-rest-2
+add-rest-2 c =
     let l = c .before .before .before in
     let k = l .before .before .before .before .pre in
     omega (arith, full-rest k (l .mul-div .ensures) (omega arith), divisor-size k)
@@ -86,7 +86,7 @@ raised-spec =
     tie.close
     (tie.spec (search needs) (search needs) (search needs) (omega (arith, tangent-size)) (omega (arith, tangent-size))
     (omega (arith, divisor-size)) returns (omega (arith, divisor-size)) (omega (arith, divisor-size))
-    (omega (arith, w-most-size)) mul-t20 (search needs) mul-t22 div-t23 add-t24 mul-t20 (search needs) mul-t22 div-t23 returns-2
+    (omega (arith, w-most-size)) (search needs) mul-c mul-sum div-sum add-sum mul-sum div-sum returns-2
     mul-least (omega (arith, denominator-size)) (omega (arith, denominator-size)) (search needs) add-least-2 add-if3 returns-3
-    mul-div-requires (search needs) (omega (arith, h-positive)) add-t29 (search needs) (omega (arith, h-positive)) add-t30
+    mul-div-requires (search needs) (omega (arith, h-positive)) add-sum-3 (search needs) (omega (arith, h-positive)) add-rest-2
     returns-4)
