@@ -24,7 +24,7 @@ use Rattle.model.specs.Check.{lengths-differ, curve-rows, on-lists, on-l
 use Rattle.model.specs.Read.{outside, reading, read-answer}
 use Rattle.model.specs.Laws.{Curve}
 use Rattle.model.specs.Inner.{read-rows, Accepted, Alike}
-use Rattle.model.proofs.Laws.{factors-are-ranged}
+use Rattle.model.proofs.Laws.{factors-are-bounded}
 use Rattle.model.proofs.Lists.{points-of-fields, same-lengths-of}
 use Rattle.model.proofs.Rows.{gives-injective, refused≢gives, then-first, then-rest, row-passed, row-refused}
 use Rattle.model.proofs.Rows.{alike-of-row-1}
@@ -120,7 +120,7 @@ pub factor-is-high : (ps : List Point) (code x : ℕ) {f : ℤ} → read-answer 
 factor-is-high ps code x e =
     let g = given ps code x e in
     let c : Curve = record { points = ps; code = code; accepted = g .accepted .none-applies } in
-    subst (λ z. negℤ (pos 200000) ≤ℤ z) (g .factor) (factors-are-ranged c x (record { within = g .within }) .low)
+    subst (λ z. negℤ (pos 200000) ≤ℤ z) (g .factor) (factors-are-bounded c x (record { within = g .within }) .low)
 
 -- from before a result to before whatever follows
 pub refused-before : {A B : Type 0} {n i : ℕ} (rows : Answer (Unit {0})) (b : Bool) (m : ℕ) (x : A) (rest : Answer B) →

@@ -1,7 +1,7 @@
 -- The laws of an accepted curve, from the relations across it. Those that document 01 and request 4 state of exact values:
 -- segments-meet, convex-chords, concave-chords (specs/Laws.antt). Of factors, for the demands over every call:
 --   factors-are-near      at most half a unit off; where it is exactly half a unit, upwards
---   factors-are-ranged    from −200,000 to 400,000
+--   factors-are-ranged    from least-factor to most-factor of the curve's rule; factors-are-bounded, from −200,000 to 400,000
 --   rated-points-read     at a rated point the factor is the point's value
 --   rising-factors        a larger area never reads less, on a rising curve
 --   convex-steps          of three areas equally far apart, the second step is at most one unit smaller, on a convex curve
@@ -13,7 +13,7 @@ use mathlib.Core.Logic.{inl, inr}
 use Prim.Native.Nat.{ℕ, zero, suc, _+_, _*_, _≤_, _<_}
 use native.Mathlib.Nat.{le-of-lt, le-of-eq}
 use native.Mathlib.Omega.{arith}
-use lib.IntN.{ℤ, pos, _+ℤ_, _-ℤ_, _*ℤ_}
+use lib.IntN.{ℤ, pos, negℤ, _+ℤ_, _-ℤ_, _*ℤ_}
 use lib.ListN.{length, getD, length-map, length-append, List·getD-map}
 use lib.Signed.{_≤ℤ_}
 use Rattle.exact.specs.Fraction.{Fraction, Proper, whole, _+ℚ_, _-ℚ_, _*ℚ_, _≈ℚ_, _≤ℚ_}
@@ -27,7 +27,7 @@ use Rattle.exact.proofs.Rounding.{round-rounding, round-is-half-up, rounding-at
 use Rattle.model.specs.Points.{value-most, Point, Segment, Shape, rising, convex, Rule, plain, rule-of}
 use Rattle.model.specs.Interpolant.{interpolant, exact-curve}
 use Rattle.model.specs.Read.{reading}
-use Rattle.model.specs.Laws.{Curve, Area, exact, SegmentsMeet, chord-slope, ConvexChords, ConcaveChords}
+use Rattle.model.specs.Laws.{least-factor, most-factor, Curve, Area, exact, SegmentsMeet, chord-slope, ConvexChords, ConcaveChords}
 use Rattle.model.specs.Inner.{Accepted, origin, point-at, segment-at, areas-of, Good, Inside, Taken}
 use Rattle.model.proofs.ClosedForm.{Closed}
 use Rattle.model.proofs.Curves.{≤-of-closed}
@@ -35,7 +35,7 @@ use Rattle.model.proofs.Codes.{rule-of-1, rule-of-2}
 use Rattle.exact.proofs.Tests.{compare}
 use Rattle.model.proofs.Walk.{good-ordered}
 use Rattle.model.proofs.Mirror.{curve-proper, curve-left, curve-right}
-use Rattle.model.proofs.Range.{Ranged, value-range, ReadingRange, reading-range}
+use Rattle.model.proofs.Range.{value-range, Within, reading-range, least-of-all, most-of-all}
 use Rattle.model.proofs.Relations.{rising-spreads, curve-slope, curve-slope-proper, Supports, convex-spreads}
 use Rattle.model.proofs.Relations.{Line, _under_, chord-proper, chord-≤-slope, slope-≤-chord}
 use Rattle.model.proofs.Indexed.{Chained, chained-at, stop-in, across-chained, point-at-append, segment-at-append}
@@ -76,11 +76,17 @@ unfolding reading
 factors-keep-order c x y kx ky =
     round-rounding .keeps-order (exact c x) (exact c y) (values-are-proper c x kx) (values-are-proper c y ky)
 
-pub factors-are-ranged : (c : Curve) (x : ℕ) → Area c x → ReadingRange (factor c x)
+pub factors-are-ranged : (c : Curve) (x : ℕ) → Area c x →
+    Within (least-factor (rule c)) (most-factor (rule c)) (factor c x)
 unfolding reading
 factors-are-ranged c x k =
-    let range : Ranged (exact c x) = rw (value-is (curve-accepted c) x) (value-range (segment-inside c x k)) in
-    reading-range round-rounding (exact c x) (values-are-proper c x k) range
+    reading-range round-rounding (exact c x) (values-are-proper c x k)
+    (rw (value-is (curve-accepted c) x) (value-range (segment-inside c x k)))
+
+pub factors-are-bounded : (c : Curve) (x : ℕ) → Area c x → Within (negℤ (pos 200000)) (pos 400000) (factor c x)
+factors-are-bounded c x k =
+    let r = factors-are-ranged c x k in
+    record { low = Z.≤-trans (least-of-all (rule c)) (r .low); high = Z.≤-trans (r .high) (most-of-all (rule c)) }
 
 -- ---- rated points
 

@@ -1,8 +1,9 @@
--- Every exact value of an accepted curve is from −200,000 to 400,000. A rising curve is between its ends, at most value-most.
--- A convex curve is not above its larger end, and not below its left tangent: that falls by at most slope-most / 100 for each of
--- at most gap-most tenths. So both are from −200,000 to 200,000, and their mirrors from 0 to 400,000.
---   Between, Ranged                a fraction between two whole numbers, and in that range; plain-range, value-range
---   Within, ReadingRange           a whole number, so; reading-range, by any rounding that keeps order and whole numbers
+-- The exact values of a segment are between least-factor and most-factor of its rule. A rising curve is between its ends, at most
+-- value-most. A convex curve is not above its larger end, and not below its left tangent: that falls by at most slope-most / 100 for
+-- each of at most gap-most tenths. Their mirrors are 200,000 less that.
+--   Between, value-range       a fraction between two whole numbers; the exact value
+--   Within, reading-range      a whole number, so; its rounding, by any rounding that keeps order and whole numbers
+--   least-of-all, most-of-all  from −200,000 to 400,000, whichever rule
 -- Assumes nothing.
 use mathlib.Core.Path.{_≡_, refl}
 use mathlib.Core.List.{[], _∷_}
@@ -21,6 +22,7 @@ use Rattle.model.specs.Points.{gap-most, value-most, slope-most, gradien
 use Rattle.model.specs.Points.{mirror-segment, Rule, plain, mirrored}
 use Rattle.model.specs.Interpolant.{interpolant, exact-curve}
 use Rattle.model.specs.Shape.{0ℚ}
+use Rattle.model.specs.Laws.{least-factor, most-factor}
 use Rattle.model.specs.Inner.{Neighbours, Good, Inside}
 use Rattle.model.proofs.ClosedForm.{In}
 use Rattle.model.proofs.Inside.{Rises, Bends, end-left, end-right}
@@ -30,9 +32,6 @@ use Rattle.model.proofs.Mirror.{mirror-inside}
 pub record Between (least most : ℤ) (v : Fraction) : Type 0 where
   pub low : whole least ≤ℚ v
   pub high : v ≤ℚ whole most
-
-abbrev pub Ranged : Fraction → Type 0
-Ranged = Between (negℤ (pos 200000)) (pos 400000)
 
 -- ---- fractions
 
@@ -122,13 +121,13 @@ gap-high s k = Z.≤-by _ spare (Z.nonneg-difference (Z.pos-≤-of-≤ (k .near)
     spare : pos gap-most -ℤ gap s ≡ pos (s .left .area) +ℤ pos gap-most -ℤ pos (s .right .area)
     spare = ring (pos (s .left .area) ∷ pos (s .right .area) ∷ []) (search terms depth 20 fits 9999) tt
 
-pub plain-range : {shape : Shape} {s : Segment} {x : ℕ} →
-    Inside (Good (plain shape)) s x → Between (negℤ (pos 200000)) (pos value-most) (interpolant shape s x)
+plain-range : {shape : Shape} {s : Segment} {x : ℕ} →
+    Inside (Good (plain shape)) s x → Between (least-factor (plain shape)) (pos value-most) (interpolant shape s x)
 unfolding interpolant gradient
 plain-range {shape = rising} {s = s} r =
     let rises = segment-rises s (r .good) in
     record {
-      low = rising-low rises (distance-in r) (record { le = tt });
+      low = rising-low rises (distance-in r) (Z.nonneg-pos _);
       high = rising-high rises (distance-in r) (Z.pos-≤-of-≤ (r .good .ends .right .value));
     }
 plain-range {shape = convex} {s = s} r =
@@ -144,26 +143,25 @@ plain-range {shape = convex} {s = s} r =
 
 -- ---- and their mirrors
 
-pub value-range : {rule : Rule} {s : Segment} {x : ℕ} → Inside (Good rule) s x → Ranged (exact-curve rule s x)
+most-is : (shape : Shape) → most-factor (mirrored shape) ≡ pos value-most -ℤ least-factor (plain shape)
+most-is rising = refl
+most-is convex = refl
+
+pub value-range : {rule : Rule} {s : Segment} {x : ℕ} → Inside (Good rule) s x →
+    Between (least-factor rule) (most-factor rule) (exact-curve rule s x)
 unfolding exact-curve
-value-range {rule = plain shape} i =
-    let r = plain-range i in
-    let p = interpolant-proper i in
-    record {
-      low = r .low;
-      high = Q.≤-trans p (search propers) (search propers) (r .high) (Q.whole-≤-of-≤ _ _ (record { le = tt }));
-    }
+value-range {rule = plain shape} i = plain-range i
 value-range {rule = mirrored shape} {s = s} {x = x} i =
     let r = plain-range (mirror-inside i) in
     let p = interpolant-proper (mirror-inside i) in
     let v = interpolant shape (mirror-segment s) x in
-    let above = Q.nonneg-difference (r .low) in
-    let below = Q.nonneg-difference (r .high) in
+    let least = least-factor (plain shape) in
     record {
-      low = Q.≤-by (search propers) (search propers) (whole (pos 200000) +ℚ (whole (pos value-most) -ℚ v)) (search propers)
-          (field (v ∷ℚ []) (search ratios depth 20 fits 9999) tt) (search positivity);
-      high = Q.≤-by (search propers) (search propers) (v -ℚ whole (negℤ (pos 200000))) (search propers)
-          (field (v ∷ℚ []) (search ratios depth 20 fits 9999) tt) above;
+      low = Q.≤-by (search propers) (search propers) (whole (pos value-most) -ℚ v) (search propers)
+          (field (v ∷ℚ []) (search ratios depth 20 fits 9999) tt) (Q.nonneg-difference (r .high));
+      high = rw (most-is shape)
+          (Q.≤-by (search propers) (search propers) (v -ℚ whole least) (search propers)
+          (field (v ∷ℚ least ∷ []) (search ratios depth 20 fits 9999) tt) (Q.nonneg-difference (r .low)));
     }
 
 -- ---- readings
@@ -172,9 +170,6 @@ pub record Within (least most k : ℤ) : Type 0 where
   pub low : least ≤ℤ k
   pub high : k ≤ℤ most
 
-abbrev pub ReadingRange : ℤ → Type 0
-ReadingRange = Within (negℤ (pos 200000)) (pos 400000)
-
 pub reading-range : {rnd : Fraction → ℤ} {least most : ℤ} → Rounding rnd →
     (v : Fraction) → Proper v → Between least most v → Within least most (rnd v)
 reading-range k v p r =
@@ -182,3 +177,13 @@ reading-range k v p r =
       low = rw (k .keeps-whole) at (k .keeps-order _ v (search propers) p (r .low));
       high = rw (k .keeps-whole) at (k .keeps-order v _ p (search propers) (r .high));
     }
+
+pub least-of-all : (rule : Rule) → negℤ (pos 200000) ≤ℤ least-factor rule
+least-of-all (plain rising) = record { le = tt }
+least-of-all (plain convex) = record { le = tt }
+least-of-all (mirrored shape) = record { le = tt }
+
+pub most-of-all : (rule : Rule) → most-factor rule ≤ℤ pos 400000
+most-of-all (plain shape) = record { le = tt }
+most-of-all (mirrored rising) = record { le = tt }
+most-of-all (mirrored convex) = record { le = tt }

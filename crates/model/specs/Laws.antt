@@ -5,13 +5,24 @@ use Prim.Native.Nat.{ℕ, _-_, _≤_, _<_}
 use mathlib.Core.Path.{_≡_}
 use mathlib.Core.Bool.{false}
 use mathlib.Core.List.{List, _∷_, _++_, map}
-use lib.IntN.{pos, _-ℤ_}
+use lib.IntN.{ℤ, pos, negℤ, _-ℤ_}
 use Rattle.exact.specs.Fraction.{Fraction, Proper, whole, _-ℚ_, _/ℚ_, _≈ℚ_, _≤ℚ_}
 use Rattle.model.specs.Answer.{gives}
-use Rattle.model.specs.Points.{value-most, Point, Segment, mirror, rule-of}
+use Rattle.model.specs.Points.{value-most, Point, Segment, rising, convex, mirror, Rule, plain, mirrored, rule-of}
 use Rattle.model.specs.Interpolant.{exact-curve}
 use Rattle.model.specs.Check.{curve-rows}
 use Rattle.model.specs.Read.{outside, exact-value}
+
+-- Request 4: between which numbers are the factors of a rule. A convex curve may go below 0, a concave one above 200,000.
+abbrev pub least-factor : Rule → ℤ
+least-factor (plain rising) = pos 0
+least-factor (plain convex) = negℤ (pos 200000)
+least-factor (mirrored shape) = pos 0
+
+abbrev pub most-factor : Rule → ℤ
+most-factor (plain shape) = pos 200000
+most-factor (mirrored rising) = pos 200000
+most-factor (mirrored convex) = pos 400000
 
 -- a curve that is accepted: none of Check's refusals applies to its points and its code
 pub record Curve : Type 0 where

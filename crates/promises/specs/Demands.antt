@@ -3,14 +3,14 @@
 use Prim.Native.Nat.{ℕ, _+_, _*_, _≤_, _<_}
 use mathlib.Core.Path.{_≡_}
 use mathlib.Core.List.{List, _∷_, _++_, map}
-use lib.IntN.{ℤ, pos, negℤ, _+ℤ_, _-ℤ_}
+use lib.IntN.{ℤ, pos, _+ℤ_, _-ℤ_}
 use lib.Signed.{_≤ℤ_}
 use Rattle.exact.specs.Fraction.{Proper, whole, _+ℚ_, _-ℚ_, _≤ℚ_}
 use Rattle.exact.specs.Rounding.{half}
 use Rattle.model.specs.Answer.{gives, refused}
-use Rattle.model.specs.Points.{Point}
+use Rattle.model.specs.Points.{Point, rule-of}
 use Rattle.model.specs.Check.{check-answer, on-lists}
-use Rattle.model.specs.Laws.{Curve, Area, exact, SegmentsMeet, ConvexChords, ConcaveChords, MirrorAccepted}
+use Rattle.model.specs.Laws.{least-factor, most-factor, Curve, Area, exact, SegmentsMeet, ConvexChords, ConcaveChords, MirrorAccepted}
 use Rattle.model.specs.Sheet.{entry-area}
 use Rattle.desk.specs.Desk.{desk-answer}
 use Rattle.pair.specs.Pair.{Factors}
@@ -58,8 +58,9 @@ pub record ThirdDemand (c : Curve) : Type 0 where
   pub concave-chords : ConcaveChords c
   -- mirrored, a falling or concave curve is accepted as rising or convex
   pub mirror-accepted : MirrorAccepted c
-  -- beyond document 01 and request 4: each factor is from −200,000 to 400,000
-  pub ranged : (x : ℕ) (f : ℤ) → FactorRead c x f → (negℤ (pos 200000) ≤ℤ f) × (f ≤ℤ pos 400000)
+  -- beyond document 01 and request 4: how far a factor is from 0
+  pub ranged : (x : ℕ) (f : ℤ) → FactorRead c x f →
+      (least-factor (rule-of (c .code)) ≤ℤ f) × (f ≤ℤ most-factor (rule-of (c .code)))
   -- and a factor read at a rated point is the point's value
   pub rated-factors : (before after : List Point) (p : Point) (f : ℤ) → c .points ≡ before ++ p ∷ after →
       FactorRead c (p .area) f → f ≡ pos (p .value)

@@ -20,9 +20,9 @@ use Rattle.exact.proofs.Magnitude.{size-between, sfits-of-size}
 use Rattle.exact.proofs.Rounding.{round-rounding, round-from}
 use Rattle.model.specs.Points.{value-most, Segment, Shape, plain}
 use Rattle.model.specs.Inner.{Neighbours, Good, Inside}
-use Rattle.model.specs.Interpolant.{interpolant}
+use Rattle.model.specs.Interpolant.{interpolant, exact-curve}
 use Rattle.model.proofs.Segments.{gap, distance, interpolant-proper}
-use Rattle.model.proofs.Range.{plain-range, reading-range}
+use Rattle.model.proofs.Range.{value-range, reading-range, least-of-all}
 use Rattle.shape.proofs.Figures.{h}
 use Rattle.segment.specs.Inner.{Distances, Rounds, Small, taken-from}
 
@@ -52,9 +52,10 @@ module _ {G : Segment → Type 0} {s : Segment} {x : ℕ} (i : Inside G s x) whe
   distances n = record { most = omega (arith, n .near, h-is); least = omega (arith, n .ordered, h-is) }
 
 pub plain-small : {shape : Shape} {s : Segment} {x : ℕ} → Inside (Good (plain shape)) s x → Small (round (interpolant shape s x))
+unfolding exact-curve
 plain-small {shape} {s} {x} i =
-    let r = reading-range round-rounding (interpolant shape s x) (interpolant-proper i) (plain-range i) in
-    record { size = size-between {n = value-most} _ (r .low) (r .high) }
+    let r = reading-range round-rounding (interpolant shape s x) (interpolant-proper i) (value-range i) in
+    record { size = size-between {n = value-most} _ (Z.≤-trans (least-of-all (plain shape)) (r .low)) (r .high) }
 
 pub small-read : {k : ℤ} → Small k → toZ w32 (ofZ w32 k) ≡ k
 small-read {k} s = toZ-ofZ (sfits-of-size w32 k (omega (arith, s .size)))

@@ -15,7 +15,7 @@ use Rattle.model.specs.Read.{outside, reading, read-answer}
 use Rattle.model.specs.Laws.{Curve}
 use Rattle.model.specs.Inner.{Readable}
 use Rattle.model.proofs.Outside.{not-before}
-use Rattle.model.proofs.Laws.{factors-are-ranged}
+use Rattle.model.proofs.Laws.{factors-are-bounded}
 use Rattle.curve.specs.Calls.{reading-answer, InRange}
 use Rattle.rows.proofs.Lists.{Accepts, accepts, curve-refused, on-points}
 use Rattle.curve.proofs.read.Statement.{statement}
@@ -77,7 +77,7 @@ returns-3 c =
     let b = e .before .before in
     let k = lists-accepted b in
     let curve : Curve = record { points = ps b; code = start b .args .shape; accepted = k .accepted .none-applies } in
-    let range = factors-are-ranged curve _ (record { within = within e }) in
+    let range = factors-are-bounded curve _ (record { within = within e }) in
     let fits : SFits w32 (c .factor-at .result) = record { sfits = c .factor-at .ok } in (
       rw (on-points k (after-row-6 b), within e, toZ-ofZ fits, c .factor-at .ensures),
       rw (toZ-ofZ fits, c .factor-at .ensures) (range .low, range .high),
