@@ -4,9 +4,9 @@
 --   curve-proper                     the exact value of a rule has a denominator above 0
 --   curve-left, curve-right          it is the point's value at both ends
 -- Assumes nothing.
-use mathlib.Core.Path.{_≡_, sym, subst}
+use mathlib.Core.Path.{sym}
 use mathlib.Core.List.{[], _∷_}
-use Prim.Native.Nat.{ℕ, _-_, _≤_}
+use Prim.Native.Nat.{ℕ}
 use native.Mathlib.Nat.{sub-le}
 use lib.IntN.{ℤ, pos, negℤ, _-ℤ_}
 use lib.Signed.{_≤ℤ_}
@@ -16,7 +16,7 @@ use Rattle.exact.proofs.Order as Z
 use Rattle.exact.proofs.Field.{field, ratios}
 use Rattle.exact.proofs.Fractions as Q
 use Rattle.exact.proofs.Fractions.{propers}
-use Rattle.model.specs.Points.{value-most, slope-most, Point, Segment, Shape, mirror, mirror-segment, Rule, plain, mirrored}
+use Rattle.model.specs.Points.{value-most, Point, Segment, Shape, mirror, mirror-segment, Rule, plain, mirrored}
 use Rattle.model.specs.Interpolant.{exact-curve}
 use Rattle.model.specs.Shape.{segment-test}
 use Rattle.model.specs.Inner.{Limits, Neighbours, Good, Inside}

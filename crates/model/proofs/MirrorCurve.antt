@@ -3,22 +3,21 @@
 --                                the mirror's (specs/Laws.antt)
 --   mirror-curve, mirror-area    that curve; it has the same areas
 -- Assumes nothing.
-use mathlib.Core.Path.{_≡_, refl, sym, _∙_, ap, ap₂}
-use mathlib.Core.Bool.{Bool, true, false, cond, _||_}
+use mathlib.Core.Path.{_≡_, refl, _∙_, ap}
+use mathlib.Core.Bool.{Bool, true, false, cond}
 use mathlib.Core.List.{List, [], _∷_, map}
 use mathlib.Core.Option.{Option, none, some}
 use Prim.Native.Nat.{ℕ, suc, _-_, _≤_, _<_}
 use native.Mathlib.Omega.{arith}
 use borrow.Author.Tests.{le-ltb}
-use lib.Dec.{leb, ltb}
-use lib.IntN.{pos, negℤ}
+use lib.Dec.{leb}
+use lib.IntN.{pos}
 use lib.ListN.{length, length-map}
-use lib.Signed.{_≤ℤ_, ltZ}
-use Rattle.exact.specs.Fraction.{Fraction, whole, _-ℚ_}
+use Rattle.exact.specs.Fraction.{whole, _-ℚ_}
 use Rattle.exact.proofs.Tests.{ltZ-false-of-≤}
 use Rattle.model.specs.Answer.{gives, row, _then_}
-use Rattle.model.specs.Points.{value-most, slope-most, Point, Segment, segments, Shape, shape-of}
-use Rattle.model.specs.Points.{mirror, mirror-segment, Rule, plain, mirrored, rule-of}
+use Rattle.model.specs.Points.{value-most, Point, Segment, segments, Shape}
+use Rattle.model.specs.Points.{mirror, mirror-segment, plain, mirrored}
 use Rattle.model.specs.Interpolant.{exact-curve}
 use Rattle.model.specs.Shape.{segment-test}
 use Rattle.model.specs.Check.{bad-count, bad-code, bad-value, bad-slope, point-rows, segment-rows, curve-rows}

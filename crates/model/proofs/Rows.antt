@@ -9,13 +9,12 @@
 --   neighbours                two points that pass rows 3 to 5
 -- Assumes nothing.
 use mathlib.Core.Path.{_≡_, refl, sym}
-use mathlib.Core.Bool.{Bool, true, false, not, _||_, true≢false}
+use mathlib.Core.Bool.{Bool, true, false, not, _||_}
 use mathlib.Core.List.{List, _∷_}
-use mathlib.Core.Logic.{inl, inr}
 use mathlib.Core.Option.{Option, none, some}
 use Prim.Native.Nat.{ℕ, suc, _+_, _≤_, _<_}
 use native.Mathlib.Omega.{arith}
-use borrow.Author.Tests.{eqb-true, ne-eqb, leb-false, ltb-false, not-false}
+use borrow.Author.Tests.{eqb-true, leb-false, ltb-false, not-false}
 use lib.Dec.{eqb, leb, ltb}
 use lib.IntN.{pos, negℤ}
 use lib.Signed.{ltZ}
@@ -23,7 +22,7 @@ use Rattle.model.specs.Answer.{Answer, gives, refused, row, _then_}
 use Rattle.model.specs.Points.{points-least, points-most, area-most, gap-most, value-most, slope-most, Point}
 use Rattle.model.specs.Check.{lengths-differ, bad-count, bad-code, bad-area, bad-value, bad-slope, point-rows}
 use Rattle.model.specs.Inner.{Alike, between, Limits, Neighbours}
-use Rattle.exact.proofs.Tests.{compare, or-left, or-right, ≤-of-ltZ-false}
+use Rattle.exact.proofs.Tests.{or-left, or-right, ≤-of-ltZ-false}
 
 -- ---- answers
 

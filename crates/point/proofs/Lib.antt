@@ -1,2 +1,3 @@
--- Laws of rows 3 to 5 at one point.
+-- Laws of rows 3 to 5 at one point, and its figures in machine numbers.
 pub mod Area
+pub mod Figures

@@ -34,7 +34,8 @@ use Rattle.model.proofs.Segments.{gap, rise, distance, v₀, v₁, d₀, d₁, 
 use Rattle.model.proofs.Segments.{segment-normal, gap-positive, distance-in}
 use Rattle.segment.specs.Inner.{raised, convex-tie, ConvexInput, RaisedSize, BentAt}
 use Rattle.segment.specs.declared.Bent.{Bent}
-use Rattle.shape.proofs.Figures.{slope-size, h, gap-is, a-size, b-size}
+use Rattle.point.proofs.Figures.{slope-size}
+use Rattle.shape.proofs.Figures.{h, gap-is, a-size, b-size}
 use Rattle.segment.proofs.Distances.{t, u, from-left, from-right, h-is, distances}
 use Rattle.segment.proofs.Rounded.{round-lowered, same-hundreds, tie-lowered}
 use Rattle.segment.proofs.Sizes.{raised-size}

@@ -31,8 +31,9 @@ use Rattle.model.specs.Inner.{Good, Inside}
 use Rattle.model.proofs.ClosedForm.{Closed, Climbing, A, B, B-positive, rising-form, climbing-of-normal, flat-value, rising-value}
 use Rattle.model.proofs.Curves.{climbs, flat, rise-kind}
 use Rattle.model.proofs.Segments.{gap, rise, distance, v₀, v₁, d₀, d₁, S, e₀, e₁, g, segment-normal, distance-in}
-use Rattle.segment.specs.Inner.{Rounds, part, whole-part, share, RisingInput, rising-reading, rising-tie}
-use Rattle.shape.proofs.Figures.{slope-size, gap-is}
+use Rattle.segment.specs.Inner.{Rounds, part, whole-part, RisingInput, rising-reading, rising-tie}
+use Rattle.point.proofs.Figures.{slope-size}
+use Rattle.shape.proofs.Figures.{gap-is}
 use Rattle.segment.proofs.Distances.{t, u, h-is, from-left, from-right, distances, plain-small}
 use Rattle.segment.proofs.Rounded.{round-twice, tie-of-remainder}
 

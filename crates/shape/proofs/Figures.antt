@@ -1,5 +1,4 @@
 -- The figures of a segment within its limits, in machine numbers.
---   slope-fits, slope-read, value-read   a point's figures in 32 bits
 --   h, gap-read, rise-read               differences, as the code computes them
 --   e₀-fits, g-fits, e₁-fits             the slopes over 100 h; a-fits, b-fits, a-read, b-read, their distances from the chord
 -- Assumes nothing.
@@ -12,29 +11,13 @@ use mir.Syntax.{w32}
 use mir.Val.{SFits, toZ, ofZ}
 use mir.Facts.{toZ-ofZ, toZ-pos}
 use Rattle.exact.proofs.Order as Z
-use Rattle.exact.proofs.Magnitude.{size-between, size--, size-*, size-difference, sfits-of-size}
-use Rattle.model.specs.Points.{gap-most, value-most, slope-most, Point, Segment}
+use Rattle.exact.proofs.Magnitude.{size--, size-*, size-difference, sfits-of-size}
+use Rattle.model.specs.Points.{gap-most, value-most, Point, Segment}
 use Rattle.model.specs.Inner.{Limits, Neighbours}
+use Rattle.point.proofs.Figures.{slope-size, value-read}
 use Rattle.model.proofs.Segments.{gap, rise, e₀, e₁, g, a, b}
 use Rattle.shape.specs.Inner.{over-most, SlopesOver}
 use Rattle.shape.specs.declared.Slopes.{Slopes}
-
--- ---- a point
-
-module _ {p : Point} (l : Limits p) where
-  pub slope-size : natAbs (p .slope) ≤ slope-most
-  slope-size = size-between (p .slope) (l .slope-low) (l .slope-high)
-
-  pub slope-fits : SFits w32 (p .slope)
-  slope-fits = sfits-of-size w32 (p .slope) (omega (arith, slope-size))
-
-  pub slope-read : toZ w32 (ofZ w32 (p .slope)) ≡ p .slope
-  slope-read = toZ-ofZ slope-fits
-
-  pub value-read : toZ w32 (p .value) ≡ pos (p .value)
-  value-read = toZ-pos w32 (let m = l .value in omega arith)
-
--- ---- a segment
 
 abbrev pub h : Segment → ℕ
 h s = s .right .area - s .left .area

@@ -24,9 +24,10 @@ use Rattle.model.specs.Shape.{rises, bends, fits, has-shape}
 use Rattle.model.specs.Inner.{Neighbours}
 use Rattle.model.proofs.Curves.{climbs, flat, rise-kind}
 use Rattle.model.proofs.Segments.{gap, rise, e₀, g}
+use Rattle.point.proofs.Figures.{slope-fits, slope-read}
 use Rattle.shape.specs.Inner.{SlopesOver}
 use Rattle.shape.specs.declared.Slopes.{Slopes}
-use Rattle.shape.proofs.Figures.{slope-fits, slope-read, e₀-fits, g-fits, e₁-fits}
+use Rattle.shape.proofs.Figures.{e₀-fits, g-fits, e₁-fits}
 
 abbrev bits : ℤ → ℕ
 bits z = ofZ w32 z

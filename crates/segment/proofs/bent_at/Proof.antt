@@ -13,7 +13,8 @@ use Rattle.model.specs.Points.{slope-most, Segment}
 use Rattle.model.specs.Inner.{Neighbours}
 use Rattle.point.specs.Inner.{segment-of}
 use Rattle.shape.specs.Inner.{SlopesOver}
-use Rattle.shape.proofs.Figures.{slope-read, a-fits, a-read, b-fits, b-read}
+use Rattle.point.proofs.Figures.{slope-read}
+use Rattle.shape.proofs.Figures.{a-fits, a-read, b-fits, b-read}
 use Rattle.segment.proofs.ConvexReading.{Convex, convex-inside}
 use Rattle.segment.proofs.bent_at.Statement.{statement}
 use Rattle.segment.proofs.bent_at.Tie as tie

@@ -1,17 +1,11 @@
 -- `segment::rising_value` meets its contract.
 -- Assumes nothing.
 use borrow.Author.Needs.{needs}
-use mathlib.Core.Path.{_≡_, _∙_, sym}
-use lib.IntN.{pos}
-use mir.Syntax.{w32}
-use mir.Val.{SFits}
-use mir.Facts.{toZ-pos}
-use Rattle.exact.specs.Rounding.{round}
+use mathlib.Core.Path.{_∙_, sym}
 use Rattle.exact.proofs.Signed.{cast-of-natural}
 use Rattle.model.specs.Points.{Segment, rising}
-use Rattle.model.specs.Interpolant.{interpolant}
 use Rattle.point.specs.Inner.{segment-of}
-use Rattle.shape.proofs.Figures.{slope-fits, slope-read, value-read}
+use Rattle.point.proofs.Figures.{slope-fits, slope-read, value-read}
 use Rattle.segment.proofs.Distances.{u-read}
 use Rattle.segment.proofs.RisingReading.{Rising, rising-inside, flat-inside}
 use Rattle.segment.proofs.rising_value.Statement.{statement}

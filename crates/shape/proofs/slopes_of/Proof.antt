@@ -2,7 +2,8 @@
 -- Assumes nothing.
 use borrow.Author.Needs.{needs}
 use mir.Facts.{toZ-ofZ}
-use Rattle.shape.proofs.Figures.{slope-read, gap-read, rise-read, rise-fits, e₀-fits, g-fits, e₁-fits}
+use Rattle.point.proofs.Figures.{slope-read}
+use Rattle.shape.proofs.Figures.{gap-read, rise-read, rise-fits, e₀-fits, g-fits, e₁-fits}
 use Rattle.shape.proofs.slopes_of.Statement.{statement}
 use Rattle.shape.proofs.slopes_of.Tie as tie
 
