@@ -45,7 +45,7 @@ from ._calls import (CONCAVE, CONVEX, COUNT_MAX, ENTRIES_MAX, FALLING, FILE_MAX,
 from ._curve import Curve, Point
 from ._library import LibraryNotFound
 
-__version__ = "0.3.0"
+__version__ = "0.4.0"
 
 __all__ = [
     'CONCAVE', 'CONVEX', 'COUNT_MAX', 'ENTRIES_MAX', 'FALLING', 'FILE_MAX', 'POINTS_MAX',

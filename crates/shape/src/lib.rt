@@ -91,8 +91,8 @@ pub fn segment_test(code: u32, p: Point, q: Point) -> bool
     requires { ⌜ Neighbours (segment-of p q) ⌝ }
     ensures { λ r. ⌜ r ≡ segment-test (rule-of code) (segment-of p q) ⌝ }
 {
-    if code <= 2 {
-        return has_shape(code, p, q);
+    if code > 2 {
+        return has_shape(code - 2, point::mirror(p), point::mirror(q));
     }
-    has_shape(code - 2, point::mirror(p), point::mirror(q))
+    has_shape(code, p, q)
 }
