@@ -4,6 +4,7 @@
 --   nonneg-.., positive-..    what is not negative, above 0; `search signs` goes by these
 --   next-of-<, <-of-next      a < b is a + 1 ≤ b
 --   ≤-+, ≤-*, ..-cancel       sums, products, and a factor taken away
+--   ≤-negated, leZ-negated, ltZ-negated    with both signs changed the order is the other way round
 -- Assumes nothing.
 use mathlib.Core.Path.{_≡_, sym, ap, subst}
 use mathlib.Core.List.{[], _∷_}
@@ -14,7 +15,7 @@ use borrow.Author.Tests.{le-ltb}
 use lib.Dec.{T, ltb, leb→le, le→leb, ltb→lt, lt→ltb}
 use lib.IntN.{ℤ, pos, negsuc, negℤ, natAbs, sucℤ, _+ℤ_, _-ℤ_, _*ℤ_, +ℤ-one}
 use lib.Signed.{_≤ℤ_, _<ℤ_, leZ, ltZ, ltZ-yes, <ℤ-≤ℤ-trans, clashℤ, ≤ℤ-refl, yes-nonNeg, pos-natAbs}
-use Rattle.exact.proofs.Tests.{true-or-false, ≤-of-ltZ-false}
+use Rattle.exact.proofs.Tests.{true-or-false, same-test, ≤-of-ltZ-false}
 use Rattle.exact.proofs.Ring.{ring, terms}
 
 -- ---- ≤ between natural numbers
@@ -199,3 +200,27 @@ pub <-cancel : {a b k : ℤ} → pos 0 ≤ℤ k → (a *ℤ k) <ℤ (b *ℤ k) �
 
 pub ≡-cancel : {a b k : ℤ} → pos 0 <ℤ k → a *ℤ k ≡ b *ℤ k → a ≡ b
 ≡-cancel hk e = ≤-antisym (≤-cancel hk (≤-of-≡ e)) (≤-cancel hk (≤-of-≡ (sym e)))
+
+-- ---- signs changed
+
+pub ≤-negated : {a b : ℤ} → a ≤ℤ b → negℤ b ≤ℤ negℤ a
+≤-negated {a} {b} h = ≤-by (b -ℤ a) (ring (a ∷ b ∷ []) (search terms depth 20 fits 9999) tt) (nonneg-difference h)
+
+<-negated : {a b : ℤ} → a <ℤ b → negℤ b <ℤ negℤ a
+<-negated {a} {b} h = <-by (b -ℤ a) (ring (a ∷ b ∷ []) (search terms depth 20 fits 9999) tt) (positive-difference h)
+
+twice-negated : (a : ℤ) → negℤ (negℤ a) ≡ a
+twice-negated a = ring (a ∷ []) (search terms depth 20 fits 9999) tt
+
+module _ (a b : ℤ) where
+  pub leZ-negated : leZ (negℤ a) (negℤ b) ≡ leZ b a
+  leZ-negated =
+      same-test (leZ (negℤ a) (negℤ b)) (leZ b a)
+      (λ t. let h : negℤ a ≤ℤ negℤ b = record { le = t } in (rw (twice-negated a, twice-negated b) at (≤-negated h)) .le)
+      (λ t. let h : b ≤ℤ a = record { le = t } in ≤-negated h .le)
+
+  pub ltZ-negated : ltZ (negℤ a) (negℤ b) ≡ ltZ b a
+  ltZ-negated =
+      same-test (ltZ (negℤ a) (negℤ b)) (ltZ b a)
+      (λ t. let h : negℤ a <ℤ negℤ b = record { lt = t } in (rw (twice-negated a, twice-negated b) at (<-negated h)) .lt)
+      (λ t. let h : b <ℤ a = record { lt = t } in <-negated h .lt)

@@ -44,6 +44,9 @@ fn find(bytes: &[u8], n: usize, area: u32) -> usize
     requires { ⌜ CurvePoints n (length (now bytes)) × Reached (areas-of (first-points (now bytes) n)) 0 area ⌝ }
     ensures { λ r. ⌜ Taken (areas-of (first-points (now (bytes .entry)) n)) r area ⌝ }
 {
+    if n == 2 {
+        return 0;
+    }
     let from = last_not_above(bytes, n, 0, 8, n - 1, area);
     let mut end = n - 1;
     if from + 8 < end {

@@ -43,15 +43,15 @@ pub fn find(areas: &[u32], from: usize, area: u32) -> usize
 }
 
 // From an area that is not above the area read, the last of every step-th before `end` that is not. All of them are looked at, so
-// that no branch depends on the area read.
-fn last_not_above(areas: &[u32], from: usize, step: usize, end: usize, area: u32) -> usize
+// that no branch depends on the area read; the indices have 32 bits, so that the compiler looks at four at a time.
+fn last_not_above(areas: &[u32], from: u32, step: u32, end: u32, area: u32) -> u32
     requires { ⌜ Strides (length (now areas)) from step end × Reached (now areas) from area ⌝ }
     ensures { λ r. ⌜ LastOf (now (areas .entry)) r step end area ⌝ }
 {
     let mut last = from;
     let mut i = from + step;
     while i < end {
-        if areas[i] <= area {
+        if areas[i as usize] <= area {
             last = i;
         }
         i += step;
@@ -64,12 +64,16 @@ pub fn search(areas: &[u32], area: u32) -> usize
     requires { ⌜ (length (now areas) ≤ points-most) × Reached (now areas) 0 area ⌝ }
     ensures { λ r. ⌜ Taken (now (areas .entry)) r area ⌝ }
 {
-    let from = last_not_above(areas, 0, 8, areas.len() - 1, area);
-    let mut end = areas.len() - 1;
+    if areas.len() == 2 {
+        return 0;
+    }
+    let last = (areas.len() - 1) as u32;
+    let from = last_not_above(areas, 0, 8, last, area);
+    let mut end = last;
     if from + 8 < end {
         end = from + 8;
     }
-    last_not_above(areas, from, 1, end, area)
+    last_not_above(areas, from, 1, end, area) as usize
 }
 
 // The factor at an area that takes the segment at i.

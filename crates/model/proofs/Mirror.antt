@@ -25,18 +25,14 @@ use Rattle.model.proofs.Segments.{v₀, v₁, interpolant-proper, inter
 
 -- ---- points and segments
 
--- a bound, with its sign changed
-negated : {x y : ℤ} → x ≤ℤ y → negℤ y ≤ℤ negℤ x
-negated {x} {y} h = Z.≤-by (y -ℤ x) (ring (x ∷ y ∷ []) (search terms depth 20 fits 9999) tt) (Z.nonneg-difference h)
-
 pub mirror-limits : {p : Point} → Limits p → Limits (mirror p)
 unfolding mirror
 mirror-limits {p} l =
     record {
       area = l .area;
       value = sub-le value-most (p .value);
-      slope-low = negated (l .slope-high);
-      slope-high = negated (l .slope-low);
+      slope-low = Z.≤-negated (l .slope-high);
+      slope-high = Z.≤-negated (l .slope-low);
     }
 
 pub mirror-neighbours : {s : Segment} → Neighbours s → Neighbours (mirror-segment s)

@@ -1,10 +1,11 @@
 -- The reading of a convex segment, in the natural numbers that the code computes with.
---   Convex          the arguments of `raised`, and from its result the reading and whether it is an exact half; convex-inside
+--   Convex          the arguments of `raised`, and from its result the reading, and the reading with halves down; convex-inside
 --   raised-slope    the left slope plus 10,000; above, below, the distances of the end slopes from the chord
 --   raised-at       `raised` at an area
---   bent-input, sum-size, sum-reading, bent-tie   the same, of the figures that the code has
+--   bent-input, sum-size, sum-reading, down-size, down-reading   the same, of the figures that the code has
 -- Assumes nothing.
 use mathlib.Core.Path.{_≡_, sym, _∙_, ap}
+use mathlib.Core.Bool.{cond}
 use mathlib.Core.List.{[], _∷_}
 use Prim.Native.Nat.{ℕ, _+_, _*_, _/_, _<_}
 use native.Mathlib.Nat.{mul-pos, zero-mul, zero-div, zero-mod}
@@ -32,12 +33,12 @@ use Rattle.model.proofs.ClosedForm.{bending-of-normal, bent-value, straight-val
 use Rattle.model.proofs.Curves.{bent, straight, bend-kind}
 use Rattle.model.proofs.Segments.{gap, rise, distance, v₀, v₁, d₀, d₁, S, g, e₀, e₁, a, b}
 use Rattle.model.proofs.Segments.{segment-normal, gap-positive, distance-in}
-use Rattle.segment.specs.Inner.{raised, convex-tie, ConvexInput, RaisedSize, BentAt}
+use Rattle.segment.specs.Inner.{raised, raised-rest, halves-down, ConvexInput, RaisedSize, BentAt}
 use Rattle.segment.specs.declared.Bent.{Bent}
 use Rattle.point.proofs.Figures.{slope-size}
 use Rattle.shape.proofs.Figures.{h, gap-is, a-size, b-size}
 use Rattle.segment.proofs.Distances.{t, u, from-left, from-right, h-is, distances}
-use Rattle.segment.proofs.Rounded.{round-lowered, same-hundreds, tie-lowered}
+use Rattle.segment.proofs.Rounded.{round-lowered, same-hundreds, ends-in-0, down-lowered, tie-lowered}
 use Rattle.segment.proofs.Sizes.{raised-size}
 
 module _ (s : Segment) where
@@ -53,6 +54,9 @@ module _ (s : Segment) where
   abbrev pub raised-at : ℕ → ℕ
   raised-at x = raised (t s x) (u s x) (h s) (s .left .value) raised-slope above below
 
+  abbrev pub rest-at : ℕ → ℕ
+  rest-at x = raised-rest (t s x) (u s x) (h s) above below
+
 pub record Convex (s : Segment) (x : ℕ) : Type 0 where
   pub slope-is : s .left .slope +ℤ pos slope-most ≡ pos (raised-slope s)
   pub above-is : a s ≡ pos (above s)
@@ -60,8 +64,9 @@ pub record Convex (s : Segment) (x : ℕ) : Type 0 where
   pub input : ConvexInput (t s x) (u s x) (h s) (s .left .value) (raised-slope s) (above s) (below s)
   pub reading : (r : ℕ) → r / 100 ≡ raised-at s x / 100 →
       floorDiv (pos r -ℤ pos (slope-most * t s x)) 100 ≡ round (interpolant convex s x)
-  pub half : tie (interpolant convex s x) ≡
-      convex-tie (t s x) (u s x) (h s) (s .left .value) (raised-slope s) (above s) (below s)
+  pub down : (r : ℕ) → r / 100 ≡ halves-down (rest-at s x) (raised-at s x) / 100 →
+      floorDiv (pos r -ℤ pos (slope-most * t s x)) 100
+      ≡ round (interpolant convex s x) -ℤ cond (tie (interpolant convex s x)) (pos 1) (pos 0)
 
 -- ---- the end slopes and the chord
 
@@ -103,8 +108,7 @@ module _ {s : Segment} {x : ℕ} (i : Inside (Good (plain convex)) s x) where
   ReadingIs = round (interpolant convex s x) ≡ floorDiv (pos (raised-at s x) -ℤ pos (slope-most * t s x)) 100
 
   abbrev HalfIs : Type 0
-  HalfIs =
-      tie (interpolant convex s x) ≡ convex-tie (t s x) (u s x) (h s) (s .left .value) (raised-slope s) (above s) (below s)
+  HalfIs = tie (interpolant convex s x) ≡ ends-in-0 (rest-at s x) (raised-at s x)
 
   convex-facts : a s ≡ pos (above s) → b s ≡ pos (below s) → ReadingIs → HalfIs → Convex s x
   convex-facts above-is below-is reads half-is =
@@ -122,7 +126,10 @@ module _ {s : Segment} {x : ℕ} (i : Inside (Good (plain convex)) s x) where
           below = b-size n;
         };
         reading = λ r e. same-hundreds r (raised-at s x) (t s x) e ∙ sym reads;
-        half = half-is;
+        down = λ r e.
+            same-hundreds r (halves-down (rest-at s x) (raised-at s x)) (t s x) e
+            ∙ down-lowered (rest-at s x) (raised-at s x) (t s x) (omega arith)
+            ∙ rw (reads, half-is);
       }
 
   -- ---- the straight line
@@ -256,5 +263,17 @@ module _ {s : Segment} {x : ℕ} (i : Inside (Good (plain convex)) s x) {y : Ben
     sum-reading =
         rw (k .t) (convex-inside i .reading n (rw (k .t, k .u, k .h, k .left, d-is, a-is, b-is) at e))
 
-  pub bent-tie : convex-tie (y .t) (y .u) (y .h) (y .left) (y .d) (y .a) (y .b) ≡ tie (interpolant convex s x)
-  bent-tie = rw (k .t, k .u, k .h, k .left, d-is, a-is, b-is) (sym (convex-inside i .half))
+  module _ (n : ℕ)
+      (e : n / 100 ≡ halves-down (raised-rest (y .t) (y .u) (y .h) (y .a) (y .b))
+          (raised (y .t) (y .u) (y .h) (y .left) (y .d) (y .a) (y .b)) / 100) where
+    pub down-size : RaisedSize (y .t) n
+    down-size =
+        record {
+          near = omega (arith, bent-input .distances .most);
+          sum = omega (arith, e, raised-size bent-input);
+        }
+
+    pub down-reading : floorDiv (pos n -ℤ pos (slope-most * y .t)) 100
+        ≡ round (interpolant convex s x) -ℤ cond (tie (interpolant convex s x)) (pos 1) (pos 0)
+    down-reading =
+        rw (k .t) (convex-inside i .down n (rw (k .t, k .u, k .h, k .left, d-is, a-is, b-is) at e))

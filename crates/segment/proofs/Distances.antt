@@ -1,22 +1,23 @@
 -- An area inside a segment, in machine numbers.
 --   t, u            its distances from the two ends; h-is, their sum is the gap; u-read, as the code computes the second
 --   plain-small     a reading of a shape's own curve is from −200,000 to 200,000; small-read, it fits 32 bits
---   from-rounds     200,000 less a shape's own curve, rounded
+--   from-rounds     200,000 less a shape's own curve, rounded; from-down, by the curve rounded with halves down (Down)
 -- Assumes nothing.
-use mathlib.Core.Path.{_≡_, sym, _∙_}
-use mathlib.Core.Bool.{Bool}
+use mathlib.Core.Path.{_≡_, sym, _∙_, ap}
+use mathlib.Core.Bool.{Bool, true, false, cond}
 use mathlib.Core.List.{[], _∷_}
-use Prim.Native.Nat.{ℕ, _+_, _-_}
+use Prim.Native.Nat.{ℕ, _+_, _-_, _≤_}
 use native.Mathlib.Omega.{arith}
-use lib.IntN.{ℤ, pos, _-ℤ_}
+use lib.IntN.{ℤ, pos, natAbs, _+ℤ_, _-ℤ_}
 use mir.Syntax.{w32}
-use mir.Val.{toZ, ofZ}
+use mir.Val.{SFits, toZ, ofZ}
 use mir.Facts.{toZ-ofZ}
-use Rattle.exact.specs.Fraction.{whole, _-ℚ_}
+use Rattle.exact.specs.Fraction.{Fraction, whole, _-ℚ_}
 use Rattle.exact.specs.Rounding.{round}
+use Rattle.exact.specs.Inner.{tie}
 use Rattle.exact.proofs.Ring.{ring, terms}
 use Rattle.exact.proofs.Order as Z
-use Rattle.exact.proofs.Magnitude.{size-between, sfits-of-size}
+use Rattle.exact.proofs.Magnitude.{size--, size-between, sfits-of-size}
 use Rattle.exact.proofs.Rounding.{round-rounding, round-from}
 use Rattle.model.specs.Points.{value-most, Segment, Shape, plain}
 use Rattle.model.specs.Inner.{Neighbours, Good, Inside}
@@ -64,3 +65,25 @@ small-read {k} s = toZ-ofZ (sfits-of-size w32 k (omega (arith, s .size)))
 pub from-rounds : {shape : Shape} {s : Segment} {x : ℕ} {k : ℤ} {b : Bool} → Inside (Good (plain shape)) s x →
     Rounds (interpolant shape s x) k b → taken-from value-most k b ≡ round (whole (pos value-most) -ℚ interpolant shape s x)
 from-rounds i r = rw (r .value, r .half) (sym (round-from (pos value-most) (interpolant-proper i)))
+
+-- the same, by the curve rounded with halves down
+pub record Down (v : Fraction) (k : ℤ) : Type 0 where
+  pub is : k ≡ round v -ℤ cond (tie v) (pos 1) (pos 0)
+
+one-size : (b : Bool) → natAbs (cond b (pos 1) (pos 0)) ≤ 1
+one-size true = omega arith
+one-size false = omega arith
+
+module _ {shape : Shape} {s : Segment} {x : ℕ} {k : ℤ} (i : Inside (Good (plain shape)) s x) (d : Down (interpolant shape s x) k) where
+  pub down-fits : SFits w32 (pos value-most -ℤ k)
+  down-fits =
+      let v : Fraction = interpolant shape s x in
+      let one : ℤ = cond (tie v) (pos 1) (pos 0) in
+      sfits-of-size w32 (pos value-most -ℤ k)
+      (omega (arith, size-- (pos value-most) k, ap natAbs (d .is), size-- (round v) one, one-size (tie v), plain-small i .size))
+
+  pub from-down : pos value-most -ℤ k ≡ round (whole (pos value-most) -ℚ interpolant shape s x)
+  from-down = rw (d .is) (back (round (interpolant shape s x)) _) ∙ sym (round-from (pos value-most) (interpolant-proper i))
+    where
+      back : (r b : ℤ) → pos value-most -ℤ (r -ℤ b) ≡ pos value-most -ℤ r +ℤ b
+      back r b = ring (r ∷ b ∷ []) (search terms depth 20 fits 9999) tt

@@ -1,20 +1,22 @@
 -- A rounding by two divisions, and exact halves.
 --   round-twice     ⌊(x + ⌊y / w⌋) / m⌋ rounds v where v + 1/2 = (x w + y) / (w m)
 --   round-lowered   with x = n − k, which may be below 0
---   same-hundreds   the last two digits of r do not matter to ⌊(r − 10,000 t) / 100⌋
+--   same-hundreds   the last two digits of r do not matter to ⌊(r − 10,000 t) / 100⌋; down-lowered, with halves down
 --   tie-of-remainder    v is an exact half where v + 1/2 = m / d − k and nothing is left of m by d; tie-lowered, by two divisions
 --   twice-left      nothing is left of two divisions where nothing is left of one by the product
 -- Assumes nothing.
 use mathlib.Core.Path.{_≡_, sym, _∙_, ap, ap₂, subst, subst⁻¹}
-use mathlib.Core.Bool.{_&&_, and-true, and-false}
+use mathlib.Core.Bool.{Bool, cond, _&&_, and-true, and-false}
 use mathlib.Core.List.{[], _∷_}
-use Prim.Native.Nat.{ℕ, zero, suc, _+_, _*_, _/_, _%_, _<_}
-use native.Mathlib.Nat.{mul-pos, add-comm, mul-comm, mul-one, zero-add, zero-mul, mul-mod-left, div-add-mod', mul-add-mod-self-right, mul-add-div-right}
+use mathlib.Core.Logic.{inl, inr}
+use Prim.Native.Nat.{ℕ, zero, suc, _+_, _-_, _*_, _/_, _%_, _<_}
+use native.Mathlib.Nat.{mul-pos, add-comm, mul-comm, mul-one, zero-add, zero-mul, sub-zero, div-one, mul-mod-left, div-add-mod'}
+use native.Mathlib.Nat.{mul-add-mod-self-right, mul-add-div-right}
 use native.Mathlib.Omega.{arith}
-use borrow.Author.Tests.{eq-eqb, ne-eqb, eqb-true}
+use borrow.Author.Tests.{eq-eqb, ne-eqb, eqb-true, eqb-false}
 use lib.Arith.{mod-mul}
 use lib.Dec.{T, eqb, lit<}
-use lib.IntN.{ℤ, pos, negℤ, natAbs, _+ℤ_, _-ℤ_, _*ℤ_}
+use lib.IntN.{ℤ, pos, negsuc, negℤ, natAbs, _+ℤ_, _-ℤ_, _*ℤ_, +ℤ-idr}
 use lib.Signed.{_<ℤ_}
 use Rattle.exact.specs.Fraction.{Fraction, Proper, _over_, whole, _+ℚ_, _≈ℚ_}
 use Rattle.exact.specs.Rounding.{floorDiv, floor, half, round}
@@ -22,11 +24,11 @@ use Rattle.exact.proofs.Ring.{ring, terms}
 use Rattle.exact.proofs.Order as Z
 use Rattle.exact.proofs.Fractions as Q
 use Rattle.exact.specs.Inner.{tie}
-use Rattle.exact.proofs.Tests.{T-true, same-test}
+use Rattle.exact.proofs.Tests.{true-or-false, T-true, same-test}
 use Rattle.exact.proofs.Floor.{floor-greatest, floor-keeps-order, floorDiv-nested}
 use Rattle.exact.proofs.Rounding.{proper-half, round-is-half-up, tie-of-≤, ≤-of-tie}
 use Rattle.model.proofs.ClosedForm.{Closed}
-use Rattle.segment.specs.Inner.{ends-in-0}
+use Rattle.segment.specs.Inner.{halves-down}
 
 pub round-twice : {v f : Fraction} (x : ℤ) (y : ℕ) {w m : ℕ} →
     Closed v f →
@@ -56,20 +58,56 @@ round-lowered n k y {w} {m} c pf hw hm e =
     last : pos n -ℤ pos k +ℤ pos (y / w) ≡ pos n +ℤ pos (y / w) -ℤ pos k
     last = ring (pos n ∷ pos k ∷ pos (y / w) ∷ []) (search terms depth 20 fits 9999) tt
 
+floor-by-1 : (z : ℤ) → floorDiv z 1 ≡ z
+unfolding floorDiv
+floor-by-1 (pos n) = ap pos (div-one n)
+floor-by-1 (negsuc n) = ap negsuc (div-one n)
+
 -- r without its last two digits, and then without 10,000 t
-hundreds : (r t : ℕ) → floorDiv (pos r -ℤ pos (10000 * t)) 100 ≡ floorDiv (negℤ (pos (100 * t)) +ℤ pos (r / 100)) 1
+hundreds : (r t : ℕ) → floorDiv (pos r -ℤ pos (10000 * t)) 100 ≡ negℤ (pos (100 * t)) +ℤ pos (r / 100)
 unfolding floorDiv
 hundreds r t =
     ap (λ z. floorDiv z 100) split
     ∙ sym (floorDiv-nested (negℤ (pos (100 * t))) (pos r) {w = 100} {m = 1} (lit< tt) (lit< tt))
+    ∙ floor-by-1 _
   where
     split : pos r -ℤ pos 10000 *ℤ pos t ≡ negℤ (pos 100 *ℤ pos t) *ℤ pos 100 +ℤ pos r
     split = ring (pos r ∷ pos t ∷ []) (search terms depth 20 fits 9999) tt
 
 pub same-hundreds : (r n t : ℕ) → r / 100 ≡ n / 100 →
     floorDiv (pos r -ℤ pos (10000 * t)) 100 ≡ floorDiv (pos n -ℤ pos (10000 * t)) 100
-same-hundreds r n t e =
-    hundreds r t ∙ ap (λ k. floorDiv (negℤ (pos (100 * t)) +ℤ pos k) 1) e ∙ sym (hundreds n t)
+same-hundreds r n t e = hundreds r t ∙ ap (λ k. negℤ (pos (100 * t)) +ℤ pos k) e ∙ sym (hundreds n t)
+
+-- what is left of a division, and the last two digits of n, are 0
+abbrev pub ends-in-0 : ℕ → ℕ → Bool
+ends-in-0 rest n = eqb rest 0 && eqb (n % 100) 0
+
+one-hundred-less : (n : ℕ) → 0 < n → n % 100 ≡ 0 → n / 100 ≡ (n - 1) / 100 + 1
+one-hundred-less n h e = omega arith
+
+-- with halves down, the hundreds are one less at an exact half
+hundreds-down : (rest n : ℕ) → 0 < n → pos (halves-down rest n / 100) ≡ pos (n / 100) -ℤ cond (ends-in-0 rest n) (pos 1) (pos 0)
+hundreds-down rest n h =
+    elim (true-or-false (eqb rest 0)) [
+      | inr e ↦ rw (e, sub-zero n) (sym (+ℤ-idr (pos (n / 100))))
+      | inl e ↦ elim (true-or-false (eqb (n % 100) 0)) [
+        | inr f ↦ rw (e, f, +ℤ-idr (pos (n / 100))) (ap pos (same-hundred (eqb-false (n % 100) 0 f)))
+        | inl f ↦ rw (e, f, one-hundred-less n h (eqb-true (n % 100) 0 f)) (sym (next-less ((n - 1) / 100)))
+      ]
+    ]
+  where
+    same-hundred : (n % 100 ≡ 0 → ⊥) → (n - 1) / 100 ≡ n / 100
+    same-hundred k = omega arith
+    next-less : (m : ℕ) → pos (m + 1) -ℤ pos 1 ≡ pos m
+    next-less m = ring (pos m ∷ []) (search terms depth 20 fits 9999) tt
+
+pub down-lowered : (rest n t : ℕ) → 0 < n →
+    floorDiv (pos (halves-down rest n) -ℤ pos (10000 * t)) 100
+    ≡ floorDiv (pos n -ℤ pos (10000 * t)) 100 -ℤ cond (ends-in-0 rest n) (pos 1) (pos 0)
+down-lowered rest n t h =
+    hundreds (halves-down rest n) t ∙ ap (λ z. negℤ (pos (100 * t)) +ℤ z) (hundreds-down rest n h)
+    ∙ ring (pos t ∷ pos (n / 100) ∷ cond (ends-in-0 rest n) (pos 1) (pos 0) ∷ []) (search terms depth 20 fits 9999) tt
+    ∙ ap (λ z. z -ℤ cond (ends-in-0 rest n) (pos 1) (pos 0)) (sym (hundreds n t))
 
 -- ---- exact halves
 
@@ -152,10 +190,9 @@ tie-lowered {v} {f} n t y {w} c pf hw e =
     ∙ ap₂ (λ j k. ends-in-0 j k) (mul-add-mod-self-right n w y) (mul-add-div-right hw n y)
 
 -- what is left of n by d, and then of the quotient by h, is 0 where nothing is left of n by both
-pub twice-left : (n x : ℕ) {d h : ℕ} → 0 < d → 0 < h → ends-in-0 (n % d + n / d % h) x ≡ ends-in-0 (n % (d * h)) x
-twice-left n x {d} {h} hd hh =
-    ap (λ b. b && eqb (x % 100) 0)
-    (ap (λ k. eqb k 0) (add-comm (n % d) (n / d % h) ∙ ap (λ k. k + n % d) (sym (mul-one (n / d % h))))
+pub twice-left : (n : ℕ) {d h : ℕ} → 0 < d → 0 < h → eqb (n % d + n / d % h) 0 ≡ eqb (n % (d * h)) 0
+twice-left n {d} {h} hd hh =
+    ap (λ k. eqb k 0) (add-comm (n % d) (n / d % h) ∙ ap (λ k. k + n % d) (sym (mul-one (n / d % h))))
     ∙ zero-sum (n / d % h) (n % d) (lit< tt)
     ∙ sym (zero-sum (n / d % h) (n % d) hd)
-    ∙ ap (λ k. eqb k 0) (sym (mod-mul n {m = h} {c = d} hh hd) ∙ ap (λ k. n % k) (mul-comm h d)))
+    ∙ ap (λ k. eqb k 0) (sym (mod-mul n {m = h} {c = d} hh hd) ∙ ap (λ k. n % k) (mul-comm h d))

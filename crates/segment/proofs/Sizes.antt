@@ -4,24 +4,27 @@
 --   whole-size, share-size, rising-size   B, A F with B / 2 for the rounding, and the factor
 --   tangent-size, divisor-size, denominator-size, excess-size, raised-size   the parts of the convex curve, and their sum
 --   w-most, w-most-size   w in the whole segment
---   OneLow, least-near   what is above the tangent, by leading bits: at most 1 too low
---   no-tie          a sum that does not end in 0 is no exact half; full-sum, full-tie, full-rest, the sum by two divisions
+--   OneLow, least-near   what is above the tangent, by leading bits: below the exact quotient, and at most 1 too low
+--   near-hundreds, near-down   the hundreds of a sum with it
+--   full-sum, full-down, full-rest   the sum by two divisions
 -- Assumes nothing.
-use mathlib.Core.Path.{_≡_}
-use mathlib.Core.Bool.{false, and-false}
+use mathlib.Core.Path.{_≡_, sym, _∙_, ap}
+use mathlib.Core.Bool.{cond}
+use mathlib.Core.Logic.{inl, inr}
 use Prim.Native.Nat.{ℕ, zero, suc, _+_, _-_, _*_, _/_, _%_, _^_, _≤_, _<_}
 use native.Mathlib.Nat.{mul-le-mul, mul-le-mul-left, mul-le-mul-right, le-mul-of-pos-right, div-le-self, add-div-right}
-use native.Mathlib.Nat.{mod-lt, div-div-eq-div-mul}
+use native.Mathlib.Nat.{mod-lt, div-div-eq-div-mul, div-add-mod', div-mul-le-self, le-trans, mul-pos, sub-zero}
 use native.Mathlib.Omega.{arith}
-use borrow.Author.Tests.{ne-eqb}
+use borrow.Author.Tests.{eqb-true}
 use lib.Dec.{eqb}
 use lib.Ieee.Nearest.{div-mono}
 use Rattle.exact.specs.Inner.{Divided}
+use Rattle.exact.proofs.Tests.{compare, true-or-false}
 use Rattle.exact.proofs.Magnitude.{scaled-size}
 use Rattle.model.specs.Points.{gap-most, value-most}
 use Rattle.shape.specs.Inner.{over-most}
 use Rattle.segment.specs.Inner.{part, Weights, whole-part, rising-reading, RisingInput, raised, ConvexInput}
-use Rattle.segment.specs.Inner.{ends-in-0, convex-tie}
+use Rattle.segment.specs.Inner.{raised-rest, halves-down}
 use Rattle.segment.proofs.Rounded.{twice-left}
 
 blend-size : (t u : ℕ) {g e m : ℕ} → t + u ≤ gap-most → g ≤ m → e ≤ m → g * t + e * u ≤ gap-most * m
@@ -67,20 +70,24 @@ module _ {t u left F D₀ D₁ : ℕ} (k : RisingInput t u left F D₀ D₁) whe
 
 -- ---- w w / z by leading bits
 
-pub record OneLow (e least : ℕ) : Type 0 where
-  pub not-above : least ≤ e
-  pub one-below : e ≤ least + 1
+pub record OneLow (n c least : ℕ) : Type 0 where
+  pub below : n % c ≡ 0 → least < n / c
+  pub not-above : least ≤ n / c
+  pub one-below : n / c ≤ least + 1
 
--- x is w without 5 bits, y is z without 10
+-- x is w without 5 bits, y is above z without 10
 module _ (w x y z : ℕ)
     (x-low : 32 * x ≤ w)
     (x-high : w ≤ 32 * x + 31)
-    (y-low : z ≤ 1024 * y)
+    (y-low : z < 1024 * y)
     (y-high : 1024 * y ≤ z + 1024)
     (large : 1000 ≤ w)
     (small : w * 100 ≤ z) where
-  leading-low : x * x * z ≤ w * w * y
-  leading-low = omega (arith, mul-le-mul-right y (mul-le-mul x-low x-low), mul-le-mul-left (x * x) y-low)
+  leading-low : x * x * z < w * w * y
+  leading-low =
+      let some : 0 < x = omega arith in
+      let above : z + 1 ≤ 1024 * y = omega arith in
+      omega (arith, mul-pos some some, mul-le-mul-right y (mul-le-mul x-low x-low), mul-le-mul-left (x * x) above)
 
   leading-high : w * w * y ≤ (x * x + y) * z
   leading-high =
@@ -90,13 +97,38 @@ module _ (w x y z : ℕ)
       let l = mul-le-mul-right w small in
       omega (arith, mul-le-mul-right z square, mul-le-mul-right z rest, mul-le-mul-right z y-low)
 
-  leading : OneLow (w * w / z) (x * x / y)
+  -- a quotient that is exact is above it
+  leading-below : w * w % z ≡ 0 → x * x / y < w * w / z
+  leading-below e =
+      elim (compare (w * w / z) (x * x / y)) [
+        | inr (h, _) ↦ h
+        | inl (h, _) ↦
+            let exact : w * w ≡ w * w / z * z = sym (div-add-mod' (w * w) z) ∙ omega arith in
+            let under = mul-le-mul-right z (le-trans (mul-le-mul-right y h) (div-mul-le-self (x * x) y)) in
+            absurd (omega (arith, leading-low, under, ap (λ n. n * y) exact))
+      ]
+
+  leading : OneLow (w * w) z (x * x / y)
   leading =
       record {
-        not-above = div-mono (x * x) y (w * w) z (omega arith) (omega arith) leading-low;
+        below = leading-below;
+        not-above = div-mono (x * x) y (w * w) z (omega arith) (omega arith) (omega (arith, leading-low));
         one-below = rw (← add-div-right (x * x) {k = y} (omega arith))
             (div-mono (w * w) z (x * x + y) y (omega arith) (omega arith) leading-high);
       }
+
+-- a sum that is at most 1 too low, unless its last two digits are 99
+pub near-hundreds : {n c least : ℕ} (m : ℕ) → OneLow n c least → ((m + least + 1) % 100 ≡ 0 → ⊥) →
+    (m + least) / 100 ≡ (m + n / c) / 100
+near-hundreds m k d = omega (arith, k .not-above, k .one-below)
+
+pub near-down : {n c least : ℕ} (m : ℕ) → OneLow n c least → ((m + least + 1) % 100 ≡ 0 → ⊥) →
+    halves-down 1 (m + least) / 100 ≡ halves-down (n % c) (m + n / c) / 100
+near-down {n} {c} {least} m k d =
+    elim (true-or-false (eqb (n % c) 0)) [
+      | inl e ↦ rw (e, sub-zero (m + least)) (let h = k .below (eqb-true (n % c) 0 e) in omega (arith, k .one-below))
+      | inr e ↦ rw (e, sub-zero (m + least), sub-zero (m + n / c)) (near-hundreds m k d)
+    ]
 
 -- ---- convex
 
@@ -138,7 +170,7 @@ module _ {t u h left d a b : ℕ} (k : ConvexInput t u h left d a b) where
   pub w-most-size : b * h ≤ 2 * over-most * gap-most
   w-most-size = mul-le-mul (k .below) h-size
 
-  pub least-near : 2 ^ 32 ≤ b * h → 0 < w → OneLow (w * w / (divisor * h)) (w / 32 * (w / 32) / (divisor * h / 1024 + 1))
+  pub least-near : 2 ^ 32 ≤ b * h → 0 < w → OneLow (w * w) (divisor * h) (w / 32 * (w / 32) / (divisor * h / 1024 + 1))
   least-near n some =
       let steep = mul-le-mul-left b h-size in
       let long = mul-le-mul-right h (k .below) in
@@ -150,19 +182,17 @@ module _ {t u h left d a b : ℕ} (k : ConvexInput t u h left d a b) where
   pub raised-size : raised t u h left d a b ≤ 2 ^ 37
   raised-size = omega (arith, tangent-size, divisor-size, excess-size)
 
-  -- not an exact half
-  pub no-tie : 0 < raised t u h left d a b % 100 → convex-tie t u h left d a b ≡ false
-  no-tie some = rw (ne-eqb (raised t u h left d a b % 100) 0 (omega arith)) (and-false (eqb (w * w % (divisor * h)) 0))
-
   -- w w by the divisor, and then by t + u
   module _ {q r : ℕ} (s : Divided (w * w) divisor q r) (some : 0 < divisor) where
     pub full-sum : 50 * (2 * left + 1) + d * t + q / (t + u) ≡ raised t u h left d a b
     full-sum = rw (s .quotient, k .sum, div-div-eq-div-mul)
 
-    pub full-tie : ends-in-0 (r + q % (t + u)) (50 * (2 * left + 1) + d * t + q / (t + u)) ≡ convex-tie t u h left d a b
-    full-tie =
-        rw full-sum (rw (s .quotient, s .remainder, k .sum)
-        (twice-left (w * w) (raised t u (t + u) left d a b) some (k .distances .least)))
+    pub full-down : halves-down (r + q % (t + u)) (50 * (2 * left + 1) + d * t + q / (t + u))
+        ≡ halves-down (raised-rest t u h a b) (raised t u h left d a b)
+    full-down = rw full-sum (ap (λ e. raised t u h left d a b - cond e 1 0) nothing-left)
+      where
+        nothing-left : eqb (r + q % (t + u)) 0 ≡ eqb (raised-rest t u h a b) 0
+        nothing-left = rw (s .quotient, s .remainder, k .sum) (twice-left (w * w) some (k .distances .least))
 
     pub full-rest : r + q % (t + u) ≤ divisor + gap-most
     full-rest =

@@ -4,13 +4,14 @@
 --   Rounds           a value rounded, and whether it is an exact half; taken-from, a whole number less the value, rounded
 --   part             A of the rising curve, from one end; whole-part is B; share, A F with B / 2 for the rounding
 --   rising-reading   the rounded value; rising-tie, it is an exact half
---   raised           the convex curve in hundredths, raised so that nothing is negative; convex-tie, it is an exact half
+--   raised           the convex curve in hundredths, raised so that nothing is negative; raised-rest, what is left of its division
+--   halves-down      a sum whose exact halves go down
 --   BentAt           the figures of an area of a convex segment
 --   Weights, RisingInput, ConvexInput, RaisedSize, Small   how large are the arguments of `part`, `rising`, `raised`, `lowered` and
 --                    `from_mirror`
 -- Assumes nothing.
 use mathlib.Core.Path.{_≡_}
-use mathlib.Core.Bool.{Bool, cond, _&&_}
+use mathlib.Core.Bool.{Bool, cond}
 use Prim.Native.Nat.{ℕ, _+_, _-_, _*_, _/_, _%_, _^_, _≤_, _<_}
 use lib.Dec.{eqb}
 use lib.IntN.{ℤ, pos, natAbs, _+ℤ_, _-ℤ_, _*ℤ_}
@@ -74,12 +75,13 @@ pub record RisingInput (t u left F D₀ D₁ : ℕ) : Type 0 where
 abbrev pub raised : (t u h left d a b : ℕ) → ℕ
 raised t u h left d a b = 50 * (2 * left + 1) + d * t + b * t * (b * t) / ((a * u + b * t) * h)
 
--- what is left of a division, and the last two digits of n, are 0
-abbrev pub ends-in-0 : ℕ → ℕ → Bool
-ends-in-0 rest n = eqb rest 0 && eqb (n % 100) 0
+-- what is left of the division in it
+abbrev pub raised-rest : (t u h a b : ℕ) → ℕ
+raised-rest t u h a b = b * t * (b * t) % ((a * u + b * t) * h)
 
-abbrev pub convex-tie : (t u h left d a b : ℕ) → Bool
-convex-tie t u h left d a b = ends-in-0 (b * t * (b * t) % ((a * u + b * t) * h)) (raised t u h left d a b)
+-- one less where nothing is left
+abbrev pub halves-down : ℕ → ℕ → ℕ
+halves-down rest n = n - cond (eqb rest 0) 1 0
 
 pub record ConvexInput (t u h left d a b : ℕ) : Type 0 where
   pub distances : Distances t u

@@ -3,8 +3,8 @@ ghost use mathlib.Core.Path.{_≡_};
 ghost use lib.IntN.{pos, _-ℤ_};
 ghost use Prim.Native.Nat.{_-_, _*_, _/_, _%_, _<_};
 ghost use Rattle.segment.specs.Inner as inner;
-ghost use Rattle.segment.specs.Inner.{Weights, RisingInput, rising-reading, rising-tie, ConvexInput, convex-tie};
-ghost use Rattle.segment.specs.Inner.{Rounds, Small, taken-from, BentAt, ends-in-0, RaisedSize};
+ghost use Rattle.segment.specs.Inner.{Weights, RisingInput, rising-reading, rising-tie, ConvexInput, raised-rest};
+ghost use Rattle.segment.specs.Inner.{Rounds, Small, taken-from, BentAt, halves-down, RaisedSize};
 ghost use Rattle.exact.specs.Fraction.{whole, _-ℚ_};
 ghost use Rattle.exact.specs.Rounding.{floorDiv, round};
 ghost use Rattle.model.specs.Points.{value-most, slope-most, Shape, shape-of, Rule, rule-of};
@@ -101,13 +101,14 @@ struct Sum {
 
 // 100 times the value of a convex curve, with 50 for the rounding and 10000 t, so that nothing is negative. With w = b t and
 // W = a u + w the curve is w w / (W h) hundredths above its left tangent. The last two digits need not be right, nor what is left,
-// but for whether all of them are 0, where `ties` is 1. Where h divides it is t + u: the compiler would test at each area whether
-// an h that is the same for all of them is 0.
-fn raised(ties: u64, t: u64, u: u64, h: u64, left: u64, d: u64, a: u64, b: u64) -> Sum
+// but for the hundreds, also those of `halves_down`. Where h divides it is t + u: the compiler would test at each area whether an
+// h that is the same for all of them is 0.
+fn raised(t: u64, u: u64, h: u64, left: u64, d: u64, a: u64, b: u64) -> Sum
     requires { ⌜ ConvexInput t u h left d a b ⌝ }
+    ensures some { λ s. ⌜ 0 < s .sum ⌝ }
     ensures hundreds { λ s. ⌜ s .sum / 100 ≡ inner.raised t u h left d a b / 100 ⌝ }
-    ensures tie { λ s. ⌜ (ties ≡ 1 →
-        ends-in-0 (s .rest) (s .sum) ≡ convex-tie t u h left d a b) ⌝ }
+    ensures down { λ s. ⌜ halves-down (s .rest) (s .sum) / 100
+        ≡ halves-down (raised-rest t u h a b) (inner.raised t u h left d a b) / 100 ⌝ }
 {
     let tangent = 50 * (2 * left + 1) + d * t;
     let w = b * t;
@@ -125,11 +126,11 @@ fn raised(ties: u64, t: u64, u: u64, h: u64, left: u64, d: u64, a: u64, b: u64) 
         let rest = w * w % c;
         return Sum { sum, rest };
     }
-    // w w may pass 64 bits. From the leading bits the sum is at most 1 too low, which changes the last two digits alone unless
-    // they are 99; unless they are 99 or 0, the value is no exact half.
+    // w w may pass 64 bits. From the leading bits the sum is at most 1 too low, and below the exact value, which changes the last
+    // two digits alone unless they are 99.
     let v = w / 32;
     let least = tangent + v * v / (divisor * h / 1024 + 1);
-    if (least + 1) % 100 > ties {
+    if (least + 1) % 100 != 0 {
         return Sum {
             sum: least,
             rest: 1,
@@ -139,6 +140,17 @@ fn raised(ties: u64, t: u64, u: u64, h: u64, left: u64, d: u64, a: u64, b: u64) 
     let sum = tangent + s.q / (t + u);
     let rest = s.r + s.q % (t + u);
     Sum { sum, rest }
+}
+
+// One less where nothing is left, so that an exact half goes down.
+fn halves_down(s: Sum) -> u64
+    requires { ⌜ 0 < s .sum ⌝ }
+    ensures { λ r. ⌜ r ≡ halves-down (s .rest) (s .sum) ⌝ }
+{
+    if s.rest == 0 {
+        return s.sum - 1;
+    }
+    s.sum
 }
 
 // An area of a convex segment.
@@ -162,20 +174,12 @@ fn bent_at(p: Point, q: Point, area: u32) -> Bent
 }
 
 // The value of raised hundredths.
-fn lowered(t: u64, s: Sum) -> Nearest
-    requires { ⌜ RaisedSize t (s .sum) ⌝ }
-    ensures value { λ r. ⌜ r .value ≡ floorDiv (pos (s .sum) -ℤ pos (slope-most * t)) 100 ⌝ }
-    ensures tie { λ r. ⌜ r .tie ≡ ends-in-0 (s .rest) (s .sum) ⌝ }
+fn lowered(t: u64, sum: u64) -> i32
+    requires { ⌜ RaisedSize t sum ⌝ }
+    ensures { λ r. ⌜ r ≡ floorDiv (pos sum -ℤ pos (slope-most * t)) 100 ⌝ }
 {
-    let n = (s.sum as i64) - ((SLOPE_MOST as u64 * t) as i64);
-    let value = exact::floor_div(n, 100) as i32;
-    if s.rest != 0 {
-        return Nearest { value, tie: false };
-    }
-    Nearest {
-        value,
-        tie: s.sum % 100 == 0,
-    }
+    let n = (sum as i64) - ((SLOPE_MOST as u64 * t) as i64);
+    exact::floor_div(n, 100) as i32
 }
 
 // ---- the factor. `raised` is called for a curve and for its mirror apart, so that the compiler makes two of it.
@@ -185,16 +189,17 @@ fn convex_factor(p: Point, q: Point, area: u32) -> i32
     ensures { λ r. ⌜ r ≡ round (interpolant Shape.convex (segment-of p q) area) ⌝ }
 {
     let x = bent_at(p, q, area);
-    lowered(x.t, raised(0, x.t, x.u, x.h, x.left, x.d, x.a, x.b)).value
+    lowered(x.t, raised(x.t, x.u, x.h, x.left, x.d, x.a, x.b).sum)
 }
 
-// Of points that are mirrored.
+// Of points that are mirrored: 200,000 less the value, whose halves go down.
 fn concave_factor(p: Point, q: Point, area: u32) -> i32
     requires { ⌜ Inside (Good (Rule.plain Shape.convex)) (segment-of p q) area ⌝ }
     ensures { λ r. ⌜ r ≡ round (whole (pos value-most) -ℚ interpolant Shape.convex (segment-of p q) area) ⌝ }
 {
     let x = bent_at(p, q, area);
-    from_mirror(lowered(x.t, raised(1, x.t, x.u, x.h, x.left, x.d, x.a, x.b)))
+    let s = raised(x.t, x.u, x.h, x.left, x.d, x.a, x.b);
+    (VALUE_MOST as i32) - lowered(x.t, halves_down(s))
 }
 
 // The factor of codes 1 and 2.

@@ -1,6 +1,7 @@
 -- The figures of a segment within its limits, in machine numbers.
 --   h, gap-read, rise-read               differences, as the code computes them
---   e₀-fits, g-fits, e₁-fits             the slopes over 100 h; a-fits, b-fits, a-read, b-read, their distances from the chord
+--   e₀-fits, g-fits, e₁-fits             the slopes over 100 h; left-read, chord-read, right-read, as the code has them
+--   a-fits, b-fits, a-read, b-read       their distances from the chord
 -- Assumes nothing.
 use mathlib.Core.Path.{_≡_, sym, _∙_, ap, ap₂}
 use Prim.Native.Nat.{ℕ, _-_, _*_, _≤_}
@@ -72,10 +73,19 @@ module _ {s : Segment} (n : Neighbours s) where
   pub b-fits : SFits w32 (b s)
   b-fits = over-fits (b s) b-size
 
-  -- a and b, from what `slopes_of` gives
+  -- what `slopes_of` gives, and a and b from it
   module _ {e : Slopes} (k : SlopesOver s e) where
+    pub left-read : toZ w32 (ofZ w32 (e .left)) ≡ e .left
+    left-read = rw (k .left) (toZ-ofZ e₀-fits)
+
+    pub chord-read : toZ w32 (ofZ w32 (e .chord)) ≡ e .chord
+    chord-read = rw (k .chord) (toZ-ofZ g-fits)
+
+    pub right-read : toZ w32 (ofZ w32 (e .right)) ≡ e .right
+    right-read = rw (k .right) (toZ-ofZ e₁-fits)
+
     pub a-read : toZ w32 (ofZ w32 (e .right)) -ℤ toZ w32 (ofZ w32 (e .chord)) ≡ a s
-    a-read = rw (k .right, k .chord, toZ-ofZ e₁-fits, toZ-ofZ g-fits)
+    a-read = rw (right-read, chord-read, k .right, k .chord)
 
     pub b-read : toZ w32 (ofZ w32 (e .chord)) -ℤ toZ w32 (ofZ w32 (e .left)) ≡ b s
-    b-read = rw (k .chord, k .left, toZ-ofZ g-fits, toZ-ofZ e₀-fits)
+    b-read = rw (chord-read, left-read, k .chord, k .left)

@@ -2,32 +2,34 @@
 --   climbing-shape  shape 1 where the value rises: no slope is below 0; climbing-test, as a test
 --   level-shape     where it stays: both slopes are 0; level-test, as a test
 --   falling-shape   where it falls: no
---   convex-test     shape 2: left slope below chord and chord below right slope, or all three equal
+--   order-test      shape 2: left slope below chord and chord below right slope, or all three equal, as a test
+--   convex-test     of the slopes of a segment; concave-test, of the mirrored segment: the same slopes from right to left
 -- Assumes nothing.
-use mathlib.Core.Path.{_≡_, refl}
-use mathlib.Core.Bool.{Bool, true, false, cond, _&&_, _||_, or-false, and-false}
+use mathlib.Core.Path.{_≡_, refl, _∙_, ap₂}
+use mathlib.Core.Bool.{Bool, true, false, cond, _&&_, _||_, or-false, and-false, and-comm}
+use mathlib.Core.List.{[], _∷_}
 use Prim.Native.Nat.{ℕ, _<_}
 use native.Mathlib.Omega.{arith}
 use lib.Dec.{T, eqb}
-use lib.IntN.{ℤ, pos, *ℤ-comm, +ℤ-invr}
+use lib.IntN.{ℤ, pos, negℤ, _*ℤ_, *ℤ-comm, +ℤ-invr}
 use lib.Signed.{leZ, ltZ}
 use mir.Syntax.{w32}
-use mir.Val.{toZ, ofZ}
+use mir.Val.{SFits, toZ, ofZ}
 use Rattle.exact.specs.Inner.{eqZ}
 use Rattle.exact.specs.Fraction.{_over_, whole, leℚ, ltℚ, eqℚ}
 use Rattle.exact.proofs.Bits.{zero-fits, lt-bits, eq-bits}
 use Rattle.exact.proofs.Integer.{*-one}
+use Rattle.exact.proofs.Ring.{ring, terms}
 use Rattle.exact.proofs.Order as Z
 use Rattle.exact.proofs.Tests.{leZ-not-ltZ, same-test, T-true}
-use Rattle.model.specs.Points.{gradient, Segment, rising, convex}
+use Rattle.model.specs.Points.{Point, gradient, Segment, rising, convex, mirror, mirror-segment}
 use Rattle.model.specs.Shape.{rises, bends, fits, has-shape}
 use Rattle.model.specs.Inner.{Neighbours}
 use Rattle.model.proofs.Curves.{climbs, flat, rise-kind}
-use Rattle.model.proofs.Segments.{gap, rise, e₀, g}
+use Rattle.model.proofs.Segments.{gap, rise, e₀, g, e₁}
 use Rattle.point.proofs.Figures.{slope-fits, slope-read}
-use Rattle.shape.specs.Inner.{SlopesOver}
+use Rattle.shape.specs.Inner.{SlopesOver, in-order}
 use Rattle.shape.specs.declared.Slopes.{Slopes}
-use Rattle.shape.proofs.Figures.{e₀-fits, g-fits, e₁-fits}
 
 abbrev bits : ℤ → ℕ
 bits z = ofZ w32 z
@@ -79,13 +81,43 @@ module _ {s : Segment} (n : Neighbours s) where
   level-test e =
       rw (eq-bits (slope-fits (n .left)) (zero-fits w32), eq-bits (slope-fits (n .right)) (zero-fits w32)) (level-shape s e)
 
-  pub convex-test : {e : Slopes} → SlopesOver s e →
-      has-shape convex s ≡
-      cond (ltZ (read-back (e .left)) (read-back (e .chord))) (ltZ (read-back (e .chord)) (read-back (e .right)))
-      (eqb (bits (e .left)) (bits (e .chord)) && eqb (bits (e .chord)) (bits (e .right)))
-  unfolding has-shape fits bends gradient leℚ ltℚ eqℚ _over_
-  convex-test k =
-      rw (k .left, k .chord, k .right, lt-bits (e₀-fits n) (g-fits n), lt-bits (g-fits n) (e₁-fits n))
-      (rw (eq-bits (e₀-fits n) (g-fits n), eq-bits (g-fits n) (e₁-fits n))
-      (rw (*ℤ-comm (s .left .slope) (gap s), *ℤ-comm (rise s) (pos 100), *ℤ-comm (s .right .slope) (gap s))
-      (or-as-cond (ltZ (e₀ s) (g s)) _ _ (λ e. rw (leZ-not-ltZ (g s) (e₀ s), e, and-false (leZ (e₀ s) (g s)))))))
+-- ---- shape 2: the order of the slopes
+
+pub order-test : {a b c : ℤ} → SFits w32 a → SFits w32 b → SFits w32 c →
+    in-order a b c ≡
+    cond (ltZ (read-back a) (read-back b)) (ltZ (read-back b) (read-back c)) (eqb (bits a) (bits b) && eqb (bits b) (bits c))
+order-test {a} {b} {c} fa fb fc =
+    rw (lt-bits fa fb, lt-bits fb fc)
+    (rw (eq-bits fa fb, eq-bits fb fc)
+    (or-as-cond (ltZ a b) _ _ (λ e. rw (leZ-not-ltZ b a, e, and-false (leZ a b)))))
+
+convex-order : (s : Segment) → has-shape convex s ≡ in-order (e₀ s) (g s) (e₁ s)
+unfolding has-shape fits bends gradient leℚ ltℚ eqℚ _over_
+convex-order s = rw (*ℤ-comm (s .left .slope) (gap s), *ℤ-comm (rise s) (pos 100), *ℤ-comm (s .right .slope) (gap s))
+
+-- with their signs changed, from right to left
+order-negated : (a b c : ℤ) → in-order (negℤ a) (negℤ b) (negℤ c) ≡ in-order c b a
+order-negated a b c =
+    rw (Z.ltZ-negated a b, Z.ltZ-negated b c, Z.leZ-negated a b, Z.leZ-negated b a, Z.leZ-negated b c, Z.leZ-negated c b)
+    (ap₂ (λ x y. x || y) (and-comm (ltZ b a) (ltZ c b)) (and-comm (eqZ b a) (eqZ c b)))
+
+module _ {s : Segment} (n : Neighbours s) where
+  mirrored-slope : (p : Point) → gap s *ℤ negℤ (p .slope) ≡ negℤ (gap s *ℤ p .slope)
+  mirrored-slope p = ring (gap s ∷ p .slope ∷ []) (search terms depth 20 fits 9999) tt
+
+  mirrored-chord : g (mirror-segment s) ≡ negℤ (g s)
+  unfolding mirror
+  mirrored-chord =
+      rw (← Z.difference-of-≤ (n .left .value), ← Z.difference-of-≤ (n .right .value))
+      (ring (pos (s .left .value) ∷ pos (s .right .value) ∷ []) (search terms depth 20 fits 9999) tt)
+
+  module _ {e : Slopes} (k : SlopesOver s e) where
+    pub convex-test : has-shape convex s ≡ in-order (e .left) (e .chord) (e .right)
+    convex-test = rw (k .left, k .chord, k .right) (convex-order s)
+
+    pub concave-test : has-shape convex (mirror-segment s) ≡ in-order (e .right) (e .chord) (e .left)
+    unfolding mirror
+    concave-test =
+        rw (k .left, k .chord, k .right)
+        (convex-order (mirror-segment s)
+        ∙ rw (mirrored-slope (s .left), mirrored-slope (s .right), mirrored-chord) (order-negated (e₀ s) (g s) (e₁ s)))

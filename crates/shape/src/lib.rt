@@ -3,11 +3,11 @@ ghost use mathlib.Core.Path.{_≡_};
 ghost use mathlib.Core.Bool.{_&&_};
 ghost use lib.IntN.{pos};
 ghost use lib.Signed.{leZ};
-ghost use Rattle.model.specs.Points.{Shape, shape-of, rule-of};
+ghost use Rattle.model.specs.Points.{Shape, shape-of, mirror-segment, rule-of};
 ghost use Rattle.model.specs.Shape.{has-shape, segment-test};
 ghost use Rattle.model.specs.Inner.{Neighbours};
 ghost use Rattle.point.specs.Inner.{segment-of};
-ghost use Rattle.shape.specs.Inner.{SlopesOver};
+ghost use Rattle.shape.specs.Inner.{SlopesOver, in-order};
 use point::Point;
 
 // The slopes of a segment over the denominator 100 h: left end, chord, right end, in the order of (3.22).
@@ -61,18 +61,16 @@ fn rises(p: Point, q: Point) -> bool
 }
 
 // Shape 2: d_i < Δ_i < d_{i+1}, as the report's (TR/10/83) (3.22) has it for one segment; or all three are equal.
-fn bends(p: Point, q: Point) -> bool
-    requires { ⌜ Neighbours (segment-of p q) ⌝ }
-    ensures { λ r. ⌜ r ≡ has-shape Shape.convex (segment-of p q) ⌝ }
+fn bends(left: i32, chord: i32, right: i32) -> bool
+    ensures { λ r. ⌜ r ≡ in-order left chord right ⌝ }
 {
-    let e = slopes_of(p, q);
-    if e.left < e.chord {
-        return e.chord < e.right;
+    if left < chord {
+        return chord < right;
     }
-    if e.left != e.chord {
+    if left != chord {
         return false;
     }
-    e.chord == e.right
+    chord == right
 }
 
 // The shape of codes 1 and 2.
@@ -83,16 +81,30 @@ fn has_shape(code: u32, p: Point, q: Point) -> bool
     if code == 1 {
         return rises(p, q);
     }
-    bends(p, q)
+    let e = slopes_of(p, q);
+    bends(e.left, e.chord, e.right)
 }
 
-// Row 6 is passed: the segment between two points has the shape of its code, 3 and 4 on mirrored points.
+// The shape of codes 3 and 4: that of 1 and 2 on mirrored points. There the slopes of a segment are those here with their signs
+// changed, so their order is that here from right to left.
+fn mirror_has_shape(code: u32, p: Point, q: Point) -> bool
+    requires { ⌜ Neighbours (segment-of p q) ⌝ }
+    ensures { λ r. ⌜ r ≡ has-shape (shape-of code) (mirror-segment (segment-of p q)) ⌝ }
+{
+    if code == 1 {
+        return rises(point::mirror(p), point::mirror(q));
+    }
+    let e = slopes_of(p, q);
+    bends(e.right, e.chord, e.left)
+}
+
+// Row 6 is passed: the segment between two points has the shape of its code.
 pub fn segment_test(code: u32, p: Point, q: Point) -> bool
     requires { ⌜ Neighbours (segment-of p q) ⌝ }
     ensures { λ r. ⌜ r ≡ segment-test (rule-of code) (segment-of p q) ⌝ }
 {
     if code > 2 {
-        return has_shape(code - 2, point::mirror(p), point::mirror(q));
+        return mirror_has_shape(code - 2, p, q);
     }
     has_shape(code, p, q)
 }

@@ -1,42 +1,53 @@
 -- `segment::concave_factor` meets its contract.
 -- Assumes nothing.
-use mathlib.Core.Path.{refl, _∙_}
+use mathlib.Core.Path.{_≡_, _∙_, ap}
+use Prim.Native.Nat.{_/_}
+use borrow.Author.Needs.{needs}
+use mir.Syntax.{w32}
+use mir.Val.{toZ, ofZ}
 use mir.Facts.{toZ-ofZ}
 use Rattle.model.specs.Points.{convex}
 use Rattle.model.specs.Interpolant.{interpolant}
 use Rattle.point.specs.Inner.{segment-of}
-use Rattle.segment.specs.Inner.{Rounds}
-use Rattle.segment.proofs.Distances.{plain-small, from-rounds}
-use Rattle.segment.proofs.ConvexReading.{bent-input, sum-size, sum-reading, bent-tie}
+use Rattle.segment.specs.Inner.{raised, raised-rest, halves-down}
+use Rattle.segment.proofs.Distances.{Down, down-fits, from-down}
+use Rattle.segment.proofs.ConvexReading.{bent-input, down-size, down-reading}
 use Rattle.segment.proofs.concave_factor.Statement.{statement}
 use Rattle.segment.proofs.concave_factor.Tie as tie
 
-raised-requires : tie.Need-raised-requires
-raised-requires c κs = bent-input (c .before .pre) (c .bent-at .ensures)
+-- the sum with halves down has the hundreds of the exact one
+hundreds : (c : tie.After-halves-down) →
+    (let y = c .before .before .bent-at .result in
+    c .halves-down .result / 100 ≡
+    halves-down (raised-rest (y .t) (y .u) (y .h) (y .a) (y .b)) (raised (y .t) (y .u) (y .h) (y .left) (y .d) (y .a) (y .b)) / 100)
+hundreds c = ap (λ n. n / 100) (c .halves-down .ensures) ∙ c .before .raised .ensures .1 .1
 
 lowered-requires : tie.Need-lowered-requires
-lowered-requires c κs = sum-size (c .before .before .pre) (c .before .bent-at .ensures) _ (c .raised .ensures .0)
+lowered-requires c κs =
+    let b = c .before .before in
+    down-size (b .before .pre) (b .bent-at .ensures) _ (hundreds c)
 
 -- the value on the points as they are, which are mirrored
-rounds : (c : tie.After-lowered) →
-    (let s = c .before .before .before .args in
-    let r = c .lowered .result in
-    Rounds (interpolant convex (segment-of (s .p) (s .q)) (s .area)) (r .value) (r .tie))
-rounds c =
-    let s = c .before .before .before in
-    let b = c .before .before .bent-at .ensures in
+down : (c : tie.After-lowered) →
+    (let s = c .before .before .before .before .args in
+    Down (interpolant convex (segment-of (s .p) (s .q)) (s .area)) (toZ w32 (ofZ w32 (c .lowered .result))))
+down c =
+    let b = c .before .before .before in
     record {
-      value = c .lowered .ensures .0 ∙ sum-reading (s .pre) b _ (c .before .raised .ensures .0);
-      half = c .lowered .ensures .1 ∙ c .before .raised .ensures .1 refl ∙ bent-tie (s .pre) b;
+      is = toZ-ofZ (record { sfits = c .lowered .ok }) ∙ c .lowered .ensures
+          ∙ down-reading (b .before .pre) (b .bent-at .ensures) _ (hundreds (c .before));
     }
 
-from-mirror-requires : tie.Need-from-mirror-requires
-from-mirror-requires c κs = rw (rounds c .value) (plain-small (c .before .before .before .pre))
+sub-result : tie.Need-sub-result
+sub-result c = down-fits (c .before .before .before .before .pre) (down c)
 
 returns : tie.Need-returns
 returns c =
-    toZ-ofZ (record { sfits = c .from-mirror .ok }) ∙ c .from-mirror .ensures
-    ∙ from-rounds (c .before .before .before .before .pre) (rounds (c .before))
+    let i = c .before .before .before .before .pre in
+    toZ-ofZ (down-fits i (down c)) ∙ from-down i (down c)
 
 pub concave-factor-spec : {M : Type 1} → statement M
-concave-factor-spec = tie.close (tie.spec (λ c κs. c .pre) raised-requires lowered-requires from-mirror-requires returns)
+concave-factor-spec =
+    tie.close
+    (tie.spec (λ c κs. c .pre) (λ c κs. bent-input (c .before .pre) (c .bent-at .ensures)) (search needs)
+    (λ c κs. c .raised .ensures .0) lowered-requires sub-result returns)

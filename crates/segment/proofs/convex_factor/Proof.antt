@@ -10,13 +10,14 @@ raised-requires : tie.Need-raised-requires
 raised-requires c κs = bent-input (c .before .pre) (c .bent-at .ensures)
 
 lowered-requires : tie.Need-lowered-requires
-lowered-requires c κs = sum-size (c .before .before .pre) (c .before .bent-at .ensures) _ (c .raised .ensures .0)
+lowered-requires c κs =
+    sum-size (c .before .before .pre) (c .before .bent-at .ensures) _ (c .raised .ensures .1 .0)
 
 returns : tie.Need-returns
 returns c =
-    let s = c .before .before .before .before in
-    let b = c .before .before .before .bent-at .ensures in
-    rw (c .before .lowered .ensures .0 ∙ sum-reading (s .pre) b _ (c .before .before .raised .ensures .0))
+    let r = c .before in
+    let s = r .before .before in
+    rw (c .lowered .ensures ∙ sum-reading (s .pre) (r .before .bent-at .ensures) _ (r .raised .ensures .1 .0))
     (small-read (plain-small (s .pre)))
 
 pub convex-factor-spec : {M : Type 1} → statement M

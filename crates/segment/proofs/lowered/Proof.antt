@@ -4,7 +4,6 @@ use mathlib.Core.Path.{_≡_, _∙_, ap₂}
 use Prim.Native.Nat.{ℕ, _+_, _*_, _/_, _^_, _≤_}
 use native.Mathlib.Omega.{arith}
 use borrow.Author.Needs.{needs}
-use borrow.Author.Tests.{eq-eqb, ne-eqb}
 use lib.IntN.{ℤ, pos, negsuc, natAbs, _-ℤ_}
 use mir.Syntax.{w32, w64}
 use mir.Val.{SFits, toZ, ofZ}
@@ -41,30 +40,22 @@ module _ {t n : ℕ} (k : RaisedSize t n) where
   value-fits = sfits-of-size w32 (floorDiv lowered 100) (omega (arith, floor-size lowered, lowered-size))
 
 sub-n : tie.Need-sub-n
-sub-n c = let k = c .before .pre in rw (lowered-read k) (lowered-fits k)
+sub-n c = rw (lowered-read (c .pre)) (lowered-fits (c .pre))
 
 -- the quotient
 value-is : (c : tie.After-floor-div) →
-    (let s = c .before .before .args in
-    toZ w64 (ofZ w64 (c .floor-div .result)) ≡ floorDiv (pos (s .s .sum) -ℤ pos (slope-most * s .t)) 100)
+    (let s = c .before .args in
+    toZ w64 (ofZ w64 (c .floor-div .result)) ≡ floorDiv (pos (s .sum) -ℤ pos (slope-most * s .t)) 100)
 value-is c =
-    let k = c .before .before .pre in
+    let k = c .before .pre in
     toZ-ofZ (record { sfits = c .floor-div .ok }) ∙ (rw (lowered-read k, toZ-ofZ (lowered-fits k)) at (c .floor-div .ensures))
 
-cast-value : tie.Need-cast-value
-cast-value c = rw (value-is c) (value-fits (c .before .before .pre))
+cast-result : tie.Need-cast-result
+cast-result c = rw (value-is c) (value-fits (c .before .pre))
 
 returns : tie.Need-returns
-returns c =
-    let f = c .before .before in
-    (rw (value-is f) (toZ-ofZ (value-fits (f .before .before .pre))), rw (ne-eqb _ 0 (c .if1 .taken)))
-
-returns-2 : tie.Need-returns-2
-returns-2 c =
-    let f = c .before .before .before in
-    (rw (value-is f) (toZ-ofZ (value-fits (f .before .before .pre))), rw (eq-eqb _ 0 (c .before .if1 .left)))
+returns c = rw (value-is c) (toZ-ofZ (value-fits (c .before .pre)))
 
 pub lowered-spec : {M : Type 1} → statement M
 lowered-spec =
-    tie.close
-    (tie.spec (search needs) (search needs) (search needs) (search needs) sub-n (search needs) cast-value returns returns-2)
+    tie.close (tie.spec (search needs) (search needs) (search needs) (search needs) sub-n (search needs) cast-result returns)

@@ -1,21 +1,22 @@
 -- `segment::raised` meets its contract.
 -- Assumes nothing.
-use mathlib.Core.Path.{refl, sym, ap}
+use mathlib.Core.Path.{refl, ap}
 use Prim.Native.Nat.{_/_}
 use native.Mathlib.Nat.{add-zero, mul-pos, zero-mul, zero-div, zero-mod}
 use native.Mathlib.Omega.{arith}
 use borrow.Author.Needs.{needs}
 use Rattle.exact.proofs.Magnitude.{product-size}
 use Rattle.segment.proofs.Sizes.{h-positive, tangent-size, divisor-size, denominator-size, w-most, w-most-size}
-use Rattle.segment.proofs.Sizes.{excess-size, raised-size, least-near, no-tie, full-sum, full-tie, full-rest}
+use Rattle.segment.proofs.Sizes.{excess-size, raised-size, least-near, near-hundreds, near-down}
+use Rattle.segment.proofs.Sizes.{full-sum, full-down, full-rest}
 use Rattle.segment.proofs.raised.Statement.{statement}
 use Rattle.segment.proofs.raised.Tie as tie
 
 -- the left tangent alone
 returns : tie.Need-returns
 returns c = (
-  omega (arith, excess-size (c .before .pre)),
-  λ _. rw (c .if1 .taken) (simp (zero-mul, zero-mod, zero-div, add-zero) refl),
+  omega arith,
+  (omega (arith, excess-size (c .before .pre)), rw (c .if1 .taken) (simp (zero-mul, zero-mod, zero-div, add-zero) refl)),
 )
 
 -- w w in 64 bits
@@ -34,7 +35,7 @@ add-sum : tie.Need-add-sum
 add-sum c = let k = c .before .before .pre in rw (← k .sum) (omega (arith, raised-size k))
 
 returns-2 : tie.Need-returns-2
-returns-2 c = rw (c .before .before .pre .sum) (refl, λ _. refl)
+returns-2 c = rw (c .before .before .pre .sum) (omega arith, (refl, refl))
 
 -- by leading bits
 mul-least : tie.Need-mul-least
@@ -56,7 +57,7 @@ returns-3 : tie.Need-returns-3
 returns-3 c =
     let k = c .before .before .before .pre in
     let near = least-near k (omega arith) (omega arith) in
-    (omega (arith, near), λ e. sym (no-tie k (omega (arith, near))))
+    (omega arith, (near-hundreds _ near (c .if3 .taken), near-down _ near (c .if3 .taken)))
 
 -- in full
 mul-div-requires : tie.Need-mul-div-requires
@@ -79,7 +80,8 @@ returns-4 : tie.Need-returns-4
 returns-4 c =
     let l = c .before .before .before in
     let k = l .before .before .before .before .pre in
-    (ap (λ n. n / 100) (full-sum k (l .mul-div .ensures) (omega arith)), λ _. full-tie k (l .mul-div .ensures) (omega arith))
+    let m = l .mul-div .ensures in
+    (omega arith, (ap (λ n. n / 100) (full-sum k m (omega arith)), ap (λ n. n / 100) (full-down k m (omega arith))))
 
 pub raised-spec : {M : Type 1} → statement M
 raised-spec =
