@@ -2,7 +2,7 @@
 --   Looking                        the last so far, and the next to be looked at
 --   looking-starts, looking-takes, looking-passes, looked    a loop that looks at one in each turn
 --   Near, near-next, near-last     where the second search ends
---   taken-of                       what it finds
+--   taken-of                       what it finds; taken-of-two, of two areas the first
 -- Assumes nothing.
 use mathlib.Core.Path.{_≡_, refl}
 use mathlib.Core.List.{List}
@@ -73,3 +73,6 @@ taken-of {end = end} {i = i} k l =
             elim (k .high) [ inl h ↦ inl (rw next at h) | inr m ↦ inr (omega arith) ]
       ];
     }
+
+pub taken-of-two : {areas : List ℕ} {x : ℕ} → Reached areas 0 x → length areas ≡ 2 → Taken areas 0 x
+taken-of-two r e = record { reached = r; high = inr (omega arith) }

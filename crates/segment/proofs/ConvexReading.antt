@@ -265,7 +265,7 @@ module _ {s : Segment} {x : ℕ} (i : Inside (Good (plain convex)) s x) {y : Ben
 
   module _ (n : ℕ)
       (e : n / 100 ≡ halves-down (raised-rest (y .t) (y .u) (y .h) (y .a) (y .b))
-          (raised (y .t) (y .u) (y .h) (y .left) (y .d) (y .a) (y .b)) / 100) where
+      (raised (y .t) (y .u) (y .h) (y .left) (y .d) (y .a) (y .b)) / 100) where
     pub down-size : RaisedSize (y .t) n
     down-size =
         record {

@@ -98,6 +98,7 @@ hundreds-down rest n h =
   where
     same-hundred : (n % 100 ≡ 0 → ⊥) → (n - 1) / 100 ≡ n / 100
     same-hundred k = omega arith
+
     next-less : (m : ℕ) → pos (m + 1) -ℤ pos 1 ≡ pos m
     next-less m = ring (pos m ∷ []) (search terms depth 20 fits 9999) tt
 
