@@ -105,10 +105,10 @@ struct Sum {
 // h that is the same for all of them is 0.
 fn raised(t: u64, u: u64, h: u64, left: u64, d: u64, a: u64, b: u64) -> Sum
     requires { ⌜ ConvexInput t u h left d a b ⌝ }
-    ensures some { λ s. ⌜ 0 < s .sum ⌝ }
     ensures hundreds { λ s. ⌜ s .sum / 100 ≡ inner.raised t u h left d a b / 100 ⌝ }
     ensures down { λ s. ⌜ halves-down (s .rest) (s .sum) / 100
         ≡ halves-down (raised-rest t u h a b) (inner.raised t u h left d a b) / 100 ⌝ }
+    ensures some { λ s. ⌜ 0 < s .sum ⌝ }
 {
     let tangent = 50 * (2 * left + 1) + d * t;
     let w = b * t;

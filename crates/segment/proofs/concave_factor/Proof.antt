@@ -20,7 +20,7 @@ hundreds : (c : tie.After-halves-down) →
     (let y = c .before .before .bent-at .result in
     c .halves-down .result / 100 ≡
     halves-down (raised-rest (y .t) (y .u) (y .h) (y .a) (y .b)) (raised (y .t) (y .u) (y .h) (y .left) (y .d) (y .a) (y .b)) / 100)
-hundreds c = ap (λ n. n / 100) (c .halves-down .ensures) ∙ c .before .raised .ensures .1 .1
+hundreds c = ap (λ n. n / 100) (c .halves-down .ensures) ∙ c .before .raised .ensures .1 .0
 
 lowered-requires : tie.Need-lowered-requires
 lowered-requires c κs =
@@ -50,4 +50,4 @@ pub concave-factor-spec : {M : Type 1} → statement M
 concave-factor-spec =
     tie.close
     (tie.spec (λ c κs. c .pre) (λ c κs. bent-input (c .before .pre) (c .bent-at .ensures)) (search needs)
-    (λ c κs. c .raised .ensures .0) lowered-requires sub-result returns)
+    (λ c κs. c .raised .ensures .1 .1) lowered-requires sub-result returns)

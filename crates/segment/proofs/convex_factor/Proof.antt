@@ -11,13 +11,13 @@ raised-requires c κs = bent-input (c .before .pre) (c .bent-at .ensures)
 
 lowered-requires : tie.Need-lowered-requires
 lowered-requires c κs =
-    sum-size (c .before .before .pre) (c .before .bent-at .ensures) _ (c .raised .ensures .1 .0)
+    sum-size (c .before .before .pre) (c .before .bent-at .ensures) _ (c .raised .ensures .0)
 
 returns : tie.Need-returns
 returns c =
     let r = c .before in
     let s = r .before .before in
-    rw (c .lowered .ensures ∙ sum-reading (s .pre) (r .before .bent-at .ensures) _ (r .raised .ensures .1 .0))
+    rw (c .lowered .ensures ∙ sum-reading (s .pre) (r .before .bent-at .ensures) _ (r .raised .ensures .0))
     (small-read (plain-small (s .pre)))
 
 pub convex-factor-spec : {M : Type 1} → statement M

@@ -15,8 +15,8 @@ use Rattle.segment.proofs.raised.Tie as tie
 -- the left tangent alone
 returns : tie.Need-returns
 returns c = (
-  omega arith,
-  (omega (arith, excess-size (c .before .pre)), rw (c .if1 .taken) (simp (zero-mul, zero-mod, zero-div, add-zero) refl)),
+  omega (arith, excess-size (c .before .pre)),
+  (rw (c .if1 .taken) (simp (zero-mul, zero-mod, zero-div, add-zero) refl), omega arith),
 )
 
 -- w w in 64 bits
@@ -35,7 +35,7 @@ add-sum : tie.Need-add-sum
 add-sum c = let k = c .before .before .pre in rw (← k .sum) (omega (arith, raised-size k))
 
 returns-2 : tie.Need-returns-2
-returns-2 c = rw (c .before .before .pre .sum) (omega arith, (refl, refl))
+returns-2 c = rw (c .before .before .pre .sum) (refl, (refl, omega arith))
 
 -- by leading bits
 mul-least : tie.Need-mul-least
@@ -57,7 +57,7 @@ returns-3 : tie.Need-returns-3
 returns-3 c =
     let k = c .before .before .before .pre in
     let near = least-near k (omega arith) (omega arith) in
-    (omega arith, (near-hundreds _ near (c .if3 .taken), near-down _ near (c .if3 .taken)))
+    (near-hundreds _ near (c .if3 .taken), (near-down _ near (c .if3 .taken), omega arith))
 
 -- in full
 mul-div-requires : tie.Need-mul-div-requires
@@ -81,7 +81,7 @@ returns-4 c =
     let l = c .before .before .before in
     let k = l .before .before .before .before .pre in
     let m = l .mul-div .ensures in
-    (omega arith, (ap (λ n. n / 100) (full-sum k m (omega arith)), ap (λ n. n / 100) (full-down k m (omega arith))))
+    (ap (λ n. n / 100) (full-sum k m (omega arith)), (ap (λ n. n / 100) (full-down k m (omega arith)), omega arith))
 
 pub raised-spec : {M : Type 1} → statement M
 raised-spec =
