@@ -1,5 +1,6 @@
 """Wrong versions of bench/plain.c: the first text, which occurs there once,
-becomes the second. Those of the shapes are in wrong_shapes.py."""
+becomes the second. Those of shape codes, and of falling and concave curves,
+are in wrong_shapes.py."""
 
 CHECKED = '''\
     int64_t fault = lists_fault(c, values_len, slopes_len, shape);

@@ -23,7 +23,7 @@ unfoldable pub filled-answer : Filled → Answer ℕ
 filled-answer (filled.Entries count) = gives count
 filled-answer (filled.Refused number place) = refused number place
 
--- no factor is below −200,000; nor, beyond document 01 and request 4, above 400,000
+-- no factor is below −200,000; nor, beyond document 01 and item 4, above 400,000
 unfoldable pub InRange : Answer ℤ → Type 0
 InRange (gives factor) = (negℤ (pos 200000) ≤ℤ factor) × (factor ≤ℤ pos 400000)
 InRange (refused number place) = Unit {0}

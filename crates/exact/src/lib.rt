@@ -1,4 +1,4 @@
-// Exact arithmetic: floor division, and the quotient of a product that may pass 64 bits.
+// Exact arithmetic: floor division, and quotient and remainder of a product that may pass 64 bits.
 ghost use mathlib.Core.Path.{_≡_};
 ghost use Prim.Native.Nat.{_*_, _^_, _<_};
 ghost use Rattle.exact.specs.Rounding.{floorDiv};
@@ -31,7 +31,7 @@ pub fn floor_div(n: i64, d: u64) -> i64
 // y has two digits in this base, 2^26; a step fits 64 bits, since c * BASE is at most 2^63.
 const BASE: u64 = 0x400_0000;
 
-// Quotient and remainder of x * y by c, with y the digits so far.
+// Quotient and remainder of a division.
 pub struct Quotient {
     pub q: u64,
     pub r: u64,
@@ -58,7 +58,7 @@ fn step(p: Quotient, x: u64, y: u64, c: u64, base: u64) -> Quotient
     }
 }
 
-// x * y by c.
+// Quotient and remainder of x * y by c, by the two digits of y.
 pub fn mul_div(x: u64, y: u64, c: u64) -> Quotient
     requires { ⌜ Scaled x y c ⌝ }
     ensures { λ s. ⌜ Divided (x * y) c (s .q) (s .r) ⌝ }

@@ -31,7 +31,7 @@ use Rattle.model.proofs.Walk.{good-ordered}
 use Rattle.model.proofs.Indexed.{chained-at}
 use Rattle.model.proofs.Accepted.{chained-of}
 use Rattle.model.proofs.Lists.{Fields, fields-of, fields-length, fields-at}
-use Rattle.shape.proofs.Tests.{climbing-shape, level-shape, falling-shape}
+use Rattle.shape.proofs.Tests.{climbing-shape, level-shape, descending-shape}
 use Rattle.rows.proofs.Faults.{segments-from, segment-turn, segment-end}
 use Rattle.harmonic.specs.Inner.{zero-slope-points, rated-rows, Counted, Climbing}
 use Rattle.harmonic.specs.Fill.{area-and-value-rows, falls}
@@ -67,7 +67,8 @@ rows-3-to-5 i before (a ∷ areas) (v ∷ values) (s ∷ slopes) e f good =
 -- ---- row 6
 
 module _ (ps : List Point) (rule : Rule) (shapeless : ℕ → Bool)
-    (is : (i : ℕ) → i + 1 < length ps → segment-test rule (between (point-at ps i) (point-at ps (i + 1))) ≡ not (shapeless i)) where
+    (is : (i : ℕ) → i + 1 < length ps →
+    segment-test rule (between (point-at ps i) (point-at ps (i + 1))) ≡ not (shapeless i)) where
   rows-from : (m i : ℕ) → i + m + 1 ≡ length ps → segments-from ps rule i ≡ row-at-each shapeless 6 i m
   unfolding row-at-each
   rows-from zero i e = segment-end ps rule i (omega arith)
@@ -83,7 +84,7 @@ rises : (s : Segment) → pos 0 ≤ℤ s .left .slope → pos 0 ≤ℤ s .right 
     has-shape rising s ≡ not (ltb (s .right .value) (s .left .value))
 rises s h k flat =
     elim (compare (s .left .value) (s .right .value)) [
-      | inr (down, t) ↦ rw (lt-ltb (s .right .value) (s .left .value) down) (falling-shape s down)
+      | inr (down, t) ↦ rw (lt-ltb (s .right .value) (s .left .value) down) (descending-shape s down)
       | inl (not-down, t) ↦
           rw (le-ltb (s .right .value) (s .left .value) not-down)
           (elim (compare (suc (s .left .value)) (s .right .value)) [

@@ -1,4 +1,4 @@
--- The laws of an accepted curve, from the relations across it. Those that document 01 and request 4 state of exact values:
+-- The laws of an accepted curve, from the relations across it. Those that documents 01 and 02 (item 4) state of exact values:
 -- segments-meet, convex-chords, concave-chords (specs/Laws.antt). Of factors, for the demands over every call:
 --   factors-are-near      at most half a unit off; where it is exactly half a unit, upwards
 --   factors-are-ranged    from least-factor to most-factor of the curve's rule; factors-are-bounded, from −200,000 to 400,000
@@ -27,7 +27,8 @@ use Rattle.exact.proofs.Rounding.{round-rounding, round-is-half-up, rounding-at
 use Rattle.model.specs.Points.{value-most, Point, Segment, Shape, rising, convex, Rule, plain, rule-of}
 use Rattle.model.specs.Interpolant.{interpolant, exact-curve}
 use Rattle.model.specs.Read.{reading}
-use Rattle.model.specs.Laws.{least-factor, most-factor, Curve, Area, exact, SegmentsMeet, chord-slope, ConvexChords, ConcaveChords}
+use Rattle.model.specs.Laws.{least-factor, most-factor, Curve, Area, exact, SegmentsMeet}
+use Rattle.model.specs.Laws.{chord-slope, ConvexChords, ConcaveChords}
 use Rattle.model.specs.Inner.{Accepted, origin, point-at, segment-at, areas-of, Good, Inside, Taken}
 use Rattle.model.proofs.ClosedForm.{Closed}
 use Rattle.model.proofs.Curves.{≤-of-closed}
@@ -165,7 +166,8 @@ chained-as c e = subst (λ (r : Rule). Chained (Good r) (c .points)) e (chained-
 rising-values : (c : Curve) → c .code ≡ 1 → (x y : ℕ) → Area c x → Area c y → x ≤ y → exact c x ≤ℚ exact c y
 rising-values c e x y kx ky h =
     subst₂ (λ (v w : Fraction). v ≤ℚ w) (sym (value-as c (rule-of-1 e) x)) (sym (value-as c (rule-of-1 e) y))
-    (across-chained (Good (plain rising)) good-ordered rising-spreads (chained-as c (rule-of-1 e)) x y (kx .within) (ky .within) h)
+    (across-chained (Good (plain rising)) good-ordered rising-spreads (chained-as c (rule-of-1 e)) x y
+    (kx .within) (ky .within) h)
 
 pub rising-factors : (c : Curve) → c .code ≡ 1 → (x y : ℕ) → Area c x → Area c y → x ≤ y → factor c x ≤ℤ factor c y
 rising-factors c e x y kx ky h = factors-keep-order c x y kx ky (rising-values c e x y kx ky h)
@@ -179,7 +181,8 @@ module _ (c : Curve) (e : c .code ≡ 2) where
 
   supports-across : (x y : ℕ) → Area c x → Area c y → x ≤ y → Supports (segment-taken c x) x (segment-taken c y) y
   supports-across x y kx ky h =
-      across-chained (Good (plain convex)) good-ordered convex-spreads (chained-as c (rule-of-2 e)) x y (kx .within) (ky .within) h
+      across-chained (Good (plain convex)) good-ordered convex-spreads (chained-as c (rule-of-2 e)) x y
+      (kx .within) (ky .within) h
 
   σ-proper : (x : ℕ) → Area c x → Proper (σ x)
   σ-proper x k =

@@ -8,10 +8,8 @@ use mathlib.Core.Path.{sym}
 use mathlib.Core.List.{[], _∷_}
 use Prim.Native.Nat.{ℕ}
 use native.Mathlib.Nat.{sub-le}
-use lib.IntN.{ℤ, pos, negℤ, _-ℤ_}
-use lib.Signed.{_≤ℤ_}
+use lib.IntN.{pos, _-ℤ_}
 use Rattle.exact.specs.Fraction.{Fraction, Proper, whole, _-ℚ_, _≈ℚ_}
-use Rattle.exact.proofs.Ring.{ring, terms}
 use Rattle.exact.proofs.Order as Z
 use Rattle.exact.proofs.Field.{field, ratios}
 use Rattle.exact.proofs.Fractions as Q

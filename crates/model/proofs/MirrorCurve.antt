@@ -1,6 +1,6 @@
 -- A curve and its mirror, point by point.
---   mirror-accepted              a curve accepted under 3 (4) is, mirrored, accepted under 1 (2); its exact values are 200,000 less
---                                the mirror's (specs/Laws.antt)
+--   mirror-accepted              a curve accepted under 3 (4) is, mirrored, accepted under 1 (2); its exact values are 200,000
+--                                less the mirror's (specs/Laws.antt)
 --   mirror-curve, mirror-area    that curve; it has the same areas
 -- Assumes nothing.
 use mathlib.Core.Path.{_≡_, refl, _∙_, ap}
@@ -48,7 +48,8 @@ segments-mirror : (ps : List Point) → segments (map mirror ps) ≡ map mirror-
 unfolding segments
 segments-mirror [] = refl
 segments-mirror (p ∷ []) = refl
-segments-mirror (p ∷ q ∷ ps) = ap (λ (ss : List Segment). record { left = mirror p; right = mirror q } ∷ ss) (segments-mirror (q ∷ ps))
+segments-mirror (p ∷ q ∷ ps) =
+    ap (λ (ss : List Segment). record { left = mirror p; right = mirror q } ∷ ss) (segments-mirror (q ∷ ps))
 
 rows-mirror : (i : ℕ) (shape : Shape) (ss : List Segment) →
     segment-rows i (plain shape) (map mirror-segment ss) ≡ segment-rows i (mirrored shape) ss
@@ -102,8 +103,8 @@ module _ (c : Curve) where
       let most : c .code - 2 ≤ 2 = omega arith in
       let segments-too = rw (mirrored-of h) at (segments-pass accepted) in (
         rw (length-map (c .points) mirror, le-ltb _ 2 (n .0), le-ltb 64 _ (n .1), le-ltb _ 1 least)
-            (rw (le-ltb 4 (c .code - 2) (omega arith), points-mirror 0 none _ (points-pass accepted), plain-of most, segments-mirror (c .points), rows-mirror)
-            segments-too),
+            (rw (le-ltb 4 (c .code - 2) (omega arith), points-mirror 0 none _ (points-pass accepted), plain-of most)
+            (rw (segments-mirror (c .points), rows-mirror) segments-too)),
         λ x. rw (mirrored-of h, plain-of most) (value-mirror _ x (c .points) (n .0)),
       )
 

@@ -1,6 +1,6 @@
 -- The exact values of a segment are between least-factor and most-factor of its rule. A rising curve is between its ends, at most
--- value-most. A convex curve is not above its larger end, and not below its left tangent: that falls by at most slope-most / 100 for
--- each of at most gap-most tenths. Their mirrors are 200,000 less that.
+-- value-most. A convex curve is not above its larger end, and not below its left tangent: that falls by at most slope-most / 100
+-- for each of at most gap-most tenths. Their mirrors are 200,000 less that.
 --   Between, value-range       a fraction between two whole numbers; the exact value
 --   Within, reading-range      a whole number, so; its rounding, by any rounding that keeps order and whole numbers
 --   least-of-all, most-of-all  from −200,000 to 400,000, whichever rule

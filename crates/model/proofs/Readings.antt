@@ -1,4 +1,4 @@
--- K1 to K10, further readings and those of request 4, by computation.
+-- K1 to K10, further readings and those of document 02, item 4, by computation.
 -- Assumes nothing.
 use mathlib.Core.Path.{refl}
 use Rattle.exact.specs.Fraction.{_over_, whole, _+ℚ_, _-ℚ_, _*ℚ_, _/ℚ_, leℚ, ltℚ, eqℚ}
@@ -12,12 +12,13 @@ use Rattle.model.specs.Check.{lengths-differ, bad-count, bad-code, bad-a
 use Rattle.model.specs.Check.{point-rows, segment-rows, curve-rows, check-answer, on-lists}
 use Rattle.model.specs.Read.{taken, value-in, outside, exact-value, reading, read-answer}
 use Rattle.model.specs.Sheet.{bad-sheet, tabulate, sheet-answer, sheet-list}
-use Rattle.model.specs.Readings.{bow, ten, TenReadings, kink, FurtherReadings, mirrored-bow, ten-mirrored, fall, arch, MirroredReadings}
+use Rattle.model.specs.Readings.{bow, ten, TenReadings, kink, FurtherReadings}
+use Rattle.model.specs.Readings.{mirrored-bow, ten-mirrored, fall, arch, MirroredReadings}
 
 computed : TenReadings × FurtherReadings × MirroredReadings
 unfolding _over_ whole _+ℚ_ _-ℚ_ _*ℚ_ _/ℚ_ leℚ ltℚ eqℚ floorDiv floor round row _then_ row-at-each
-    gradient points segments shape-of rule-of mirror chord p q P Q rational r-rising r-convex rising-curve convex-curve curve interpolant exact-curve
-    rises bends fits has-shape segment-test
+    gradient points segments shape-of rule-of mirror chord p q P Q rational r-rising r-convex rising-curve convex-curve curve
+    interpolant exact-curve rises bends fits has-shape segment-test
     lengths-differ bad-count bad-code bad-area bad-value bad-slope point-rows segment-rows curve-rows check-answer on-lists
     taken value-in outside exact-value reading read-answer bad-sheet tabulate sheet-answer sheet-list
     bow ten kink mirrored-bow ten-mirrored fall arch

@@ -21,7 +21,7 @@ lengths-differ areas values slopes = not (eqb areas values) || not (eqb areas sl
 unfoldable pub bad-count : ℕ → Bool
 bad-count count = ltb count points-least || ltb points-most count
 
--- row 2: shape code outside 1 to 4 (request 4)
+-- row 2: shape code outside 1 to 4 (document 02, item 4)
 unfoldable pub bad-code : ℕ → Bool
 bad-code code = ltb code 1 || ltb 4 code
 

@@ -63,7 +63,7 @@ interpolant shape s area =
     curve (pos (s .right .area) -ℤ pos (s .left .area)) (pos (s .left .value)) (pos (s .right .value))
     (pos area -ℤ pos (s .left .area)) (gradient (s .left)) (gradient (s .right)) shape
 
--- Request 4: the exact curve of a rule; that on mirrored points is taken from 200,000 again
+-- Document 02, item 4: the exact curve of a rule; that on mirrored points is taken from 200,000 again
 unfoldable pub exact-curve : Rule → Segment → ℕ → Fraction
 exact-curve (plain shape) s area = interpolant shape s area
 exact-curve (mirrored shape) s area = whole (pos value-most) -ℚ interpolant shape (mirror-segment s) area

@@ -1,5 +1,5 @@
--- Document 01, "The words of the third demand", and request 4: an accepted curve, its areas, its exact values, chords; and what is
--- said there of the exact values. Proofs: proofs/Laws.antt.
+-- Document 01, "The words of the third demand", and document 02, item 4: an accepted curve, its areas, its exact values, chords;
+-- and what is said there of the exact values. Proofs: proofs/Laws.antt.
 -- Assumes nothing.
 use Prim.Native.Nat.{ℕ, _-_, _≤_, _<_}
 use mathlib.Core.Path.{_≡_}
@@ -13,7 +13,7 @@ use Rattle.model.specs.Interpolant.{exact-curve}
 use Rattle.model.specs.Check.{curve-rows}
 use Rattle.model.specs.Read.{outside, exact-value}
 
--- Request 4: between which numbers are the factors of a rule. A convex curve may go below 0, a concave one above 200,000.
+-- item 4: between which numbers are the factors of a rule. A convex curve may go below 0, a concave one above 200,000.
 abbrev pub least-factor : Rule → ℤ
 least-factor (plain rising) = pos 0
 least-factor (plain convex) = negℤ (pos 200000)
@@ -67,7 +67,7 @@ module _ (c : Curve) where
   abbrev pub ConcaveChords : Type 0
   ConcaveChords = c .code ≡ 4 → ChordsInOrder (λ left right. right ≤ℚ left)
 
-  -- Request 4: a curve accepted under 3 (4) is, mirrored, accepted under 1 (2), and its exact values are 200,000 less the mirror's
+  -- item 4: a curve accepted under 3 (4) is, mirrored, accepted under 1 (2), and its exact values are 200,000 less the mirror's
   abbrev pub MirrorAccepted : Type 0
   MirrorAccepted =
       2 < c .code →

@@ -1,4 +1,5 @@
--- Document 01 in definitions, each after those it uses; then what is said of accepted curves, and what inner contracts cite.
+-- Document 01, and the shapes of document 02, item 4, in definitions, each after those it uses; then what is said of accepted
+-- curves, and what inner contracts cite.
 pub mod Answer
 pub mod Points
 pub mod Interpolant

@@ -62,7 +62,8 @@ pub data Shape : Type 0 where
 unfoldable pub shape-of : ℕ → Shape
 shape-of code = cond (eqb code 1) rising convex
 
--- Request 4: a point whose value is 200,000 less the value and whose slope changes sign. It is taken where row 4 is passed.
+-- Document 02, item 4: a point whose value is 200,000 less the value and whose slope changes sign. It is taken where row 4 is
+-- passed.
 unfoldable pub mirror : Point → Point
 mirror p = record { area = p .area; value = value-most - p .value; slope = negℤ (p .slope) }
 

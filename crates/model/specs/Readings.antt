@@ -1,5 +1,5 @@
--- Document 01, "Readings to prove": K1 to K10, as answers of Read and of Check; and the sheet that is printed there. Of request 4:
--- K1 to K10 mirrored, and three points under each new code.
+-- Document 01, "Readings to prove": K1 to K10, as answers of Read and of Check; and the sheet that is printed there. Of document
+-- 02, item 4: K1 to K10 mirrored, and three points under each new code.
 -- Assumes nothing.
 use Prim.Native.Nat.{ℕ}
 use mathlib.Core.Path.{_≡_}

@@ -29,7 +29,7 @@ has-shape shape s =
     fits (pos (s .right .area) -ℤ pos (s .left .area)) (pos (s .right .value) -ℤ pos (s .left .value))
     (gradient (s .left)) (gradient (s .right)) shape
 
--- Request 4: the segment test of a rule
+-- Document 02, item 4: the segment test of a rule
 unfoldable pub segment-test : Rule → Segment → Bool
 segment-test (plain shape) s = has-shape shape s
 segment-test (mirrored shape) s = has-shape shape (mirror-segment s)

@@ -59,7 +59,7 @@ pub fn point_fault(first: bool, before: u32, p: Point) -> u32
     0
 }
 
-// Request 4: 200,000 less the value, and the slope with its sign changed.
+// Document 02, item 4: 200,000 less the value, and the slope with its sign changed.
 pub fn mirror(p: Point) -> Point
     requires { ⌜ Limits (point-of p) ⌝ }
     ensures { λ r. ⌜ point-of r ≡ mirror (point-of p) ⌝ }

@@ -37,8 +37,8 @@ pub record Each (c : Curve) : Type 0 where
 
 pub example : FileExample × (c : Curve) × Each c
 unfolding _over_ whole _+ℚ_ _-ℚ_ _*ℚ_ _/ℚ_ leℚ ltℚ eqℚ floorDiv floor round row _then_ row-at-each
-    gradient points segments shape-of rule-of chord p q P Q rational r-rising r-convex rising-curve convex-curve curve interpolant exact-curve
-    rises bends fits has-shape segment-test
+    gradient points segments shape-of rule-of chord p q P Q rational r-rising r-convex rising-curve convex-curve curve
+    interpolant exact-curve rises bends fits has-shape segment-test
     lengths-differ bad-count bad-code bad-area bad-value bad-slope point-rows segment-rows curve-rows on-lists
     taken value-in outside exact-value reading read-answer bad-sheet tabulate sheet-answer sheet-list
     twos-complement little-endian record-at wrong-mark bad-head bad-size head-rows factors pair-answer

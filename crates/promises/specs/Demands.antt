@@ -1,4 +1,4 @@
--- The third demand, and what request 4 adds to it. Proofs: proofs/Demands.antt.
+-- The third demand, and what document 02, item 4, adds to it. Proofs: proofs/Demands.antt.
 -- Assumes nothing.
 use Prim.Native.Nat.{ℕ, _+_, _*_, _≤_, _<_}
 use mathlib.Core.Path.{_≡_}
@@ -10,7 +10,8 @@ use Rattle.exact.specs.Rounding.{half}
 use Rattle.model.specs.Answer.{gives, refused}
 use Rattle.model.specs.Points.{Point, rule-of}
 use Rattle.model.specs.Check.{check-answer, on-lists}
-use Rattle.model.specs.Laws.{least-factor, most-factor, Curve, Area, exact, SegmentsMeet, ConvexChords, ConcaveChords, MirrorAccepted}
+use Rattle.model.specs.Laws.{least-factor, most-factor, Curve, Area, exact}
+use Rattle.model.specs.Laws.{SegmentsMeet, ConvexChords, ConcaveChords, MirrorAccepted}
 use Rattle.model.specs.Sheet.{entry-area}
 use Rattle.desk.specs.Desk.{desk-answer}
 use Rattle.pair.specs.Pair.{Factors}
@@ -49,7 +50,7 @@ pub record ThirdDemand (c : Curve) : Type 0 where
       FactorRead c x f₀ → FactorRead c (x + k) f₁ → FactorRead c (x + 2 * k) f₂ → (f₁ -ℤ f₀ -ℤ pos 1) ≤ℤ (f₂ -ℤ f₁)
   -- of two chords of a convex curve, the one to the right is at least as steep
   pub convex-chords : ConvexChords c
-  -- request 4: a falling curve never reads a larger factor at a larger area
+  -- document 02, item 4: a falling curve never reads a larger factor at a larger area
   pub falling : c .code ≡ 3 → (x y : ℕ) (f g : ℤ) → FactorRead c x f → FactorRead c y g → x ≤ y → g ≤ℤ f
   -- of three areas equally far apart on a concave curve, the second step is at most one unit larger than the first
   pub concave-steps : c .code ≡ 4 → (x k : ℕ) (f₀ f₁ f₂ : ℤ) → 0 < k →
@@ -58,7 +59,7 @@ pub record ThirdDemand (c : Curve) : Type 0 where
   pub concave-chords : ConcaveChords c
   -- mirrored, a falling or concave curve is accepted as rising or convex
   pub mirror-accepted : MirrorAccepted c
-  -- beyond document 01 and request 4: how far a factor is from 0
+  -- beyond document 01 and item 4: how far a factor is from 0
   pub ranged : (x : ℕ) (f : ℤ) → FactorRead c x f →
       (least-factor (rule-of (c .code)) ≤ℤ f) × (f ≤ℤ most-factor (rule-of (c .code)))
   -- and a factor read at a rated point is the point's value

@@ -7,8 +7,8 @@
 use mathlib.Core.Path.{_≡_, sym, _∙_, ap}
 use mathlib.Core.Bool.{cond}
 use mathlib.Core.List.{[], _∷_}
-use Prim.Native.Nat.{ℕ, _+_, _*_, _/_, _<_}
-use native.Mathlib.Nat.{mul-pos, zero-mul, zero-div, zero-mod}
+use Prim.Native.Nat.{ℕ, _+_, _*_, _/_, _≤_, _<_}
+use native.Mathlib.Nat.{le-refl, sub-le, mul-pos, zero-mul, zero-div, zero-mod}
 use native.Mathlib.Omega.{arith}
 use lib.Dec.{lit<}
 use lib.IntN.{ℤ, pos, natAbs, _+ℤ_, _-ℤ_, _*ℤ_, *ℤ-comm, +ℤ-invr}
@@ -250,28 +250,30 @@ module _ {s : Segment} {x : ℕ} (i : Inside (Good (plain convex)) s x) {y : Ben
   pub bent-input : ConvexInput (y .t) (y .u) (y .h) (y .left) (y .d) (y .a) (y .b)
   bent-input = rw (k .t, k .u, k .h, k .left, d-is, a-is, b-is) (convex-inside i .input)
 
+  -- a number with the hundreds of one that is not above `raised`
+  hundreds-size : (n m : ℕ) → m ≤ raised (y .t) (y .u) (y .h) (y .left) (y .d) (y .a) (y .b) → n / 100 ≡ m / 100 →
+      RaisedSize (y .t) n
+  hundreds-size n m h e =
+      record {
+        near = omega (arith, bent-input .distances .most);
+        sum = omega (arith, e, h, raised-size bent-input);
+      }
+
   -- a sum with the hundreds of `raised`
   module _ (n : ℕ) (e : n / 100 ≡ raised (y .t) (y .u) (y .h) (y .left) (y .d) (y .a) (y .b) / 100) where
     pub sum-size : RaisedSize (y .t) n
-    sum-size =
-        record {
-          near = omega (arith, bent-input .distances .most);
-          sum = omega (arith, e, raised-size bent-input);
-        }
+    sum-size = hundreds-size n _ (le-refl _) e
 
     pub sum-reading : floorDiv (pos n -ℤ pos (slope-most * y .t)) 100 ≡ round (interpolant convex s x)
     sum-reading =
         rw (k .t) (convex-inside i .reading n (rw (k .t, k .u, k .h, k .left, d-is, a-is, b-is) at e))
 
+  -- one with those of it with halves down
   module _ (n : ℕ)
       (e : n / 100 ≡ halves-down (raised-rest (y .t) (y .u) (y .h) (y .a) (y .b))
       (raised (y .t) (y .u) (y .h) (y .left) (y .d) (y .a) (y .b)) / 100) where
     pub down-size : RaisedSize (y .t) n
-    down-size =
-        record {
-          near = omega (arith, bent-input .distances .most);
-          sum = omega (arith, e, raised-size bent-input);
-        }
+    down-size = hundreds-size n _ (sub-le _ _) e
 
     pub down-reading : floorDiv (pos n -ℤ pos (slope-most * y .t)) 100
         ≡ round (interpolant convex s x) -ℤ cond (tie (interpolant convex s x)) (pos 1) (pos 0)

@@ -74,7 +74,9 @@ one-size : (b : Bool) → natAbs (cond b (pos 1) (pos 0)) ≤ 1
 one-size true = omega arith
 one-size false = omega arith
 
-module _ {shape : Shape} {s : Segment} {x : ℕ} {k : ℤ} (i : Inside (Good (plain shape)) s x) (d : Down (interpolant shape s x) k) where
+module _ {shape : Shape} {s : Segment} {x : ℕ} {k : ℤ}
+    (i : Inside (Good (plain shape)) s x)
+    (d : Down (interpolant shape s x) k) where
   pub down-fits : SFits w32 (pos value-most -ℤ k)
   down-fits =
       let v : Fraction = interpolant shape s x in

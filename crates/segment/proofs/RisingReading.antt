@@ -1,5 +1,6 @@
 -- The reading of a rising segment, in the natural numbers that the code computes with.
---   Rising          the arguments of `rising`, their reading and whether it is an exact half, where the value changes; rising-inside
+--   Rising          the arguments of `rising`, their reading and whether it is an exact half, where the value changes;
+--                   rising-inside
 --   flat-inside     the reading where it does not
 --   F, D₀, D₁       the rise between the values and the slopes, where they are not negative
 -- Assumes nothing.

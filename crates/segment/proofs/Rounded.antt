@@ -157,7 +157,8 @@ module _ {v f : Fraction} (m k : ℕ) {d : ℕ} (c : Closed v f) (pf : Proper f)
       (λ t.
       let near = round-is-half-up v (c .proper) in
       let w = Q.≤-antisym (≤-of-tie v (T-true _ t)) (near .below) in
-      subst⁻¹ T (eq-eqb (m % d) 0 (multiple-of-whole (round v) (Q.≈-trans (Q.proper-+ (c .proper) proper-half) (Q.≈-sym half-is) w))) tt)
+      let z = Q.≈-trans (Q.proper-+ (c .proper) proper-half) (Q.≈-sym half-is) w in
+      subst⁻¹ T (eq-eqb (m % d) 0 (multiple-of-whole (round v) z)) tt)
       (λ t.
       let z = pos (m / d) -ℤ pos k in
       let w = Q.≈-trans quotient-proper half-is (whole-of-multiple (eqb-true (m % d) 0 (T-true _ t))) in

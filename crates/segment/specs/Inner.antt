@@ -4,11 +4,11 @@
 --   Rounds           a value rounded, and whether it is an exact half; taken-from, a whole number less the value, rounded
 --   part             A of the rising curve, from one end; whole-part is B; share, A F with B / 2 for the rounding
 --   rising-reading   the rounded value; rising-tie, it is an exact half
---   raised           the convex curve in hundredths, raised so that nothing is negative; raised-rest, what is left of its division
---   halves-down      a sum whose exact halves go down
+--   raised           the convex curve in hundredths, raised so that nothing is negative; raised-rest, what is left of its
+--                    division; halves-down, a sum whose exact halves go down
 --   BentAt           the figures of an area of a convex segment
---   Weights, RisingInput, ConvexInput, RaisedSize, Small   how large are the arguments of `part`, `rising`, `raised`, `lowered` and
---                    `from_mirror`
+--   Weights, RisingInput, ConvexInput, RaisedSize, Small   how large are the arguments of `part`, `rising`, `raised`, `lowered`
+--                    and `from_mirror`
 -- Assumes nothing.
 use mathlib.Core.Path.{_≡_}
 use mathlib.Core.Bool.{Bool, cond}

@@ -100,9 +100,9 @@ struct Sum {
 }
 
 // 100 times the value of a convex curve, with 50 for the rounding and 10000 t, so that nothing is negative. With w = b t and
-// W = a u + w the curve is w w / (W h) hundredths above its left tangent. The last two digits need not be right, nor what is left,
-// but for the hundreds, also those of `halves_down`. Where h divides it is t + u: the compiler would test at each area whether an
-// h that is the same for all of them is 0.
+// W = a u + w the curve is w w / (W h) hundredths above its left tangent. Only the hundreds are promised, of the sum and of its
+// `halves_down`. Where h divides it is t + u: the compiler would test at each area whether an h that is the same for all of them
+// is 0.
 fn raised(t: u64, u: u64, h: u64, left: u64, d: u64, a: u64, b: u64) -> Sum
     requires { ⌜ ConvexInput t u h left d a b ⌝ }
     ensures hundreds { λ s. ⌜ s .sum / 100 ≡ inner.raised t u h left d a b / 100 ⌝ }

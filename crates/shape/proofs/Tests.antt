@@ -1,7 +1,7 @@
 -- The shape of a segment by the tests of the code. A signed number is read back from its bits where it is tested.
 --   climbing-shape  shape 1 where the value rises: no slope is below 0; climbing-test, as a test
 --   level-shape     where it stays: both slopes are 0; level-test, as a test
---   falling-shape   where it falls: no
+--   descending-shape   where it falls: no
 --   order-test      shape 2: left slope below chord and chord below right slope, or all three equal, as a test
 --   convex-test     of the slopes of a segment; concave-test, of the mirrored segment: the same slopes from right to left
 -- Assumes nothing.
@@ -58,9 +58,9 @@ module _ (s : Segment) where
       let level : rise s ≡ pos 0 = rw e (+ℤ-invr (pos (s .right .value))) in
       rw (level, *-one (s .left .slope), *-one (s .right .slope))
 
-  pub falling-shape : s .right .value < s .left .value → has-shape rising s ≡ false
+  pub descending-shape : s .right .value < s .left .value → has-shape rising s ≡ false
   unfolding has-shape fits
-  falling-shape h = same-test _ false falls absurd
+  descending-shape h = same-test _ false falls absurd
     where
       falls : T (has-shape rising s) → ⊥
       falls t =

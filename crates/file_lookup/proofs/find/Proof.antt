@@ -43,4 +43,5 @@ returns-2 c = taken-of (near (c .before)) (c .last-not-above2 .ensures)
 pub find-spec : {M : Type 1} → statement M
 find-spec =
     tie.close
-    (tie.spec returns (search needs) (search needs) (search needs) (search needs) (search needs) last-not-above-requires-2 returns-2)
+    (tie.spec returns (search needs) (search needs) (search needs) (search needs) (search needs) last-not-above-requires-2
+    returns-2)

@@ -27,4 +27,5 @@ pub last-not-above-spec : {M : Type 1} → statement M
 last-not-above-spec =
     tie.close
     (tie.spec Inv-loop μ-loop (λ c. omega arith) (λ c. looking-starts (c .pre .1) (c .pre .0 .before)) (search needs)
-    (search needs) (λ c. omega arith) (λ c. omega arith) (λ c. omega arith) loop-again (λ c. looked (c .before .loop .inv) (c .loop-test .left)))
+    (search needs) (λ c. omega arith) (λ c. omega arith) (λ c. omega arith) loop-again
+    (λ c. looked (c .before .loop .inv) (c .loop-test .left)))

@@ -29,5 +29,5 @@ returns-2 c = taken-of (near (c .before)) (c .last-not-above2 .ensures)
 pub search-spec : {M : Type 1} → statement M
 search-spec =
     tie.close
-    (tie.spec (λ c. taken-of-two (c .before .before .pre .1) (c .if1 .taken)) (search needs) (search needs) (search needs) (search needs)
-    (search needs) last-not-above-requires-2 (search needs) returns-2)
+    (tie.spec (λ c. taken-of-two (c .before .before .pre .1) (c .if1 .taken)) (search needs) (search needs) (search needs)
+    (search needs) (search needs) last-not-above-requires-2 (search needs) returns-2)

@@ -19,7 +19,8 @@ use Rattle.segment.proofs.concave_factor.Tie as tie
 hundreds : (c : tie.After-halves-down) →
     (let y = c .before .before .bent-at .result in
     c .halves-down .result / 100 ≡
-    halves-down (raised-rest (y .t) (y .u) (y .h) (y .a) (y .b)) (raised (y .t) (y .u) (y .h) (y .left) (y .d) (y .a) (y .b)) / 100)
+    halves-down (raised-rest (y .t) (y .u) (y .h) (y .a) (y .b))
+    (raised (y .t) (y .u) (y .h) (y .left) (y .d) (y .a) (y .b)) / 100)
 hundreds c = ap (λ n. n / 100) (c .halves-down .ensures) ∙ c .before .raised .ensures .1 .0
 
 lowered-requires : tie.Need-lowered-requires

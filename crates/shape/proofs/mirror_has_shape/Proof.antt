@@ -33,5 +33,5 @@ returns-2 c =
 pub mirror-has-shape-spec : {M : Type 1} → statement M
 mirror-has-shape-spec =
     tie.close
-    (tie.spec (λ c κs. c .before .pre .left) (λ c κs. c .before .before .pre .right) rises-requires returns (λ c κs. c .before .pre)
-    (search needs) returns-2)
+    (tie.spec (λ c κs. c .before .pre .left) (λ c κs. c .before .before .pre .right) rises-requires returns
+    (λ c κs. c .before .pre) (search needs) returns-2)

@@ -4,7 +4,7 @@ use mathlib.Core.Path.{sym, _∙_}
 use native.Mathlib.Omega.{arith}
 use borrow.Author.Needs.{needs}
 use borrow.Author.Tests.{eq-eqb, ne-eqb}
-use Rattle.shape.proofs.Tests.{climbing-test, level-test, falling-shape}
+use Rattle.shape.proofs.Tests.{climbing-test, level-test, descending-shape}
 use Rattle.shape.proofs.rises.Statement.{statement}
 use Rattle.shape.proofs.rises.Tie as tie
 
@@ -24,7 +24,7 @@ returns c =
     c .not-below-0 .ensures ∙ sym (climbing-test (k .before .before .before .pre) (k .if1 .taken))
 
 returns-2 : tie.Need-returns-2
-returns-2 c = sym (falling-shape _ (omega arith))
+returns-2 c = sym (descending-shape _ (omega arith))
 
 returns-3 : tie.Need-returns-3
 returns-3 c =
