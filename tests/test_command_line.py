@@ -1086,11 +1086,16 @@ class Interrupt(Case):
         with open('/proc/%d/stat' % process.pid, encoding='utf-8') as file:
             return file.read().rsplit(')', 1)[1].split()[0] == 'S'
 
+    @staticmethod
+    def heed():
+        """A shell's background job ignores SIGINT, and so would its programs."""
+        signal.signal(signal.SIGINT, signal.SIG_DFL)
+
     def test_interrupt(self):
         path = os.path.join(self.folder(), 'pipe')
         os.mkfifo(path)
-        with subprocess.Popen(COMMAND + ['check', path], stdout=subprocess.PIPE,
-                              stderr=subprocess.PIPE, env=environment()) as process:
+        with subprocess.Popen(COMMAND + ['check', path], stdout=subprocess.PIPE, stderr=subprocess.PIPE,
+                              env=environment(), preexec_fn=self.heed) as process:
             with open(path, 'wb'):              # opens when the program does
                 while not self.waits(process):  # until it reads
                     time.sleep(0.01)
