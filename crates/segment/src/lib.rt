@@ -229,8 +229,8 @@ pub fn factor(code: u32, p: Point, q: Point, area: u32) -> i32
     requires { ⌜ Inside (Good (rule-of code)) (segment-of p q) area ⌝ }
     ensures { λ r. ⌜ r ≡ round (exact-curve (rule-of code) (segment-of p q) area) ⌝ }
 {
-    if code > 2 {
-        return mirrored_factor(code - 2, point::mirror(p), point::mirror(q), area);
+    if code <= 2 {
+        return plain_factor(code, p, q, area);
     }
-    plain_factor(code, p, q, area)
+    mirrored_factor(code - 2, point::mirror(p), point::mirror(q), area)
 }
