@@ -1,21 +1,23 @@
 -- The reading of a convex segment, in the natural numbers that the code computes with.
---   Convex          the arguments of `raised`, and from its result the reading, and the reading with halves down; convex-inside
+--   Convex          the arguments of `excess`, and of the raised curve the reading, with halves up and down; convex-inside
 --   raised-slope    the left slope plus 10,000; above, below, the distances of the end slopes from the chord
---   raised-at       `raised` at an area
---   bent-input, sum-size, sum-reading, down-size, down-reading   the same, of the figures that the code has
+--   raised-at       the raised curve at an area
+--   bent-input, up-size, up-reading, down-size, down-reading   the same, of the figures that the code has
 -- Assumes nothing.
 use mathlib.Core.Path.{_≡_, sym, _∙_, ap}
 use mathlib.Core.Bool.{cond}
 use mathlib.Core.List.{[], _∷_}
-use Prim.Native.Nat.{ℕ, _+_, _*_, _/_, _≤_, _<_}
-use native.Mathlib.Nat.{le-refl, sub-le, mul-pos, zero-mul, zero-div, zero-mod}
+use mathlib.Core.Logic.{inl, inr}
+use Prim.Native.Nat.{ℕ, _+_, _*_, _/_, _^_, _≤_, _<_}
+use native.Mathlib.Nat.{sub-zero, mul-pos, zero-mul, zero-div, zero-mod}
 use native.Mathlib.Omega.{arith}
-use lib.Dec.{lit<}
-use lib.IntN.{ℤ, pos, natAbs, _+ℤ_, _-ℤ_, _*ℤ_, *ℤ-comm, +ℤ-invr}
+use lib.Dec.{eqb, lit<}
+use lib.IntN.{ℤ, pos, natAbs, _+ℤ_, _-ℤ_, _*ℤ_, *ℤ-comm, +ℤ-invr, +ℤ-idr}
 use lib.Signed.{_<ℤ_, ≤ℤ-refl}
 use Rattle.exact.specs.Fraction.{_over_, whole, _+ℚ_, _*ℚ_, _≈ℚ_, _<ℚ_}
 use Rattle.exact.specs.Rounding.{floorDiv, half, round}
 use Rattle.exact.specs.Inner.{tie}
+use Rattle.exact.proofs.Tests.{true-or-false}
 use Rattle.exact.proofs.Ring.{ring, terms}
 use Rattle.exact.proofs.Order as Z
 use Rattle.exact.proofs.Order.{signs}
@@ -33,12 +35,12 @@ use Rattle.model.proofs.ClosedForm.{bending-of-normal, bent-value, straight-val
 use Rattle.model.proofs.Curves.{bent, straight, bend-kind}
 use Rattle.model.proofs.Segments.{gap, rise, distance, v₀, v₁, d₀, d₁, S, g, e₀, e₁, a, b}
 use Rattle.model.proofs.Segments.{segment-normal, gap-positive, distance-in}
-use Rattle.segment.specs.Inner.{raised, raised-rest, halves-down, ConvexInput, RaisedSize, BentAt}
+use Rattle.segment.specs.Inner.{raised-by, raised, raised-rest, halves-down, ConvexInput, BentAt}
 use Rattle.segment.specs.declared.Bent.{Bent}
 use Rattle.point.proofs.Figures.{slope-size}
 use Rattle.shape.proofs.Figures.{h, gap-is, a-size, b-size}
 use Rattle.segment.proofs.Distances.{t, u, from-left, from-right, h-is, distances}
-use Rattle.segment.proofs.Rounded.{round-lowered, same-hundreds, ends-in-0, down-lowered, tie-lowered}
+use Rattle.segment.proofs.Rounded.{round-lowered, same-hundreds, ends-in-0, down-lowered, tie-lowered, floor-above}
 use Rattle.segment.proofs.Sizes.{raised-size}
 
 module _ (s : Segment) where
@@ -51,8 +53,11 @@ module _ (s : Segment) where
   abbrev below : ℕ
   below = natAbs (b s)
 
+  -- the curve itself, raised
   abbrev pub raised-at : ℕ → ℕ
-  raised-at x = raised (t s x) (u s x) (h s) (s .left .value) raised-slope above below
+  raised-at x =
+      50 * (2 * s .left .value + 1) + raised-slope * t s x
+      + below * t s x * (below * t s x) / ((above * u s x + below * t s x) * h s)
 
   abbrev pub rest-at : ℕ → ℕ
   rest-at x = raised-rest (t s x) (u s x) (h s) above below
@@ -61,7 +66,7 @@ pub record Convex (s : Segment) (x : ℕ) : Type 0 where
   pub slope-is : s .left .slope +ℤ pos slope-most ≡ pos (raised-slope s)
   pub above-is : a s ≡ pos (above s)
   pub below-is : b s ≡ pos (below s)
-  pub input : ConvexInput (t s x) (u s x) (h s) (s .left .value) (raised-slope s) (above s) (below s)
+  pub input : ConvexInput (t s x) (u s x) (h s) (raised-slope s) (above s) (below s)
   pub reading : (r : ℕ) → r / 100 ≡ raised-at s x / 100 →
       floorDiv (pos r -ℤ pos (slope-most * t s x)) 100 ≡ round (interpolant convex s x)
   pub down : (r : ℕ) → r / 100 ≡ halves-down (rest-at s x) (raised-at s x) / 100 →
@@ -100,7 +105,7 @@ module _ {s : Segment} {x : ℕ} (i : Inside (Good (plain convex)) s x) where
   raised-slope-is : s .left .slope +ℤ pos slope-most ≡ pos (raised-slope s)
   raised-slope-is = Z.natural-of-nonneg (Z.≤-+ (i .good .ends .left .slope-low) (≤ℤ-refl (pos slope-most)))
 
-  -- the left tangent, as in `raised`
+  -- the left tangent, as in `raised-at`
   abbrev raised-tangent : ℕ
   raised-tangent = 50 * (2 * s .left .value + 1) + raised-slope s * t s x
 
@@ -120,7 +125,6 @@ module _ {s : Segment} {x : ℕ} (i : Inside (Good (plain convex)) s x) where
         input = record {
           distances = distances i n;
           sum = h-is i;
-          value = n .left .value;
           slope = omega (arith, size-+ (s .left .slope) (pos slope-most), slope-size (n .left));
           above = a-size n;
           below = b-size n;
@@ -237,6 +241,24 @@ convex-inside {s} i =
 
 -- ---- the same, of the figures that the code has
 
+-- 10,000 t less, and the left value apart
+unraised : (l m : ℕ) (d slope z : ℤ) → d ≡ slope +ℤ pos slope-most →
+    pos 100 *ℤ pos l +ℤ (pos 50 +ℤ d *ℤ pos m +ℤ z) -ℤ pos slope-most *ℤ pos m
+    ≡ pos l *ℤ pos 100 +ℤ (pos 50 +ℤ slope *ℤ pos m +ℤ z)
+unraised l m d slope z e =
+    rw e (ring (pos l ∷ pos m ∷ slope ∷ z ∷ []) (search terms depth 20 fits 9999) tt)
+
+-- one less than a number above 0
+less-one : (rest m : ℕ) → 0 < m → pos (halves-down rest m) ≡ pos m -ℤ cond (eqb rest 0) (pos 1) (pos 0)
+less-one rest m h =
+    elim (true-or-false (eqb rest 0)) [
+      | inl e ↦ rw e (sym (Z.difference-of-≤ {m = m} {n = 1} h))
+      | inr e ↦ rw (e, sub-zero m) (sym (+ℤ-idr (pos m)))
+    ]
+
+one-most : (rest : ℕ) → cond (eqb rest 0) 1 0 ≤ 1
+one-most rest = elim (true-or-false (eqb rest 0)) [ inl e ↦ rw e (omega arith) | inr e ↦ rw e (omega arith) ]
+
 module _ {s : Segment} {x : ℕ} (i : Inside (Good (plain convex)) s x) {y : Bent} (k : BentAt s x y) where
   d-is : y .d ≡ raised-slope s
   d-is = Z.pos-injective (k .d ∙ convex-inside i .slope-is)
@@ -247,35 +269,55 @@ module _ {s : Segment} {x : ℕ} (i : Inside (Good (plain convex)) s x) {y : Ben
   b-is : y .b ≡ below s
   b-is = Z.pos-injective (k .b ∙ convex-inside i .below-is)
 
-  pub bent-input : ConvexInput (y .t) (y .u) (y .h) (y .left) (y .d) (y .a) (y .b)
-  bent-input = rw (k .t, k .u, k .h, k .left, d-is, a-is, b-is) (convex-inside i .input)
+  pub bent-input : ConvexInput (y .t) (y .u) (y .h) (y .d) (y .a) (y .b)
+  bent-input = rw (k .t, k .u, k .h, d-is, a-is, b-is) (convex-inside i .input)
 
-  -- a number with the hundreds of one that is not above `raised`
-  hundreds-size : (n m : ℕ) → m ≤ raised (y .t) (y .u) (y .h) (y .left) (y .d) (y .a) (y .b) → n / 100 ≡ m / 100 →
-      RaisedSize (y .t) n
-  hundreds-size n m h e =
-      record {
-        near = omega (arith, bent-input .distances .most);
-        sum = omega (arith, e, h, raised-size bent-input);
-      }
+  -- the left value and what is above it
+  abbrev risen-by : ℤ → ℤ
+  risen-by z = pos (s .left .value) +ℤ floorDiv (pos 50 +ℤ s .left .slope *ℤ pos (y .t) +ℤ z) 100
 
-  -- a sum with the hundreds of `raised`
-  module _ (n : ℕ) (e : n / 100 ≡ raised (y .t) (y .u) (y .h) (y .left) (y .d) (y .a) (y .b) / 100) where
-    pub sum-size : RaisedSize (y .t) n
-    sum-size = hundreds-size n _ (le-refl _) e
+  -- a number of hundredths with the hundreds of the exact one
+  module _ (n : ℕ) (e : raised-by (y .t) (y .d) n / 100 ≡ raised (y .t) (y .u) (y .h) (y .d) (y .a) (y .b) / 100) where
+    pub up-size : n < 2 ^ 37 + 100
+    up-size = omega (arith, e, raised-size bent-input)
 
-    pub sum-reading : floorDiv (pos n -ℤ pos (slope-most * y .t)) 100 ≡ round (interpolant convex s x)
-    sum-reading =
-        rw (k .t) (convex-inside i .reading n (rw (k .t, k .u, k .h, k .left, d-is, a-is, b-is) at e))
+    pub up-reading : risen-by (pos n) ≡ round (interpolant convex s x)
+    up-reading =
+        let l = s .left .value in
+        floor-above (pos l) _ ∙ ap (λ z. floorDiv z 100) (sym (unraised l (y .t) (pos (y .d)) (s .left .slope) (pos n) (k .d)))
+        ∙ rw (k .t, d-is) (convex-inside i .reading (100 * l + raised-by (t s x) (raised-slope s) n)
+        (rw (k .t, k .u, k .h, d-is, a-is, b-is) at (whole-hundreds l)))
+      where
+        whole-hundreds : (l : ℕ) → (100 * l + raised-by (y .t) (y .d) n) / 100
+            ≡ (50 * (2 * l + 1) + y .d * y .t + y .b * y .t * (y .b * y .t) / ((y .a * y .u + y .b * y .t) * y .h)) / 100
+        whole-hundreds l = omega (arith, e)
 
-  -- one with those of it with halves down
-  module _ (n : ℕ)
-      (e : n / 100 ≡ halves-down (raised-rest (y .t) (y .u) (y .h) (y .a) (y .b))
-      (raised (y .t) (y .u) (y .h) (y .left) (y .d) (y .a) (y .b)) / 100) where
-    pub down-size : RaisedSize (y .t) n
-    down-size = hundreds-size n _ (sub-le _ _) e
+  -- the same with halves down
+  module _ (rest n : ℕ)
+      (e : halves-down rest (raised-by (y .t) (y .d) n) / 100
+      ≡ halves-down (raised-rest (y .t) (y .u) (y .h) (y .a) (y .b)) (raised (y .t) (y .u) (y .h) (y .d) (y .a) (y .b)) / 100)
+    where
+      pub down-size : n < 2 ^ 37 + 100
+      down-size = omega (arith, e, raised-size bent-input, one-most rest)
 
-    pub down-reading : floorDiv (pos n -ℤ pos (slope-most * y .t)) 100
-        ≡ round (interpolant convex s x) -ℤ cond (tie (interpolant convex s x)) (pos 1) (pos 0)
-    down-reading =
-        rw (k .t) (convex-inside i .down n (rw (k .t, k .u, k .h, k .left, d-is, a-is, b-is) at e))
+      pub down-reading : risen-by (pos n -ℤ cond (eqb rest 0) (pos 1) (pos 0))
+          ≡ round (interpolant convex s x) -ℤ cond (tie (interpolant convex s x)) (pos 1) (pos 0)
+      down-reading =
+          let l = s .left .value in
+          let one = cond (eqb rest 0) (pos 1) (pos 0) in
+          floor-above (pos l) _
+          ∙ ap (λ z. floorDiv z 100)
+          (sym (unraised l (y .t) (pos (y .d)) (s .left .slope) (pos n -ℤ one) (k .d)) ∙ sym (less (pos l) (pos (y .d)) (pos (y .t)) (pos n) one)
+          ∙ ap (λ z. pos 100 *ℤ pos l +ℤ z -ℤ pos slope-most *ℤ pos (y .t)) (sym (less-one rest (raised-by (y .t) (y .d) n) (omega arith))))
+          ∙ rw (k .t, d-is) (convex-inside i .down (100 * l + halves-down rest (raised-by (t s x) (raised-slope s) n))
+          (rw (k .t, k .u, k .h, d-is, a-is, b-is) at (whole-down l)))
+        where
+          less : (l d m n one : ℤ) →
+              pos 100 *ℤ l +ℤ (pos 50 +ℤ d *ℤ m +ℤ n -ℤ one) -ℤ pos slope-most *ℤ m
+              ≡ pos 100 *ℤ l +ℤ (pos 50 +ℤ d *ℤ m +ℤ (n -ℤ one)) -ℤ pos slope-most *ℤ m
+          less l d m n one = ring (l ∷ d ∷ m ∷ n ∷ one ∷ []) (search terms depth 20 fits 9999) tt
+
+          whole-down : (l : ℕ) → (100 * l + halves-down rest (raised-by (y .t) (y .d) n)) / 100
+              ≡ halves-down (raised-rest (y .t) (y .u) (y .h) (y .a) (y .b))
+              (50 * (2 * l + 1) + y .d * y .t + y .b * y .t * (y .b * y .t) / ((y .a * y .u + y .b * y .t) * y .h)) / 100
+          whole-down l = omega (arith, e, one-most rest, one-most (raised-rest (y .t) (y .u) (y .h) (y .a) (y .b)))

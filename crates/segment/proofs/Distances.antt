@@ -1,6 +1,6 @@
 -- An area inside a segment, in machine numbers.
 --   t, u            its distances from the two ends; h-is, their sum is the gap; u-read, as the code computes the second
---   plain-small     a reading of a shape's own curve is from −200,000 to 200,000; small-read, it fits 32 bits
+--   plain-small     a reading of a shape's own curve is from −200,000 to 200,000; small-fits, small-read, it fits 32 bits
 --   from-rounds     200,000 less a shape's own curve, rounded; from-down, by the curve rounded with halves down (Down)
 -- Assumes nothing.
 use mathlib.Core.Path.{_≡_, sym, _∙_, ap}
@@ -58,8 +58,11 @@ plain-small {shape} {s} {x} i =
     let r = reading-range round-rounding (interpolant shape s x) (interpolant-proper i) (value-range i) in
     record { size = size-between {n = value-most} _ (Z.≤-trans (least-of-all (plain shape)) (r .low)) (r .high) }
 
+pub small-fits : {k : ℤ} → Small k → SFits w32 k
+small-fits {k} s = sfits-of-size w32 k (omega (arith, s .size))
+
 pub small-read : {k : ℤ} → Small k → toZ w32 (ofZ w32 k) ≡ k
-small-read {k} s = toZ-ofZ (sfits-of-size w32 k (omega (arith, s .size)))
+small-read s = toZ-ofZ (small-fits s)
 
 -- 200,000 less the curve
 pub from-rounds : {shape : Shape} {s : Segment} {x : ℕ} {k : ℤ} {b : Bool} → Inside (Good (plain shape)) s x →
@@ -70,7 +73,7 @@ from-rounds i r = rw (r .value, r .half) (sym (round-from (pos value-most) (inte
 pub record Down (v : Fraction) (k : ℤ) : Type 0 where
   pub is : k ≡ round v -ℤ cond (tie v) (pos 1) (pos 0)
 
-one-size : (b : Bool) → natAbs (cond b (pos 1) (pos 0)) ≤ 1
+pub one-size : (b : Bool) → natAbs (cond b (pos 1) (pos 0)) ≤ 1
 one-size true = omega arith
 one-size false = omega arith
 

@@ -2,6 +2,7 @@
 --   round-twice     ⌊(x + ⌊y / w⌋) / m⌋ rounds v where v + 1/2 = (x w + y) / (w m)
 --   round-lowered   with x = n − k, which may be below 0
 --   same-hundreds   the last two digits of r do not matter to ⌊(r − 10,000 t) / 100⌋; down-lowered, with halves down
+--   floor-above     l and ⌊z / 100⌋ are ⌊(100 l + z) / 100⌋
 --   tie-of-remainder    v is an exact half where v + 1/2 = m / d − k and nothing is left of m by d; tie-lowered, by two divisions
 --   twice-left      nothing is left of two divisions where nothing is left of one by the product
 -- Assumes nothing.
@@ -62,6 +63,9 @@ floor-by-1 : (z : ℤ) → floorDiv z 1 ≡ z
 unfolding floorDiv
 floor-by-1 (pos n) = ap pos (div-one n)
 floor-by-1 (negsuc n) = ap negsuc (div-one n)
+
+pub floor-above : (l z : ℤ) → l +ℤ floorDiv z 100 ≡ floorDiv (l *ℤ pos 100 +ℤ z) 100
+floor-above l z = sym (floor-by-1 _) ∙ floorDiv-nested l z {w = 100} {m = 1} (lit< tt) (lit< tt)
 
 -- r without its last two digits, and then without 10,000 t
 hundreds : (r t : ℕ) → floorDiv (pos r -ℤ pos (10000 * t)) 100 ≡ negℤ (pos (100 * t)) +ℤ pos (r / 100)

@@ -1,4 +1,4 @@
--- The sizes of what `part`, `rising` and `raised` compute.
+-- The sizes of what `part`, `rising` and `excess` compute.
 --   blend-size      a sum weighted by the distances from the two ends
 --   left-weights, right-weights   what the two calls of `part` ask
 --   whole-size, share-size, rising-size   B, A F with B / 2 for the rounding, and the factor
@@ -24,7 +24,7 @@ use Rattle.exact.proofs.Magnitude.{scaled-size}
 use Rattle.model.specs.Points.{gap-most, value-most}
 use Rattle.shape.specs.Inner.{over-most}
 use Rattle.segment.specs.Inner.{part, Weights, whole-part, rising-reading, RisingInput, raised, ConvexInput}
-use Rattle.segment.specs.Inner.{raised-rest, halves-down}
+use Rattle.segment.specs.Inner.{raised-by, raised-rest, halves-down}
 use Rattle.segment.proofs.Rounded.{twice-left}
 
 blend-size : (t u : ℕ) {g e m : ℕ} → t + u ≤ gap-most → g ≤ m → e ≤ m → g * t + e * u ≤ gap-most * m
@@ -118,17 +118,16 @@ module _ (w x y z : ℕ)
       }
 
 -- a sum that is at most 1 too low, unless its last two digits are 99
-pub near-hundreds : {n c least : ℕ} (m : ℕ) → OneLow n c least → ((m + least + 1) % 100 ≡ 0 → ⊥) →
-    (m + least) / 100 ≡ (m + n / c) / 100
-near-hundreds m k d = omega (arith, k .not-above, k .one-below)
+module _ {n c least : ℕ} (t d : ℕ) (k : OneLow n c least) (last : (d * t + least + 51) % 100 ≡ 0 → ⊥) where
+  pub near-hundreds : raised-by t d least / 100 ≡ raised-by t d (n / c) / 100
+  near-hundreds = omega (arith, k .not-above, k .one-below)
 
-pub near-down : {n c least : ℕ} (m : ℕ) → OneLow n c least → ((m + least + 1) % 100 ≡ 0 → ⊥) →
-    halves-down 1 (m + least) / 100 ≡ halves-down (n % c) (m + n / c) / 100
-near-down {n} {c} {least} m k d =
-    elim (true-or-false (eqb (n % c) 0)) [
-      | inl e ↦ rw (e, sub-zero (m + least)) (let h = k .below (eqb-true (n % c) 0 e) in omega (arith, k .one-below))
-      | inr e ↦ rw (e, sub-zero (m + least), sub-zero (m + n / c)) (near-hundreds m k d)
-    ]
+  pub near-down : halves-down 1 (raised-by t d least) / 100 ≡ halves-down (n % c) (raised-by t d (n / c)) / 100
+  near-down =
+      elim (true-or-false (eqb (n % c) 0)) [
+        | inl e ↦ rw (e, sub-zero (raised-by t d least)) (let h = k .below (eqb-true (n % c) 0 e) in omega (arith, k .one-below))
+        | inr e ↦ rw (e, sub-zero (raised-by t d least), sub-zero (raised-by t d (n / c))) near-hundreds
+      ]
 
 -- ---- convex
 
@@ -136,7 +135,7 @@ positive-right : (m n : ℕ) → 0 < m * n → 0 < n
 positive-right m zero k = omega (arith, k)
 positive-right m (suc n) k = omega arith
 
-module _ {t u h left d a b : ℕ} (k : ConvexInput t u h left d a b) where
+module _ {t u h d a b : ℕ} (k : ConvexInput t u h d a b) where
   abbrev w : ℕ
   w = b * t
 
@@ -149,10 +148,10 @@ module _ {t u h left d a b : ℕ} (k : ConvexInput t u h left d a b) where
   pub h-positive : 0 < h
   h-positive = omega (arith, k .distances .least, k .sum)
 
-  pub tangent-size : 50 * (2 * left + 1) + d * t ≤ 100 * value-most + 50 + 2 * over-most
+  pub tangent-size : d * t ≤ 2 * over-most
   tangent-size =
       let m = k .distances .most in
-      omega (arith, k .value, mul-le-mul {m₁ = t} {m₂ = gap-most} (k .slope) (omega arith))
+      mul-le-mul {m₁ = t} {m₂ = gap-most} (k .slope) (omega arith)
 
   pub divisor-size : divisor ≤ gap-most * (2 * over-most)
   divisor-size = blend-size u t (omega (arith, k .distances .most)) (k .above) (k .below)
@@ -179,17 +178,17 @@ module _ {t u h left d a b : ℕ} (k : ConvexInput t u h left d a b) where
       (omega arith) (omega arith) (omega arith) (omega arith) (omega arith)
       (mul-le-mul {n₁ = w} {m₁ = 100} {n₂ = divisor} {m₂ = h} (omega arith) (omega arith))
 
-  pub raised-size : raised t u h left d a b ≤ 2 ^ 37
+  pub raised-size : raised t u h d a b ≤ 2 ^ 37
   raised-size = omega (arith, tangent-size, divisor-size, excess-size)
 
   -- w w by the divisor, and then by t + u
   module _ {q r : ℕ} (s : Divided (w * w) divisor q r) (some : 0 < divisor) where
-    pub full-sum : 50 * (2 * left + 1) + d * t + q / (t + u) ≡ raised t u h left d a b
+    pub full-sum : raised-by t d (q / (t + u)) ≡ raised t u h d a b
     full-sum = rw (s .quotient, k .sum, div-div-eq-div-mul)
 
-    pub full-down : halves-down (r + q % (t + u)) (50 * (2 * left + 1) + d * t + q / (t + u))
-        ≡ halves-down (raised-rest t u h a b) (raised t u h left d a b)
-    full-down = rw full-sum (ap (λ e. raised t u h left d a b - cond e 1 0) nothing-left)
+    pub full-down : halves-down (r + q % (t + u)) (raised-by t d (q / (t + u)))
+        ≡ halves-down (raised-rest t u h a b) (raised t u h d a b)
+    full-down = rw full-sum (ap (λ e. raised t u h d a b - cond e 1 0) nothing-left)
       where
         nothing-left : eqb (r + q % (t + u)) 0 ≡ eqb (raised-rest t u h a b) 0
         nothing-left = rw (s .quotient, s .remainder, k .sum) (twice-left (w * w) some (k .distances .least))

@@ -4,11 +4,11 @@
 --   Rounds           a value rounded, and whether it is an exact half; taken-from, a whole number less the value, rounded
 --   part             A of the rising curve, from one end; whole-part is B; share, A F with B / 2 for the rounding
 --   rising-reading   the rounded value; rising-tie, it is an exact half
---   raised           the convex curve in hundredths, raised so that nothing is negative; raised-rest, what is left of its
---                    division; halves-down, a sum whose exact halves go down
+--   raised           the convex curve above its left value in hundredths, raised so that nothing is negative; raised-rest, what
+--                    is left of its division; halves-down, a sum whose exact halves go down
 --   BentAt           the figures of an area of a convex segment
---   Weights, RisingInput, ConvexInput, RaisedSize, Small   how large are the arguments of `part`, `rising`, `raised`, `lowered`
---                    and `from_mirror`
+--   Weights, RisingInput, ConvexInput, RisenInput, Small   how large are the arguments of `part`, `rising`, `excess`, `risen` and
+--                    `from_mirror`
 -- Assumes nothing.
 use mathlib.Core.Path.{_≡_}
 use mathlib.Core.Bool.{Bool, cond}
@@ -70,10 +70,14 @@ pub record RisingInput (t u left F D₀ D₁ : ℕ) : Type 0 where
 
 -- ---- convex
 
--- The left tangent with one half for the rounding, and above it w² / (W h), with w = b t and W = a u + b t. d is the left slope
+-- The left tangent above the left value in hundredths, with one half for the rounding, and n hundredths more. d is the left slope
 -- plus 10,000, so this is 10,000 t too much.
-abbrev pub raised : (t u h left d a b : ℕ) → ℕ
-raised t u h left d a b = 50 * (2 * left + 1) + d * t + b * t * (b * t) / ((a * u + b * t) * h)
+abbrev pub raised-by : (t d n : ℕ) → ℕ
+raised-by t d n = 50 + d * t + n
+
+-- with w² / (W h), where w = b t and W = a u + b t
+abbrev pub raised : (t u h d a b : ℕ) → ℕ
+raised t u h d a b = raised-by t d (b * t * (b * t) / ((a * u + b * t) * h))
 
 -- what is left of the division in it
 abbrev pub raised-rest : (t u h a b : ℕ) → ℕ
@@ -83,23 +87,22 @@ raised-rest t u h a b = b * t * (b * t) % ((a * u + b * t) * h)
 abbrev pub halves-down : ℕ → ℕ → ℕ
 halves-down rest n = n - cond (eqb rest 0) 1 0
 
-pub record ConvexInput (t u h left d a b : ℕ) : Type 0 where
+pub record ConvexInput (t u h d a b : ℕ) : Type 0 where
   pub distances : Distances t u
   pub sum : h ≡ t + u
-  pub value : left ≤ value-most
   pub slope : d ≤ 2 * slope-most
   pub above : a ≤ 2 * over-most
   pub below : b ≤ 2 * over-most
 
-pub record RaisedSize (t n : ℕ) : Type 0 where
+pub record RisenInput (slope : ℤ) (t : ℕ) (above : ℤ) : Type 0 where
+  pub steep : natAbs slope ≤ slope-most
   pub near : t ≤ gap-most
-  pub sum : n < 2 ^ 37 + 100
+  pub size : natAbs above ≤ 2 ^ 37 + 100
 
 pub record BentAt (s : Segment) (x : ℕ) (y : Bent) : Type 0 where
   pub t : y .t ≡ x - s .left .area
   pub u : y .u ≡ s .right .area - x
   pub h : y .h ≡ s .right .area - s .left .area
-  pub left : y .left ≡ s .left .value
   pub d : pos (y .d) ≡ s .left .slope +ℤ pos slope-most
   pub a : pos (y .a) ≡
       (pos (s .right .area) -ℤ pos (s .left .area)) *ℤ s .right .slope

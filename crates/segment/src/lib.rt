@@ -1,10 +1,12 @@
 // The factor at an area of one segment, by one division other than by constants.
 ghost use mathlib.Core.Path.{_≡_};
-ghost use lib.IntN.{pos, _-ℤ_};
-ghost use Prim.Native.Nat.{_-_, _*_, _/_, _%_, _<_};
+ghost use mathlib.Core.Bool.{cond};
+ghost use lib.Dec.{eqb};
+ghost use lib.IntN.{pos, _+ℤ_, _-ℤ_, _*ℤ_};
+ghost use Prim.Native.Nat.{_+_, _-_, _*_, _/_, _%_, _^_, _<_};
 ghost use Rattle.segment.specs.Inner as inner;
-ghost use Rattle.segment.specs.Inner.{Weights, RisingInput, rising-reading, rising-tie, ConvexInput, raised-rest};
-ghost use Rattle.segment.specs.Inner.{Rounds, Small, taken-from, BentAt, halves-down, RaisedSize};
+ghost use Rattle.segment.specs.Inner.{Weights, RisingInput, rising-reading, rising-tie, Rounds, Small, taken-from};
+ghost use Rattle.segment.specs.Inner.{ConvexInput, raised-by, raised, raised-rest, halves-down, BentAt, RisenInput};
 ghost use Rattle.exact.specs.Fraction.{whole, _-ℚ_};
 ghost use Rattle.exact.specs.Rounding.{floorDiv, round};
 ghost use Rattle.model.specs.Points.{value-most, slope-most, Shape, shape-of, Rule, rule-of};
@@ -81,13 +83,12 @@ fn rising_value(p: Point, q: Point, area: u32) -> Nearest
 
 // ---- convex
 
-// An area of a convex segment: t and u are its distances from the two ends, h their sum; left is the left value, d the left slope
-// plus 10000; a and b are the end slopes' distances from the chord, over 100 h.
+// An area of a convex segment: t and u are its distances from the two ends, h their sum; d is the left slope plus 10000; a and b
+// are the end slopes' distances from the chord, over 100 h.
 struct Bent {
     t: u64,
     u: u64,
     h: u64,
-    left: u64,
     d: u64,
     a: u64,
     b: u64,
@@ -99,58 +100,53 @@ struct Sum {
     rest: u64,
 }
 
-// 100 times the value of a convex curve, with 50 for the rounding and 10000 t, so that nothing is negative. With w = b t and
-// W = a u + w the curve is w w / (W h) hundredths above its left tangent. Only the hundreds are promised, of the sum and of its
-// `halves_down`. Where h divides it is t + u: the compiler would test at each area whether an h that is the same for all of them
-// is 0.
-fn raised(t: u64, u: u64, h: u64, left: u64, d: u64, a: u64, b: u64) -> Sum
-    requires { ⌜ ConvexInput t u h left d a b ⌝ }
-    ensures hundreds { λ s. ⌜ s .sum / 100 ≡ inner.raised t u h left d a b / 100 ⌝ }
-    ensures down { λ s. ⌜ halves-down (s .rest) (s .sum) / 100
-        ≡ halves-down (raised-rest t u h a b) (inner.raised t u h left d a b) / 100 ⌝ }
-    ensures some { λ s. ⌜ 0 < s .sum ⌝ }
+// How far a convex curve is above its left tangent: with w = b t and W = a u + w it is w w / (W h) hundredths. Only the hundreds of
+// what the rounding makes of it are promised, with halves up and down. Where h divides it is t + u: the compiler would test at each
+// area whether an h that is the same for all of them is 0.
+fn excess(t: u64, u: u64, h: u64, d: u64, a: u64, b: u64) -> Sum
+    requires { ⌜ ConvexInput t u h d a b ⌝ }
+    ensures up { λ s. ⌜ raised-by t d (s .sum) / 100 ≡ raised t u h d a b / 100 ⌝ }
+    ensures down { λ s. ⌜ halves-down (s .rest) (raised-by t d (s .sum)) / 100
+        ≡ halves-down (raised-rest t u h a b) (raised t u h d a b) / 100 ⌝ }
 {
-    let tangent = 50 * (2 * left + 1) + d * t;
     let w = b * t;
     if w == 0 {
-        return Sum {
-            sum: tangent,
-            rest: 0,
-        };
+        return Sum { sum: 0, rest: 0 };
     }
     let divisor = a * u + w;
     // b h is the largest w of the segment. It is asked, and not w, so that all areas of a segment take one branch.
     if b * h < 0x1_0000_0000 {
         let c = divisor * (t + u);
-        let sum = tangent + w * w / c;
+        let sum = w * w / c;
         let rest = w * w % c;
         return Sum { sum, rest };
     }
-    // w w may pass 64 bits. From the leading bits the sum is at most 1 too low, and below the exact value, which changes the last
-    // two digits alone unless they are 99.
+    // w w may pass 64 bits. From the leading bits the quotient is at most 1 too low, and below the exact one, which changes the
+    // last two digits of the sum alone unless they are 99. The sum is raised by 10000 t, so that it is not negative.
     let v = w / 32;
-    let least = tangent + v * v / (divisor * h / 1024 + 1);
-    if (least + 1) % 100 != 0 {
+    let least = v * v / (divisor * h / 1024 + 1);
+    if (d * t + least + 51) % 100 != 0 {
         return Sum {
             sum: least,
             rest: 1,
         };
     }
     let s = exact::mul_div(w, w, divisor);
-    let sum = tangent + s.q / (t + u);
+    let sum = s.q / (t + u);
     let rest = s.r + s.q % (t + u);
     Sum { sum, rest }
 }
 
 // One less where nothing is left, so that an exact half goes down.
-fn halves_down(s: Sum) -> u64
-    requires { ⌜ 0 < s .sum ⌝ }
-    ensures { λ r. ⌜ r ≡ halves-down (s .rest) (s .sum) ⌝ }
+fn halves_down(s: Sum) -> i64
+    requires { ⌜ s .sum < 2 ^ 37 + 100 ⌝ }
+    ensures { λ r. ⌜ r ≡ pos (s .sum) -ℤ cond (eqb (s .rest) 0) (pos 1) (pos 0) ⌝ }
 {
+    let sum = s.sum as i64;
     if s.rest == 0 {
-        return s.sum - 1;
+        return sum - 1;
     }
-    s.sum
+    sum
 }
 
 // An area of a convex segment.
@@ -166,30 +162,30 @@ fn bent_at(p: Point, q: Point, area: u32) -> Bent
         t: (area - p.area) as u64,
         u: (q.area - area) as u64,
         h: (q.area - p.area) as u64,
-        left: p.value as u64,
         d,
         a,
         b,
     }
 }
 
-// The value of raised hundredths.
-fn lowered(t: u64, sum: u64) -> i32
-    requires { ⌜ RaisedSize t sum ⌝ }
-    ensures { λ r. ⌜ r ≡ floorDiv (pos sum -ℤ pos (slope-most * t)) 100 ⌝ }
+// How far the curve is above the left value, rounded: the left slope over the distance t, and what is above the tangent.
+fn risen(slope: i32, t: u64, above: i64) -> i32
+    requires { ⌜ RisenInput slope t above ⌝ }
+    ensures { λ r. ⌜ r ≡ floorDiv (pos 50 +ℤ slope *ℤ pos t +ℤ above) 100 ⌝ }
 {
-    let n = (sum as i64) - ((SLOPE_MOST as u64 * t) as i64);
+    let n = 50 + (slope as i64) * (t as i64) + above;
     exact::floor_div(n, 100) as i32
 }
 
-// ---- the factor. `raised` is called for a curve and for its mirror apart, so that the compiler makes two of it.
+// ---- the factor. `excess` is called for a curve and for its mirror apart, so that the compiler makes two of it.
 
 fn convex_factor(p: Point, q: Point, area: u32) -> i32
     requires { ⌜ Inside (Good (Rule.plain Shape.convex)) (segment-of p q) area ⌝ }
     ensures { λ r. ⌜ r ≡ round (interpolant Shape.convex (segment-of p q) area) ⌝ }
 {
     let x = bent_at(p, q, area);
-    lowered(x.t, raised(x.t, x.u, x.h, x.left, x.d, x.a, x.b).sum)
+    let s = excess(x.t, x.u, x.h, x.d, x.a, x.b);
+    (p.value as i32) + risen(p.slope, x.t, s.sum as i64)
 }
 
 // Of points that are mirrored: 200,000 less the value, whose halves go down.
@@ -198,8 +194,9 @@ fn concave_factor(p: Point, q: Point, area: u32) -> i32
     ensures { λ r. ⌜ r ≡ round (whole (pos value-most) -ℚ interpolant Shape.convex (segment-of p q) area) ⌝ }
 {
     let x = bent_at(p, q, area);
-    let s = raised(x.t, x.u, x.h, x.left, x.d, x.a, x.b);
-    (VALUE_MOST as i32) - lowered(x.t, halves_down(s))
+    let s = excess(x.t, x.u, x.h, x.d, x.a, x.b);
+    let left = (VALUE_MOST as i32) - (p.value as i32);
+    left - risen(p.slope, x.t, halves_down(s))
 }
 
 // The factor of codes 1 and 2.

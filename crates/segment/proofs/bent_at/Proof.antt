@@ -83,13 +83,12 @@ cast-d c =
 
 returns : tie.Need-returns
 returns c =
-    let k = at-d (c .before .before .before .before .before) in
+    let k = at-d (c .before .before .before .before) in
     let s = k .before in
     record {
       t = refl;
       u = refl;
       h = refl;
-      left = refl;
       d = rw (slope-read (ends s .left), toZ-ofZ (d-fits s)) (sym (facts s .slope-is));
       a = rw (a-read (n k) (slopes k), toZ-ofZ (a-fits (n k))) (sym (facts s .above-is));
       b = rw (b-read (n k) (slopes k), toZ-ofZ (b-fits (n k))) (sym (facts s .below-is));
@@ -99,4 +98,4 @@ pub bent-at-spec : {M : Type 1} → statement M
 bent-at-spec =
     tie.close
     (tie.spec (λ c κs. ends c) sub-a cast-a sub-b cast-b add-d cast-d (search needs) (search needs) (search needs) (search needs)
-    (search needs) (search needs) (search needs) returns)
+    (search needs) (search needs) returns)
