@@ -307,8 +307,10 @@ module _ {s : Segment} {x : ℕ} (i : Inside (Good (plain convex)) s x) {y : Ben
           let one = cond (eqb rest 0) (pos 1) (pos 0) in
           floor-above (pos l) _
           ∙ ap (λ z. floorDiv z 100)
-          (sym (unraised l (y .t) (pos (y .d)) (s .left .slope) (pos n -ℤ one) (k .d)) ∙ sym (less (pos l) (pos (y .d)) (pos (y .t)) (pos n) one)
-          ∙ ap (λ z. pos 100 *ℤ pos l +ℤ z -ℤ pos slope-most *ℤ pos (y .t)) (sym (less-one rest (raised-by (y .t) (y .d) n) (omega arith))))
+          (sym (unraised l (y .t) (pos (y .d)) (s .left .slope) (pos n -ℤ one) (k .d))
+          ∙ sym (less (pos l) (pos (y .d)) (pos (y .t)) (pos n) one)
+          ∙ ap (λ z. pos 100 *ℤ pos l +ℤ z -ℤ pos slope-most *ℤ pos (y .t))
+          (sym (less-one rest (raised-by (y .t) (y .d) n) (omega arith))))
           ∙ rw (k .t, d-is) (convex-inside i .down (100 * l + halves-down rest (raised-by (t s x) (raised-slope s) n))
           (rw (k .t, k .u, k .h, d-is, a-is, b-is) at (whole-down l)))
         where

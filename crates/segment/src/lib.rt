@@ -100,9 +100,9 @@ struct Sum {
     rest: u64,
 }
 
-// How far a convex curve is above its left tangent: with w = b t and W = a u + w it is w w / (W h) hundredths. Only the hundreds of
-// what the rounding makes of it are promised, with halves up and down. Where h divides it is t + u: the compiler would test at each
-// area whether an h that is the same for all of them is 0.
+// How far a convex curve is above its left tangent: with w = b t and W = a u + w it is w w / (W h) hundredths. Only the hundreds
+// of what the rounding makes of it are promised, with halves up and down. Where h divides it is t + u: the compiler would test at
+// each area whether an h that is the same for all of them is 0.
 fn excess(t: u64, u: u64, h: u64, d: u64, a: u64, b: u64) -> Sum
     requires { ⌜ ConvexInput t u h d a b ⌝ }
     ensures up { λ s. ⌜ raised-by t d (s .sum) / 100 ≡ raised t u h d a b / 100 ⌝ }

@@ -29,7 +29,8 @@ at-excess c = c .before .before .before
 left-fits : {p : Point} → Limits p → SFits w32 (pos value-most -ℤ pos (p .value))
 left-fits {p} l =
     let most : value-most ≤ value-most = omega arith in
-    sfits-of-size w32 (pos value-most -ℤ pos (p .value)) (omega (arith, size-difference {a = value-most} {b = p .value} most (l .value)))
+    sfits-of-size w32 (pos value-most -ℤ pos (p .value))
+    (omega (arith, size-difference {a = value-most} {b = p .value} most (l .value)))
 
 sub-left : tie.Need-sub-left
 sub-left c = let l = c .before .before .before .pre .good .ends .left in rw (value-read l) (left-fits l)
@@ -55,7 +56,12 @@ risen-requires c κs =
     (record {
       steep = slope-size (i .good .ends .left);
       near = omega (arith, bent-input i b .distances .most);
-      size = omega (arith, down-size i b (s .rest) (s .sum) (e .excess .ensures .1), size-- (pos (s .sum)) one, one-size (eqb (s .rest) 0));
+      size = omega (
+        arith,
+        down-size i b (s .rest) (s .sum) (e .excess .ensures .1),
+        size-- (pos (s .sum)) one,
+        one-size (eqb (s .rest) 0),
+      );
     })
 
 -- the left value and what is above it
@@ -67,7 +73,8 @@ down c =
     let i = e .before .before .pre in
     let read = rw (slope-read (i .good .ends .left), above-read (c .before .before)) at (c .risen .ensures) in
     record {
-      is = rw (toZ-ofZ (record { sfits = c .risen .ok }), read) (down-reading i (e .before .bent-at .ensures) (e .excess .result .rest) _ (e .excess .ensures .1));
+      is = rw (toZ-ofZ (record { sfits = c .risen .ok }), read)
+          (down-reading i (e .before .bent-at .ensures) (e .excess .result .rest) _ (e .excess .ensures .1));
     }
 
 -- 200,000 less that

@@ -22,7 +22,8 @@ abbrev at-excess : tie.After-struct-told → tie.After-excess
 at-excess c = c .before .before .before
 
 above-read : (e : tie.After-excess) → toZ w64 (e .excess .result .sum) ≡ pos (e .excess .result .sum)
-above-read e = toZ-pos w64 (omega (arith, up-size (e .before .before .pre) (e .before .bent-at .ensures) _ (e .excess .ensures .0)))
+above-read e =
+    toZ-pos w64 (omega (arith, up-size (e .before .before .pre) (e .before .bent-at .ensures) _ (e .excess .ensures .0)))
 
 cast-risen : tie.Need-cast-risen
 cast-risen c =
@@ -45,7 +46,8 @@ risen-requires c κs =
 -- the left value and what is above it
 sum-is : (c : tie.After-risen) →
     (let a = at-excess (c .before) .before .before .args in
-    toZ w32 (a .p .value) +ℤ toZ w32 (ofZ w32 (c .risen .result)) ≡ round (interpolant convex (segment-of (a .p) (a .q)) (a .area)))
+    toZ w32 (a .p .value) +ℤ toZ w32 (ofZ w32 (c .risen .result))
+    ≡ round (interpolant convex (segment-of (a .p) (a .q)) (a .area)))
 sum-is c =
     let e = at-excess (c .before) in
     let i = e .before .before .pre in

@@ -45,7 +45,8 @@ module _ {slope : ℤ} {t : ℕ} {above : ℤ} (k : RisenInput slope t above) wh
 
   value-fits : SFits w32 (floorDiv (pos 50 +ℤ product +ℤ above) 100)
   value-fits =
-      sfits-of-size w32 (floorDiv (pos 50 +ℤ product +ℤ above) 100) (omega (arith, floor-size (pos 50 +ℤ product +ℤ above), sum-size))
+      sfits-of-size w32 (floorDiv (pos 50 +ℤ product +ℤ above) 100)
+      (omega (arith, floor-size (pos 50 +ℤ product +ℤ above), sum-size))
 
   distance-read : toZ w64 t ≡ pos t
   distance-read = toZ-pos w64 (omega (arith, k .near))
