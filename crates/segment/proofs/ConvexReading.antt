@@ -4,7 +4,7 @@
 --   raised-at       the raised curve at an area
 --   bent-input, up-size, up-reading, down-size, down-reading   the same, of the figures that the code has
 -- Assumes nothing.
-use mathlib.Core.Path.{_≡_, sym, _∙_, ap}
+use mathlib.Core.Path.{_≡_, refl, sym, _∙_, ap}
 use mathlib.Core.Bool.{cond}
 use mathlib.Core.List.{[], _∷_}
 use mathlib.Core.Logic.{inl, inr}
@@ -276,6 +276,16 @@ module _ {s : Segment} {x : ℕ} (i : Inside (Good (plain convex)) s x) {y : Ben
   abbrev risen-by : ℤ → ℤ
   risen-by z = pos (s .left .value) +ℤ floorDiv (pos 50 +ℤ s .left .slope *ℤ pos (y .t) +ℤ z) 100
 
+  -- as the raised curve has it, of whatever number m is z above the raised tangent
+  risen-is : (m : ℕ) (z : ℤ) → pos m ≡ pos 50 +ℤ pos (y .d) *ℤ pos (y .t) +ℤ z →
+      risen-by z ≡ floorDiv (pos (100 * s .left .value + m) -ℤ pos (slope-most * y .t)) 100
+  risen-is m z e =
+      let l = s .left .value in
+      floor-above (pos l) _
+      ∙ ap (λ x. floorDiv x 100)
+      (sym (unraised l (y .t) (pos (y .d)) (s .left .slope) z (k .d))
+      ∙ ap (λ x. pos 100 *ℤ pos l +ℤ x -ℤ pos slope-most *ℤ pos (y .t)) (sym e))
+
   -- a number of hundredths with the hundreds of the exact one
   module _ (n : ℕ) (e : raised-by (y .t) (y .d) n / 100 ≡ raised (y .t) (y .u) (y .h) (y .d) (y .a) (y .b) / 100) where
     pub up-size : n < 2 ^ 37 + 100
@@ -283,10 +293,9 @@ module _ {s : Segment} {x : ℕ} (i : Inside (Good (plain convex)) s x) {y : Ben
 
     pub up-reading : risen-by (pos n) ≡ round (interpolant convex s x)
     up-reading =
-        let l = s .left .value in
-        floor-above (pos l) _ ∙ ap (λ z. floorDiv z 100) (sym (unraised l (y .t) (pos (y .d)) (s .left .slope) (pos n) (k .d)))
-        ∙ rw (k .t, d-is) (convex-inside i .reading (100 * l + raised-by (t s x) (raised-slope s) n)
-        (rw (k .t, k .u, k .h, d-is, a-is, b-is) at (whole-hundreds l)))
+        risen-is (raised-by (y .t) (y .d) n) (pos n) refl
+        ∙ rw (k .t, d-is) (convex-inside i .reading (100 * s .left .value + raised-by (t s x) (raised-slope s) n)
+        (rw (k .t, k .u, k .h, d-is, a-is, b-is) at (whole-hundreds (s .left .value))))
       where
         whole-hundreds : (l : ℕ) → (100 * l + raised-by (y .t) (y .d) n) / 100
             ≡ (50 * (2 * l + 1) + y .d * y .t + y .b * y .t * (y .b * y .t) / ((y .a * y .u + y .b * y .t) * y .h)) / 100
@@ -303,21 +312,14 @@ module _ {s : Segment} {x : ℕ} (i : Inside (Good (plain convex)) s x) {y : Ben
       pub down-reading : risen-by (pos n -ℤ cond (eqb rest 0) (pos 1) (pos 0))
           ≡ round (interpolant convex s x) -ℤ cond (tie (interpolant convex s x)) (pos 1) (pos 0)
       down-reading =
-          let l = s .left .value in
           let one = cond (eqb rest 0) (pos 1) (pos 0) in
-          floor-above (pos l) _
-          ∙ ap (λ z. floorDiv z 100)
-          (sym (unraised l (y .t) (pos (y .d)) (s .left .slope) (pos n -ℤ one) (k .d))
-          ∙ sym (less (pos l) (pos (y .d)) (pos (y .t)) (pos n) one)
-          ∙ ap (λ z. pos 100 *ℤ pos l +ℤ z -ℤ pos slope-most *ℤ pos (y .t))
-          (sym (less-one rest (raised-by (y .t) (y .d) n) (omega arith))))
-          ∙ rw (k .t, d-is) (convex-inside i .down (100 * l + halves-down rest (raised-by (t s x) (raised-slope s) n))
-          (rw (k .t, k .u, k .h, d-is, a-is, b-is) at (whole-down l)))
+          risen-is (halves-down rest (raised-by (y .t) (y .d) n)) (pos n -ℤ one)
+          (less-one rest (raised-by (y .t) (y .d) n) (omega arith) ∙ less (pos (y .d)) (pos (y .t)) (pos n) one)
+          ∙ rw (k .t, d-is) (convex-inside i .down (100 * s .left .value + halves-down rest (raised-by (t s x) (raised-slope s) n))
+          (rw (k .t, k .u, k .h, d-is, a-is, b-is) at (whole-down (s .left .value))))
         where
-          less : (l d m n one : ℤ) →
-              pos 100 *ℤ l +ℤ (pos 50 +ℤ d *ℤ m +ℤ n -ℤ one) -ℤ pos slope-most *ℤ m
-              ≡ pos 100 *ℤ l +ℤ (pos 50 +ℤ d *ℤ m +ℤ (n -ℤ one)) -ℤ pos slope-most *ℤ m
-          less l d m n one = ring (l ∷ d ∷ m ∷ n ∷ one ∷ []) (search terms depth 20 fits 9999) tt
+          less : (d m n one : ℤ) → pos 50 +ℤ d *ℤ m +ℤ n -ℤ one ≡ pos 50 +ℤ d *ℤ m +ℤ (n -ℤ one)
+          less d m n one = ring (d ∷ m ∷ n ∷ one ∷ []) (search terms depth 20 fits 9999) tt
 
           whole-down : (l : ℕ) → (100 * l + halves-down rest (raised-by (y .t) (y .d) n)) / 100
               ≡ halves-down (raised-rest (y .t) (y .u) (y .h) (y .a) (y .b))
