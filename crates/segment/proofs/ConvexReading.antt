@@ -315,7 +315,8 @@ module _ {s : Segment} {x : ℕ} (i : Inside (Good (plain convex)) s x) {y : Ben
           let one = cond (eqb rest 0) (pos 1) (pos 0) in
           risen-is (halves-down rest (raised-by (y .t) (y .d) n)) (pos n -ℤ one)
           (less-one rest (raised-by (y .t) (y .d) n) (omega arith) ∙ less (pos (y .d)) (pos (y .t)) (pos n) one)
-          ∙ rw (k .t, d-is) (convex-inside i .down (100 * s .left .value + halves-down rest (raised-by (t s x) (raised-slope s) n))
+          ∙ rw (k .t, d-is)
+          (convex-inside i .down (100 * s .left .value + halves-down rest (raised-by (t s x) (raised-slope s) n))
           (rw (k .t, k .u, k .h, d-is, a-is, b-is) at (whole-down (s .left .value))))
         where
           less : (d m n one : ℤ) → pos 50 +ℤ d *ℤ m +ℤ n -ℤ one ≡ pos 50 +ℤ d *ℤ m +ℤ (n -ℤ one)
