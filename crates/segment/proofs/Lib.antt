@@ -2,5 +2,5 @@
 pub mod Distances
 pub mod Rounded
 pub mod RisingReading
-pub mod ConvexReading
+pub mod BentReading
 pub mod Sizes

@@ -1,63 +1,46 @@
--- A rounding by two divisions, and exact halves.
+-- A rounding by two divisions, and a division of a number with its sign changed.
 --   round-twice     ⌊(x + ⌊y / w⌋) / m⌋ rounds v where v + 1/2 = (x w + y) / (w m)
---   round-lowered   with x = n − k, which may be below 0
---   same-hundreds   the last two digits of r do not matter to ⌊(r − 10,000 t) / 100⌋; down-lowered, with halves down
 --   floor-above     l and ⌊z / 100⌋ are ⌊(100 l + z) / 100⌋
---   tie-of-remainder    v is an exact half where v + 1/2 = m / d − k and nothing is left of m by d; tie-lowered, by two divisions
---   twice-left      nothing is left of two divisions where nothing is left of one by the product
+--   same-hundreds   ⌊(z + y) / 100⌋ where y is `next` or one less, unless 100 divides z + next
+--   floor-of-is     ⌊n / c⌋ and ⌊−n / c⌋, by quotient and remainder of n; floor-twice, by two divisions
 -- Assumes nothing.
-use mathlib.Core.Path.{_≡_, sym, _∙_, ap, ap₂, subst, subst⁻¹}
-use mathlib.Core.Bool.{Bool, cond, _&&_, and-true, and-false}
+use mathlib.Core.Path.{_≡_, refl, sym, _∙_, ap}
+use mathlib.Core.Bool.{Bool, true, false, _&&_, and-true, and-false}
 use mathlib.Core.List.{[], _∷_}
-use mathlib.Core.Logic.{inl, inr}
-use Prim.Native.Nat.{ℕ, zero, suc, _+_, _-_, _*_, _/_, _%_, _<_}
-use native.Mathlib.Nat.{mul-pos, add-comm, mul-comm, mul-one, zero-add, zero-mul, sub-zero, div-one, mul-mod-left, div-add-mod'}
-use native.Mathlib.Nat.{mul-add-mod-self-right, mul-add-div-right}
+use mathlib.Core.Logic.{_⊎_, inl, inr}
+use Prim.Native.Nat.{ℕ, zero, suc, _+_, _*_, _/_, _%_, _<_}
+use native.Mathlib.Nat.{mul-pos, div-one, div-add-mod', div-div-eq-div-mul, mod-lt, add-comm, mul-comm, mul-one, zero-add, zero-mul}
 use native.Mathlib.Omega.{arith}
-use borrow.Author.Tests.{eq-eqb, ne-eqb, eqb-true, eqb-false}
+use borrow.Author.Tests.{ne-eqb, eqb-true, eqb-false}
 use lib.Arith.{mod-mul}
-use lib.Dec.{T, eqb, lit<}
-use lib.IntN.{ℤ, pos, negsuc, negℤ, natAbs, _+ℤ_, _-ℤ_, _*ℤ_, +ℤ-idr}
-use lib.Signed.{_<ℤ_}
-use Rattle.exact.specs.Fraction.{Fraction, Proper, _over_, whole, _+ℚ_, _≈ℚ_}
+use lib.Dec.{eqb, lit<}
+use lib.IntN.{ℤ, pos, negsuc, negℤ, _+ℤ_, _-ℤ_, _*ℤ_, *ℤ-comm}
+use lib.Signed.{_≤ℤ_, _<ℤ_}
+use Rattle.exact.specs.Fraction.{Fraction, Proper, _over_, _+ℚ_, _≈ℚ_}
 use Rattle.exact.specs.Rounding.{floorDiv, floor, half, round}
+use Rattle.exact.specs.Inner.{Divided}
 use Rattle.exact.proofs.Ring.{ring, terms}
 use Rattle.exact.proofs.Order as Z
 use Rattle.exact.proofs.Fractions as Q
-use Rattle.exact.specs.Inner.{tie}
-use Rattle.exact.proofs.Tests.{true-or-false, T-true, same-test}
-use Rattle.exact.proofs.Floor.{floor-greatest, floor-keeps-order, floorDiv-nested}
-use Rattle.exact.proofs.Rounding.{proper-half, round-is-half-up, tie-of-≤, ≤-of-tie}
+use Rattle.exact.proofs.Tests.{true-or-false}
+use Rattle.exact.proofs.Floor.{floor-keeps-order, floorDiv-nested, floorDiv-quotient, floorDiv-unique}
+use Rattle.exact.proofs.Rounding.{proper-half}
 use Rattle.model.proofs.ClosedForm.{Closed}
-use Rattle.segment.specs.Inner.{halves-down}
+use Rattle.segment.specs.Inner.{signed, floor-of}
 
-pub round-twice : {v f : Fraction} (x : ℤ) (y : ℕ) {w m : ℕ} →
+pub round-twice : {v f : Fraction} (x y : ℤ) {w m : ℕ} →
     Closed v f →
     Proper f →
     0 < w →
     0 < m →
-    f +ℚ half ≈ℚ (x *ℤ pos w +ℤ pos y) over (pos w *ℤ pos m) →
-    round v ≡ floorDiv (x +ℤ pos (y / w)) m
-unfolding round floor floorDiv _over_
+    f +ℚ half ≈ℚ (x *ℤ pos w +ℤ y) over (pos w *ℤ pos m) →
+    round v ≡ floorDiv (x +ℤ floorDiv y w) m
+unfolding round floor _over_
 round-twice {v} {f} x y {w} {m} k pf hw hm e =
-    let pq = Q.proper-over (x *ℤ pos w +ℤ pos y) (pos w *ℤ pos m) (Z.pos-<-of-< (mul-pos hw hm)) in
+    let pq = Q.proper-over (x *ℤ pos w +ℤ y) (pos w *ℤ pos m) (Z.pos-<-of-< (mul-pos hw hm)) in
     Q.≡-of-keeps-order floor-keeps-order (Q.proper-+ (k .proper) proper-half) pq
     (Q.≈-trans (Q.proper-+ pf proper-half) (Q.≈-+ (k .same) (Q.≈-refl half)) e)
-    ∙ sym (floorDiv-nested x (pos y) hw hm)
-
--- the same where n is k too much
-pub round-lowered : {v f : Fraction} (n k y : ℕ) {w m : ℕ} →
-    Closed v f →
-    Proper f →
-    0 < w →
-    0 < m →
-    f +ℚ half ≈ℚ ((pos n -ℤ pos k) *ℤ pos w +ℤ pos y) over (pos w *ℤ pos m) →
-    round v ≡ floorDiv (pos (n + y / w) -ℤ pos k) m
-round-lowered n k y {w} {m} c pf hw hm e =
-    round-twice (pos n -ℤ pos k) y c pf hw hm e ∙ ap (λ z. floorDiv z m) last
-  where
-    last : pos n -ℤ pos k +ℤ pos (y / w) ≡ pos n +ℤ pos (y / w) -ℤ pos k
-    last = ring (pos n ∷ pos k ∷ pos (y / w) ∷ []) (search terms depth 20 fits 9999) tt
+    ∙ sym (floorDiv-nested x y hw hm)
 
 floor-by-1 : (z : ℤ) → floorDiv z 1 ≡ z
 unfolding floorDiv
@@ -67,108 +50,71 @@ floor-by-1 (negsuc n) = ap negsuc (div-one n)
 pub floor-above : (l z : ℤ) → l +ℤ floorDiv z 100 ≡ floorDiv (l *ℤ pos 100 +ℤ z) 100
 floor-above l z = sym (floor-by-1 _) ∙ floorDiv-nested l z {w = 100} {m = 1} (lit< tt) (lit< tt)
 
--- r without its last two digits, and then without 10,000 t
-hundreds : (r t : ℕ) → floorDiv (pos r -ℤ pos (10000 * t)) 100 ≡ negℤ (pos (100 * t)) +ℤ pos (r / 100)
-unfolding floorDiv
-hundreds r t =
-    ap (λ z. floorDiv z 100) split
-    ∙ sym (floorDiv-nested (negℤ (pos (100 * t))) (pos r) {w = 100} {m = 1} (lit< tt) (lit< tt))
-    ∙ floor-by-1 _
-  where
-    split : pos r -ℤ pos 10000 *ℤ pos t ≡ negℤ (pos 100 *ℤ pos t) *ℤ pos 100 +ℤ pos r
-    split = ring (pos r ∷ pos t ∷ []) (search terms depth 20 fits 9999) tt
+floor-before : (z : ℤ) → (z ≡ pos 100 *ℤ floorDiv z 100 → ⊥) → floorDiv (z -ℤ pos 1) 100 ≡ floorDiv z 100
+floor-before z differ =
+    let q = floorDiv-quotient z {d = 100} (lit< tt) in
+    let k = floorDiv z 100 in
+    elim (Z.≤-or-< z (k *ℤ pos 100)) [
+      | inl h ↦ absurd (differ (Z.≤-antisym h (q .low) ∙ *ℤ-comm k (pos 100)))
+      | inr h ↦ floorDiv-unique (lit< tt) (record {
+        low = Z.≤-by _ (ring (z ∷ k ∷ []) (search terms depth 20 fits 9999) tt) (Z.nonneg-difference (Z.next-of-< h));
+        high = Z.≤-<-trans (Z.≤-by (pos 1) (ring (z ∷ []) (search terms depth 20 fits 9999) tt) (Z.nonneg-pos 1)) (q .high);
+      })
+    ]
 
-pub same-hundreds : (r n t : ℕ) → r / 100 ≡ n / 100 →
-    floorDiv (pos r -ℤ pos (10000 * t)) 100 ≡ floorDiv (pos n -ℤ pos (10000 * t)) 100
-same-hundreds r n t e = hundreds r t ∙ ap (λ k. negℤ (pos (100 * t)) +ℤ pos k) e ∙ sym (hundreds n t)
+pub same-hundreds : (z next : ℤ) {y : ℤ} → (y ≡ next) ⊎ (y ≡ next -ℤ pos 1) →
+    (z +ℤ next ≡ pos 100 *ℤ floorDiv (z +ℤ next) 100 → ⊥) →
+    floorDiv (z +ℤ next) 100 ≡ floorDiv (z +ℤ y) 100
+same-hundreds z next (inl e) differ = rw e
+same-hundreds z next (inr e) differ =
+    sym (floor-before (z +ℤ next) differ)
+    ∙ ap (λ n. floorDiv n 100) (rw e (ring (z ∷ next ∷ []) (search terms depth 20 fits 9999) tt))
 
--- what is left of a division, and the last two digits of n, are 0
-abbrev pub ends-in-0 : ℕ → ℕ → Bool
-ends-in-0 rest n = eqb rest 0 && eqb (n % 100) 0
+-- −(q c + r) by c, where e is 0 or 1
+negated : (c q r : ℕ) (e : ℤ) →
+    0 < c →
+    pos 0 ≤ℤ (e *ℤ pos c -ℤ pos r) →
+    pos 0 <ℤ (pos c -ℤ e *ℤ pos c +ℤ pos r) →
+    floorDiv (negℤ (pos (q * c + r))) c ≡ negℤ (pos q) -ℤ e
+negated c q r e h low high =
+    floorDiv-unique h (record {
+      low = Z.≤-by _ (ring (pos c ∷ pos q ∷ pos r ∷ e ∷ []) (search terms depth 20 fits 9999) tt) low;
+      high = Z.<-by _ (ring (pos c ∷ pos q ∷ pos r ∷ e ∷ []) (search terms depth 20 fits 9999) tt) high;
+    })
 
-one-hundred-less : (n : ℕ) → 0 < n → n % 100 ≡ 0 → n / 100 ≡ (n - 1) / 100 + 1
-one-hundred-less n h e = omega arith
-
--- with halves down, the hundreds are one less at an exact half
-hundreds-down : (rest n : ℕ) → 0 < n → pos (halves-down rest n / 100) ≡ pos (n / 100) -ℤ cond (ends-in-0 rest n) (pos 1) (pos 0)
-hundreds-down rest n h =
-    elim (true-or-false (eqb rest 0)) [
-      | inr e ↦ rw (e, sub-zero n) (sym (+ℤ-idr (pos (n / 100))))
-      | inl e ↦ elim (true-or-false (eqb (n % 100) 0)) [
-        | inr f ↦ rw (e, f, +ℤ-idr (pos (n / 100))) (ap pos (same-hundred (eqb-false (n % 100) 0 f)))
-        | inl f ↦ rw (e, f, one-hundred-less n h (eqb-true (n % 100) 0 f)) (sym (next-less ((n - 1) / 100)))
-      ]
+floor-negated : (n : ℕ) {c : ℕ} → 0 < c → floor-of true (n / c) (n % c) ≡ floorDiv (negℤ (pos n)) c
+floor-negated n {c} h =
+    let r = n % c in
+    let c-pos : pos 0 <ℤ pos c = Z.pos-<-of-< h in
+    elim (true-or-false (eqb r 0)) [
+      | inl e ↦
+          let none : r ≡ 0 = eqb-true r 0 e in
+          rw e (sym (negated c (n / c) r (pos 0) h (rw none nothing) (rw none (whole c-pos))))
+          ∙ ap (λ m. floorDiv (negℤ (pos m)) c) (div-add-mod' n c)
+      | inr e ↦
+          let some : 0 < r = (let k = eqb-false r 0 e in omega arith) in
+          let most = Z.≤-of-< (Z.pos-<-of-< (mod-lt n h)) in
+          rw e (sym (negated c (n / c) r (pos 1) h (left most) (rest (Z.pos-<-of-< some))))
+          ∙ ap (λ m. floorDiv (negℤ (pos m)) c) (div-add-mod' n c)
     ]
   where
-    same-hundred : (n % 100 ≡ 0 → ⊥) → (n - 1) / 100 ≡ n / 100
-    same-hundred k = omega arith
+    nothing : pos 0 ≤ℤ (pos 0 *ℤ pos c -ℤ pos 0)
+    nothing = Z.≤-by (pos 0) (ring (pos c ∷ []) (search terms depth 20 fits 9999) tt) (Z.nonneg-pos 0)
 
-    next-less : (m : ℕ) → pos (m + 1) -ℤ pos 1 ≡ pos m
-    next-less m = ring (pos m ∷ []) (search terms depth 20 fits 9999) tt
+    whole : pos 0 <ℤ pos c → pos 0 <ℤ (pos c -ℤ pos 0 *ℤ pos c +ℤ pos 0)
+    whole k = Z.<-by (pos c) (ring (pos c ∷ []) (search terms depth 20 fits 9999) tt) k
 
-pub down-lowered : (rest n t : ℕ) → 0 < n →
-    floorDiv (pos (halves-down rest n) -ℤ pos (10000 * t)) 100
-    ≡ floorDiv (pos n -ℤ pos (10000 * t)) 100 -ℤ cond (ends-in-0 rest n) (pos 1) (pos 0)
-down-lowered rest n t h =
-    hundreds (halves-down rest n) t ∙ ap (λ z. negℤ (pos (100 * t)) +ℤ z) (hundreds-down rest n h)
-    ∙ ring (pos t ∷ pos (n / 100) ∷ cond (ends-in-0 rest n) (pos 1) (pos 0) ∷ []) (search terms depth 20 fits 9999) tt
-    ∙ ap (λ z. z -ℤ cond (ends-in-0 rest n) (pos 1) (pos 0)) (sym (hundreds n t))
+    left : pos (n % c) ≤ℤ pos c → pos 0 ≤ℤ (pos 1 *ℤ pos c -ℤ pos (n % c))
+    left k = Z.≤-by (pos c -ℤ pos (n % c)) (ring (pos c ∷ pos (n % c) ∷ []) (search terms depth 20 fits 9999) tt)
+        (Z.nonneg-difference k)
 
--- ---- exact halves
+    rest : pos 0 <ℤ pos (n % c) → pos 0 <ℤ (pos c -ℤ pos 1 *ℤ pos c +ℤ pos (n % c))
+    rest k = Z.<-by (pos (n % c)) (ring (pos c ∷ pos (n % c) ∷ []) (search terms depth 20 fits 9999) tt) k
 
--- x / d − k is the whole number z
-of-quotient : (x z k d : ℤ) → (x -ℤ k *ℤ d) *ℤ pos 1 ≡ z *ℤ d → x ≡ (z +ℤ k) *ℤ d
-of-quotient x z k d e =
-    ring (x ∷ k ∷ d ∷ []) (search terms depth 20 fits 9999) tt
-    ∙ ap (λ y. y +ℤ k *ℤ d) e
-    ∙ ring (z ∷ k ∷ d ∷ []) (search terms depth 20 fits 9999) tt
-
-to-quotient : (z k d : ℤ) → (z *ℤ d -ℤ k *ℤ d) *ℤ pos 1 ≡ (z -ℤ k) *ℤ d
-to-quotient z k d = ring (z ∷ k ∷ d ∷ []) (search terms depth 20 fits 9999) tt
-
-module _ {v f : Fraction} (m k : ℕ) {d : ℕ} (c : Closed v f) (pf : Proper f) (hd : 0 < d)
-    (e : f +ℚ half ≈ℚ (pos m -ℤ pos k *ℤ pos d) over pos d) where
-  abbrev quotient : Fraction
-  quotient = (pos m -ℤ pos k *ℤ pos d) over pos d
-
-  quotient-proper : Proper quotient
-  quotient-proper = Q.proper-over _ _ (Z.pos-<-of-< hd)
-
-  half-is : v +ℚ half ≈ℚ quotient
-  half-is = Q.≈-trans (Q.proper-+ pf proper-half) (Q.≈-+ (c .same) (Q.≈-refl half)) e
-
-  -- m is a multiple of d where m / d − k is whole
-  multiple-of-whole : (z : ℤ) → quotient ≈ℚ whole z → m % d ≡ 0
-  unfolding _over_ whole
-  multiple-of-whole z w =
-      let hd' : pos 0 <ℤ pos d = Z.pos-<-of-< hd in
-      let is : pos m ≡ (z +ℤ pos k) *ℤ pos d = of-quotient (pos m) z (pos k) (pos d) (w .cross) in
-      let n : z +ℤ pos k ≡ pos (natAbs (z +ℤ pos k)) =
-      Z.natural-of-nonneg (Z.≤-cancel {k = pos d} hd' (rw (← is, zero-mul) (Z.nonneg-pos m))) in
-      let same : m ≡ natAbs (z +ℤ pos k) * d = Z.pos-injective (rw n at is) in
-      rw same (mul-mod-left _ d)
-
-  whole-of-multiple : m % d ≡ 0 → quotient ≈ℚ whole (pos (m / d) -ℤ pos k)
-  unfolding _over_ whole
-  whole-of-multiple r =
-      let is : pos m ≡ pos (m / d) *ℤ pos d = ap pos (sym (div-add-mod' m d) ∙ omega arith) in
-      record { cross = ap (λ y. (y -ℤ pos k *ℤ pos d) *ℤ pos 1) is ∙ to-quotient (pos (m / d)) (pos k) (pos d) }
-
-  pub tie-of-remainder : tie v ≡ eqb (m % d) 0
-  unfolding round
-  tie-of-remainder =
-      same-test (tie v) (eqb (m % d) 0)
-      (λ t.
-      let near = round-is-half-up v (c .proper) in
-      let w = Q.≤-antisym (≤-of-tie v (T-true _ t)) (near .below) in
-      let z = Q.≈-trans (Q.proper-+ (c .proper) proper-half) (Q.≈-sym half-is) w in
-      subst⁻¹ T (eq-eqb (m % d) 0 (multiple-of-whole (round v) z)) tt)
-      (λ t.
-      let z = pos (m / d) -ℤ pos k in
-      let w = Q.≈-trans quotient-proper half-is (whole-of-multiple (eqb-true (m % d) 0 (T-true _ t))) in
-      let p = Q.proper-+ (c .proper) proper-half in
-      let up = floor-greatest (v +ℚ half) p .greatest z (Q.≤-of-≈ (Q.≈-sym w)) in
-      subst⁻¹ T (tie-of-≤ v (Q.≤-trans p (Q.proper-whole z) (Q.proper-whole _) (Q.≤-of-≈ w) (Q.whole-≤-of-≤ _ _ up))) tt)
+pub floor-of-is : (down : Bool) (n : ℕ) {c : ℕ} → 0 < c → floor-of down (n / c) (n % c) ≡ floorDiv (signed down (pos n)) c
+unfolding floorDiv
+floor-of-is true n h = floor-negated n h
+floor-of-is false n h = refl
 
 zero-sum : (a b : ℕ) {w : ℕ} → 0 < w → eqb (a * w + b) 0 ≡ (eqb b 0 && eqb a 0)
 zero-sum zero b h = rw (zero-mul, zero-add) (sym (and-true (eqb b 0)))
@@ -177,28 +123,15 @@ zero-sum (suc a) b {w} h =
     let k = mul-pos some h in
     rw (ne-eqb (suc a * w + b) 0 (omega arith), ne-eqb (suc a) 0 (omega arith)) (sym (and-false (eqb b 0)))
 
-lowered-is : (n t y w : ℤ) →
-    (n -ℤ pos 10000 *ℤ t) *ℤ w +ℤ y ≡ n *ℤ w +ℤ y -ℤ pos 100 *ℤ t *ℤ (pos 100 *ℤ w)
-lowered-is n t y w = ring (n ∷ t ∷ y ∷ w ∷ []) (search terms depth 20 fits 9999) tt
-
--- the same of n hundredths, of which 10,000 t are too much, and y / w
-pub tie-lowered : {v f : Fraction} (n t y : ℕ) {w : ℕ} →
-    Closed v f →
-    Proper f →
-    0 < w →
-    f +ℚ half ≈ℚ ((pos n -ℤ pos (10000 * t)) *ℤ pos w +ℤ pos y) over (pos w *ℤ pos 100) →
-    tie v ≡ ends-in-0 (y % w) (n + y / w)
-tie-lowered {v} {f} n t y {w} c pf hw e =
-    tie-of-remainder (n * w + y) (100 * t) {d = 100 * w} c pf (mul-pos (lit< tt) hw)
-    (subst (λ z. f +ℚ half ≈ℚ z) (ap₂ (λ a b. a over b) (lowered-is (pos n) (pos t) (pos y) (pos w)) (ap pos (mul-comm w 100))) e)
-    ∙ ap (λ k. eqb k 0) (mod-mul (n * w + y) {m = 100} {c = w} (lit< tt) hw)
-    ∙ zero-sum ((n * w + y) / w % 100) ((n * w + y) % w) hw
-    ∙ ap₂ (λ j k. ends-in-0 j k) (mul-add-mod-self-right n w y) (mul-add-div-right hw n y)
-
 -- what is left of n by d, and then of the quotient by h, is 0 where nothing is left of n by both
-pub twice-left : (n : ℕ) {d h : ℕ} → 0 < d → 0 < h → eqb (n % d + n / d % h) 0 ≡ eqb (n % (d * h)) 0
+twice-left : (n : ℕ) {d h : ℕ} → 0 < d → 0 < h → eqb (n % d + n / d % h) 0 ≡ eqb (n % (d * h)) 0
 twice-left n {d} {h} hd hh =
     ap (λ k. eqb k 0) (add-comm (n % d) (n / d % h) ∙ ap (λ k. k + n % d) (sym (mul-one (n / d % h))))
     ∙ zero-sum (n / d % h) (n % d) (lit< tt)
     ∙ sym (zero-sum (n / d % h) (n % d) hd)
     ∙ ap (λ k. eqb k 0) (sym (mod-mul n {m = h} {c = d} hh hd) ∙ ap (λ k. n % k) (mul-comm h d))
+
+pub floor-twice : (down : Bool) (n : ℕ) {d h q r : ℕ} → 0 < d → 0 < h → Divided n d q r →
+    floor-of down (q / h) (r + q % h) ≡ floor-of down (n / (d * h)) (n % (d * h))
+floor-twice true n {d} {h} hd hh k = rw (k .quotient, k .remainder, div-div-eq-div-mul, twice-left n hd hh)
+floor-twice false n {d} {h} hd hh k = rw (k .quotient, div-div-eq-div-mul)

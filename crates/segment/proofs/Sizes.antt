@@ -9,23 +9,28 @@
 --   full-sum, full-down, full-rest   the sum by two divisions
 -- Assumes nothing.
 use mathlib.Core.Path.{_≡_, sym, _∙_, ap}
-use mathlib.Core.Bool.{cond}
-use mathlib.Core.Logic.{inl, inr}
+use mathlib.Core.Bool.{Bool, true, false, cond}
+use mathlib.Core.List.{[], _∷_}
+use mathlib.Core.Logic.{_⊎_, inl, inr}
 use Prim.Native.Nat.{ℕ, zero, suc, _+_, _-_, _*_, _/_, _%_, _^_, _≤_, _<_}
 use native.Mathlib.Nat.{mul-le-mul, mul-le-mul-left, mul-le-mul-right, le-mul-of-pos-right, div-le-self, add-div-right}
 use native.Mathlib.Nat.{mod-lt, div-div-eq-div-mul, div-add-mod', div-mul-le-self, le-trans, mul-pos, sub-zero}
 use native.Mathlib.Omega.{arith}
 use borrow.Author.Tests.{eqb-true}
 use lib.Dec.{eqb}
-use lib.Ieee.Nearest.{div-mono}
+use lib.IntN.{ℤ, pos, negsuc, negℤ, natAbs, _+ℤ_, _-ℤ_, _*ℤ_}
+use mir.Syntax.{w32, w64}
+use mir.Val.{SFits, toZ}
+use mir.Facts.{toZ-pos}
 use Rattle.exact.specs.Inner.{Divided}
+use Rattle.exact.specs.Rounding.{floorDiv}
+use lib.Ieee.Nearest.{div-mono}
+use Rattle.exact.proofs.Ring.{ring, terms}
 use Rattle.exact.proofs.Tests.{compare, true-or-false}
-use Rattle.exact.proofs.Magnitude.{scaled-size}
-use Rattle.model.specs.Points.{gap-most, value-most}
+use Rattle.exact.proofs.Magnitude.{scaled-size, size-neg, size-+, size--, size-*, sfits-of-size}
+use Rattle.model.specs.Points.{gap-most, value-most, slope-most}
 use Rattle.shape.specs.Inner.{over-most}
-use Rattle.segment.specs.Inner.{part, Weights, whole-part, rising-reading, RisingInput, raised, ConvexInput}
-use Rattle.segment.specs.Inner.{raised-by, raised-rest, halves-down}
-use Rattle.segment.proofs.Rounded.{twice-left}
+use Rattle.segment.specs.Inner.{part, Weights, whole-part, rising-reading, RisingInput, BentInput, floor-of, RisenInput, hundredths-of}
 
 blend-size : (t u : ℕ) {g e m : ℕ} → t + u ≤ gap-most → g ≤ m → e ≤ m → g * t + e * u ≤ gap-most * m
 blend-size t u {m = m} near k l =
@@ -117,25 +122,49 @@ module _ (w x y z : ℕ)
             (div-mono (w * w) z (x * x + y) y (omega arith) (omega arith) leading-high);
       }
 
--- a sum that is at most 1 too low, unless its last two digits are 99
-module _ {n c least : ℕ} (t d : ℕ) (k : OneLow n c least) (last : (d * t + least + 51) % 100 ≡ 0 → ⊥) where
-  pub near-hundreds : raised-by t d least / 100 ≡ raised-by t d (n / c) / 100
-  near-hundreds = omega (arith, k .not-above, k .one-below)
-
-  pub near-down : halves-down 1 (raised-by t d least) / 100 ≡ halves-down (n % c) (raised-by t d (n / c)) / 100
-  near-down =
-      elim (true-or-false (eqb (n % c) 0)) [
-        | inl e ↦ rw (e, sub-zero (raised-by t d least)) (let h = k .below (eqb-true (n % c) 0 e) in omega (arith, k .one-below))
-        | inr e ↦ rw (e, sub-zero (raised-by t d least), sub-zero (raised-by t d (n / c))) near-hundreds
+-- rounded down with its sign, it is that of the next number, or one less
+module _ {n c least : ℕ} (k : OneLow n c least) where
+  this-or-next : (n / c ≡ least) ⊎ (n / c ≡ least + 1)
+  this-or-next =
+      elim (compare (least + 1) (n / c)) [
+        | inl (m, _) ↦ inr (omega (arith, k .one-below))
+        | inr (m, _) ↦ inl (omega (arith, k .not-above))
       ]
 
--- ---- convex
+  exact-is-next : n % c ≡ 0 → n / c ≡ least + 1
+  exact-is-next e = let m = k .below e in omega (arith, k .one-below)
+
+  pub next-or-before : (down : Bool) → (let next = floor-of down (least + 1) 0 in
+      (floor-of down (n / c) (n % c) ≡ next) ⊎ (floor-of down (n / c) (n % c) ≡ next -ℤ pos 1))
+  next-or-before false =
+      elim this-or-next [
+        | inl e ↦ inr (rw e (ring (pos least ∷ []) (search terms depth 20 fits 9999) tt))
+        | inr e ↦ inl (ap pos e)
+      ]
+  next-or-before true =
+      elim (true-or-false (eqb (n % c) 0)) [
+        | inl r ↦ inl (rw (r, exact-is-next (eqb-true (n % c) 0 r)))
+        | inr r ↦ elim this-or-next [
+          | inl e ↦ inl (rw (r, e) (ring (pos least ∷ []) (search terms depth 20 fits 9999) tt))
+          | inr e ↦ inr (rw (r, e) (ring (pos least ∷ []) (search terms depth 20 fits 9999) tt))
+        ]
+      ]
+
+-- ---- convex and concave
+
+floor-of-size : (down : Bool) (q r : ℕ) → natAbs (floor-of down q r) ≤ q + 1
+floor-of-size true q r =
+    elim (true-or-false (eqb r 0)) [
+      | inl e ↦ rw e (omega (arith, size-- (negℤ (pos q)) (pos 0), size-neg (pos q)))
+      | inr e ↦ rw e (omega (arith, size-- (negℤ (pos q)) (pos 1), size-neg (pos q)))
+    ]
+floor-of-size false q r = omega arith
 
 positive-right : (m n : ℕ) → 0 < m * n → 0 < n
 positive-right m zero k = omega (arith, k)
 positive-right m (suc n) k = omega arith
 
-module _ {t u h d a b : ℕ} (k : ConvexInput t u h d a b) where
+module _ {slope : ℤ} {t u h a b : ℕ} (k : BentInput slope t u h a b) where
   abbrev w : ℕ
   w = b * t
 
@@ -147,11 +176,6 @@ module _ {t u h d a b : ℕ} (k : ConvexInput t u h d a b) where
 
   pub h-positive : 0 < h
   h-positive = omega (arith, k .distances .least, k .sum)
-
-  pub tangent-size : d * t ≤ 2 * over-most
-  tangent-size =
-      let m = k .distances .most in
-      mul-le-mul {m₁ = t} {m₂ = gap-most} (k .slope) (omega arith)
 
   pub divisor-size : divisor ≤ gap-most * (2 * over-most)
   divisor-size = blend-size u t (omega (arith, k .distances .most)) (k .above) (k .below)
@@ -178,23 +202,68 @@ module _ {t u h d a b : ℕ} (k : ConvexInput t u h d a b) where
       (omega arith) (omega arith) (omega arith) (omega arith) (omega arith)
       (mul-le-mul {n₁ = w} {m₁ = 100} {n₂ = divisor} {m₂ = h} (omega arith) (omega arith))
 
-  pub raised-size : raised t u h d a b ≤ 2 ^ 37
-  raised-size = omega (arith, tangent-size, divisor-size, excess-size)
+  -- what is above the tangent is small
+  pub quotient-size : w * w / (divisor * h) < 2 ^ 37
+  quotient-size = omega (arith, excess-size, divisor-size)
 
-  -- w w by the divisor, and then by t + u
+  -- by the divisor, and then by h
   module _ {q r : ℕ} (s : Divided (w * w) divisor q r) (some : 0 < divisor) where
-    pub full-sum : raised-by t d (q / (t + u)) ≡ raised t u h d a b
-    full-sum = rw (s .quotient, k .sum, div-div-eq-div-mul)
+    pub full-quotient : q / h < 2 ^ 37
+    full-quotient = rw (s .quotient, div-div-eq-div-mul) quotient-size
 
-    pub full-down : halves-down (r + q % (t + u)) (raised-by t d (q / (t + u)))
-        ≡ halves-down (raised-rest t u h a b) (raised t u h d a b)
-    full-down = rw full-sum (ap (λ e. raised t u h d a b - cond e 1 0) nothing-left)
-      where
-        nothing-left : eqb (r + q % (t + u)) 0 ≡ eqb (raised-rest t u h a b) 0
-        nothing-left = rw (s .quotient, s .remainder, k .sum) (twice-left (w * w) some (k .distances .least))
-
-    pub full-rest : r + q % (t + u) ≤ divisor + gap-most
+    pub full-rest : r + q % h ≤ divisor + gap-most
     full-rest =
         let m = mod-lt (w * w) some in
-        let n = mod-lt q (k .distances .least) in
-        omega (arith, s .remainder, k .distances .most)
+        let n = mod-lt q h-positive in
+        omega (arith, s .remainder, h-size)
+
+  pub risen-input : (down : Bool) (q r : ℕ) → q < 2 ^ 37 → RisenInput slope t (floor-of down q r)
+  risen-input down q r few =
+      record {
+        steep = k .steep;
+        near = omega (arith, k .distances .most);
+        size = omega (arith, floor-of-size down q r);
+      }
+
+-- ---- the rise in hundredths
+
+floor-size : (z : ℤ) → natAbs (floorDiv z 100) ≤ natAbs z / 100 + 1
+unfolding floorDiv
+floor-size (pos n) = omega arith
+floor-size (negsuc n) = omega arith
+
+module _ {slope : ℤ} {t : ℕ} {above : ℤ} (k : RisenInput slope t above) where
+  abbrev product : ℤ
+  product = slope *ℤ pos t
+
+  product-most : natAbs product ≤ slope-most * gap-most
+  product-most = omega (arith, size-* slope (pos t), mul-le-mul (k .steep) (k .near))
+
+  sum-size : natAbs (hundredths-of slope t above) ≤ 2 ^ 37 + 20001000
+  sum-size = omega (arith, size-+ (pos 50 +ℤ product) above, size-+ (pos 50) product, product-most, k .size)
+
+  pub slope-fits : SFits w64 slope
+  slope-fits = sfits-of-size w64 slope (omega (arith, k .steep))
+
+  pub product-fits : SFits w64 product
+  product-fits = sfits-of-size w64 product (omega (arith, product-most))
+
+  pub half-fits : SFits w64 (pos 50 +ℤ product)
+  half-fits = sfits-of-size w64 (pos 50 +ℤ product) (omega (arith, size-+ (pos 50) product, product-most))
+
+  pub sum-fits : SFits w64 (hundredths-of slope t above)
+  sum-fits = sfits-of-size w64 (hundredths-of slope t above) (omega (arith, sum-size))
+
+  pub rise-size : natAbs (floorDiv (hundredths-of slope t above) 100) ≤ 2 ^ 31 - 1
+  rise-size = omega (arith, floor-size (hundredths-of slope t above), sum-size)
+
+  pub rise-fits : SFits w32 (floorDiv (hundredths-of slope t above) 100)
+  rise-fits = sfits-of-size w32 (floorDiv (hundredths-of slope t above) 100) (omega (arith, rise-size))
+
+  pub hundreds-fits : SFits w64 (pos 100 *ℤ floorDiv (hundredths-of slope t above) 100)
+  hundreds-fits =
+      let q = floorDiv (hundredths-of slope t above) 100 in
+      sfits-of-size w64 (pos 100 *ℤ q) (omega (arith, size-* (pos 100) q, rise-size))
+
+  pub distance-read : toZ w64 t ≡ pos t
+  distance-read = toZ-pos w64 (omega (arith, k .near))

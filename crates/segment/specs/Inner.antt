@@ -1,24 +1,24 @@
 -- What contracts of inner functions cite: one segment in plain numbers. Nothing here need be believed: the calls' contracts cite
--- the definitions of document 01.
+-- the definitions of documents 01 and 02.
 --   Distances        t and u, of an area from the two ends of a segment
---   Rounds           a value rounded, and whether it is an exact half; taken-from, a whole number less the value, rounded
 --   part             A of the rising curve, from one end; whole-part is B; share, A F with B / 2 for the rounding
---   rising-reading   the rounded value; rising-tie, it is an exact half
---   raised           the convex curve above its left value in hundredths, raised so that nothing is negative; raised-rest, what
---                    is left of its division; halves-down, a sum whose exact halves go down
---   BentAt           the figures of an area of a convex segment
---   Weights, RisingInput, ConvexInput, RisenInput, Small   how large are the arguments of `part`, `rising`, `excess`, `risen` and
---                    `from_mirror`
+--   rising-reading   the rounded value; climbed, the same between two points, whose values may be equal
+--   turned           a point of a curve that is read from right to left
+--   BentAt           the figures of an area of a convex or concave segment; bent-rule, the rule of the one or the other
+--   above-tangent    how far the curve is above its left tangent, in hundredths, rounded down; floor-of, by quotient and remainder
+--   bent-rise        how far it is above its left value, rounded; hundredths-of, that before the division by 100
+--   Weights, RisingInput, Climb (Rising), Apart, BentInput, RisenInput   what `part`, `rising`, `climb`, `apart`, `estimate` and
+--                    `risen` ask
 -- Assumes nothing.
 use mathlib.Core.Path.{_≡_}
 use mathlib.Core.Bool.{Bool, cond}
-use Prim.Native.Nat.{ℕ, _+_, _-_, _*_, _/_, _%_, _^_, _≤_, _<_}
+use Prim.Native.Nat.{ℕ, _+_, _-_, _*_, _/_, _^_, _≤_, _<_}
 use lib.Dec.{eqb}
-use lib.IntN.{ℤ, pos, natAbs, _+ℤ_, _-ℤ_, _*ℤ_}
-use Rattle.exact.specs.Fraction.{Fraction}
-use Rattle.exact.specs.Rounding.{round}
-use Rattle.exact.specs.Inner.{tie}
-use Rattle.model.specs.Points.{gap-most, value-most, slope-most, Segment}
+use lib.IntN.{ℤ, pos, negℤ, natAbs, _+ℤ_, _-ℤ_, _*ℤ_}
+use lib.Signed.{_≤ℤ_}
+use Rattle.exact.specs.Rounding.{floorDiv}
+use Rattle.model.specs.Points.{gap-most, value-most, slope-most, Point, Segment, convex, Rule, plain, mirrored}
+use Rattle.model.specs.Inner.{Limits}
 use Rattle.shape.specs.Inner.{over-most}
 use Rattle.segment.specs.declared.Bent.{Bent}
 
@@ -26,17 +26,7 @@ pub record Distances (t u : ℕ) : Type 0 where
   pub most : t + u ≤ gap-most
   pub least : 0 < t + u
 
-pub record Rounds (v : Fraction) (k : ℤ) (t : Bool) : Type 0 where
-  pub value : k ≡ round v
-  pub half : t ≡ tie v
-
-abbrev pub taken-from : ℕ → ℤ → Bool → ℤ
-taken-from n k t = pos n -ℤ k +ℤ cond t (pos 1) (pos 0)
-
-pub record Small (k : ℤ) : Type 0 where
-  pub size : natAbs k ≤ value-most
-
--- ---- rising
+-- ---- rising and falling
 
 abbrev pub part : (t u G E : ℕ) → ℕ
 part t u G E = t * (G * t + E * u)
@@ -56,9 +46,6 @@ share t u F D₀ D₁ = part t u (100 * F) ((t + u) * D₀) * F + whole-part t u
 abbrev pub rising-reading : (t u left F D₀ D₁ : ℕ) → ℕ
 rising-reading t u left F D₀ D₁ = left + share t u F D₀ D₁ / whole-part t u F D₀ D₁
 
-abbrev pub rising-tie : (t u F D₀ D₁ : ℕ) → Bool
-rising-tie t u F D₀ D₁ = eqb (share t u F D₀ D₁ % whole-part t u F D₀ D₁) 0
-
 pub record RisingInput (t u left F D₀ D₁ : ℕ) : Type 0 where
   pub distances : Distances t u
   pub value : left ≤ value-most
@@ -68,29 +55,69 @@ pub record RisingInput (t u left F D₀ D₁ : ℕ) : Type 0 where
   pub above-0 : 0 < whole-part t u F D₀ D₁
   pub fits : rising-reading t u left F D₀ D₁ < 2 ^ 31
 
--- ---- convex
+abbrev pub turned : Point → Point
+turned p = record { area = p .area; value = p .value; slope = negℤ (p .slope) }
 
--- The left tangent above the left value in hundredths, with one half for the rounding, and n hundredths more. d is the left slope
--- plus 10,000, so this is 10,000 t too much.
-abbrev pub raised-by : (t d n : ℕ) → ℕ
-raised-by t d n = 50 + d * t + n
+-- from p, which is not above q
+module _ (t u : ℕ) (p q : Point) where
+  abbrev pub climbed : ℕ
+  climbed =
+      cond (eqb (q .value) (p .value)) (p .value)
+      (rising-reading t u (p .value) (q .value - p .value) (natAbs (p .slope)) (natAbs (q .slope)))
 
--- with w² / (W h), where w = b t and W = a u + b t
-abbrev pub raised : (t u h d a b : ℕ) → ℕ
-raised t u h d a b = raised-by t d (b * t * (b * t) / ((a * u + b * t) * h))
+  pub record Rising : Type 0 where
+    pub rises : p .value ≤ q .value
+    pub left-slope : p .slope ≡ pos (natAbs (p .slope))
+    pub right-slope : q .slope ≡ pos (natAbs (q .slope))
+    pub input : RisingInput t u (p .value) (q .value - p .value) (natAbs (p .slope)) (natAbs (q .slope))
 
--- what is left of the division in it
-abbrev pub raised-rest : (t u h a b : ℕ) → ℕ
-raised-rest t u h a b = b * t * (b * t) % ((a * u + b * t) * h)
+  pub record Climb : Type 0 where
+    pub left : Limits p
+    pub right : Limits q
+    pub rising : (q .value ≡ p .value → ⊥) → Rising
 
--- one less where nothing is left
-abbrev pub halves-down : ℕ → ℕ → ℕ
-halves-down rest n = n - cond (eqb rest 0) 1 0
+-- ---- convex and concave
 
-pub record ConvexInput (t u h d a b : ℕ) : Type 0 where
+abbrev pub bent-rule : Bool → Rule
+bent-rule down = cond down (mirrored convex) (plain convex)
+
+abbrev pub signed : Bool → ℤ → ℤ
+signed down z = cond down (negℤ z) z
+
+pub record Apart (down : Bool) (x y : ℤ) : Type 0 where
+  pub size : natAbs (x -ℤ y) ≤ 2 * over-most
+  pub order : pos 0 ≤ℤ signed down (x -ℤ y)
+
+pub record BentAt (down : Bool) (s : Segment) (x : ℕ) (y : Bent) : Type 0 where
+  pub t : y .t ≡ x - s .left .area
+  pub u : y .u ≡ s .right .area - x
+  pub h : y .h ≡ s .right .area - s .left .area
+  pub a : pos (y .a) ≡
+      signed down ((pos (s .right .area) -ℤ pos (s .left .area)) *ℤ s .right .slope
+      -ℤ pos 100 *ℤ (pos (s .right .value) -ℤ pos (s .left .value)))
+  pub b : pos (y .b) ≡
+      signed down (pos 100 *ℤ (pos (s .right .value) -ℤ pos (s .left .value))
+      -ℤ (pos (s .right .area) -ℤ pos (s .left .area)) *ℤ s .left .slope)
+
+-- n / d with quotient q and remainder r, or that with its sign changed, rounded down
+abbrev pub floor-of : Bool → (q r : ℕ) → ℤ
+floor-of down q r = cond down (negℤ (pos q) -ℤ cond (eqb r 0) (pos 0) (pos 1)) (pos q)
+
+-- w² / (W h), where w = b t and W = a u + b t
+abbrev pub above-tangent : Bool → (t u h a b : ℕ) → ℤ
+above-tangent down t u h a b = floorDiv (signed down (pos (b * t * (b * t)))) ((a * u + b * t) * h)
+
+-- with the left tangent and one half for the rounding
+abbrev pub hundredths-of : ℤ → ℕ → ℤ → ℤ
+hundredths-of slope t above = pos 50 +ℤ slope *ℤ pos t +ℤ above
+
+abbrev pub bent-rise : Bool → ℤ → (t u h a b : ℕ) → ℤ
+bent-rise down slope t u h a b = floorDiv (hundredths-of slope t (above-tangent down t u h a b)) 100
+
+pub record BentInput (slope : ℤ) (t u h a b : ℕ) : Type 0 where
   pub distances : Distances t u
   pub sum : h ≡ t + u
-  pub slope : d ≤ 2 * slope-most
+  pub steep : natAbs slope ≤ slope-most
   pub above : a ≤ 2 * over-most
   pub below : b ≤ 2 * over-most
 
@@ -98,15 +125,3 @@ pub record RisenInput (slope : ℤ) (t : ℕ) (above : ℤ) : Type 0 where
   pub steep : natAbs slope ≤ slope-most
   pub near : t ≤ gap-most
   pub size : natAbs above ≤ 2 ^ 37 + 100
-
-pub record BentAt (s : Segment) (x : ℕ) (y : Bent) : Type 0 where
-  pub t : y .t ≡ x - s .left .area
-  pub u : y .u ≡ s .right .area - x
-  pub h : y .h ≡ s .right .area - s .left .area
-  pub d : pos (y .d) ≡ s .left .slope +ℤ pos slope-most
-  pub a : pos (y .a) ≡
-      (pos (s .right .area) -ℤ pos (s .left .area)) *ℤ s .right .slope
-      -ℤ pos 100 *ℤ (pos (s .right .value) -ℤ pos (s .left .value))
-  pub b : pos (y .b) ≡
-      pos 100 *ℤ (pos (s .right .value) -ℤ pos (s .left .value))
-      -ℤ (pos (s .right .area) -ℤ pos (s .left .area)) *ℤ s .left .slope

@@ -4,6 +4,7 @@
 --   descending-shape   where it falls: no
 --   order-test      shape 2: left slope below chord and chord below right slope, or all three equal, as a test
 --   convex-test     of the slopes of a segment; concave-test, of the mirrored segment: the same slopes from right to left
+--   mirrored-slope, mirrored-chord   which are those of the segment with their signs changed
 -- Assumes nothing.
 use mathlib.Core.Path.{_≡_, refl, _∙_, ap₂}
 use mathlib.Core.Bool.{Bool, true, false, cond, _&&_, _||_, or-false, and-false, and-comm}
@@ -102,10 +103,10 @@ order-negated a b c =
     (ap₂ (λ x y. x || y) (and-comm (ltZ b a) (ltZ c b)) (and-comm (eqZ b a) (eqZ c b)))
 
 module _ {s : Segment} (n : Neighbours s) where
-  mirrored-slope : (p : Point) → gap s *ℤ negℤ (p .slope) ≡ negℤ (gap s *ℤ p .slope)
+  pub mirrored-slope : (p : Point) → gap s *ℤ negℤ (p .slope) ≡ negℤ (gap s *ℤ p .slope)
   mirrored-slope p = ring (gap s ∷ p .slope ∷ []) (search terms depth 20 fits 9999) tt
 
-  mirrored-chord : g (mirror-segment s) ≡ negℤ (g s)
+  pub mirrored-chord : g (mirror-segment s) ≡ negℤ (g s)
   unfolding mirror
   mirrored-chord =
       rw (← Z.difference-of-≤ (n .left .value), ← Z.difference-of-≤ (n .right .value))

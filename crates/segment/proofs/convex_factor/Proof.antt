@@ -1,69 +1,59 @@
 -- `segment::convex_factor` meets its contract.
 -- Assumes nothing.
-use mathlib.Core.Path.{_≡_, _∙_, ap₂}
-use native.Mathlib.Omega.{arith}
+use mathlib.Core.Bool.{false}
 use borrow.Author.Needs.{needs}
-use lib.IntN.{pos, _+ℤ_}
-use mir.Syntax.{w32, w64}
-use mir.Val.{toZ, ofZ}
-use mir.Facts.{toZ-ofZ, toZ-pos}
-use Rattle.exact.specs.Rounding.{round}
-use Rattle.exact.proofs.Magnitude.{sfits-of-size}
-use Rattle.model.specs.Points.{convex}
-use Rattle.model.specs.Interpolant.{interpolant}
-use Rattle.point.specs.Inner.{segment-of}
-use Rattle.point.proofs.Figures.{slope-size, slope-read, value-read}
-use Rattle.segment.proofs.Distances.{plain-small, small-fits, small-read}
-use Rattle.segment.proofs.ConvexReading.{bent-input, up-size, up-reading}
+use Rattle.point.proofs.Figures.{slope-read}
+use Rattle.segment.proofs.BentReading.{bent-input, sum-fits, sum-read}
 use Rattle.segment.proofs.convex_factor.Statement.{statement}
 use Rattle.segment.proofs.convex_factor.Tie as tie
 
-abbrev at-excess : tie.After-struct-told → tie.After-excess
-at-excess c = c .before .before .before
+-- the place after `bent_at`
+abbrev at-bent : tie.After-estimate → tie.After-bent-at
+at-bent c = c .before .before .before
 
-above-read : (e : tie.After-excess) → toZ w64 (e .excess .result .sum) ≡ pos (e .excess .result .sum)
-above-read e =
-    toZ-pos w64 (omega (arith, up-size (e .before .before .pre) (e .before .bent-at .ensures) _ (e .excess .ensures .0)))
+estimate-requires : tie.Need-estimate-requires
+estimate-requires c κs =
+    let b = c .before .before in
+    let i = b .before .pre in
+    rw (slope-read (i .good .ends .left)) (bent-input false i (b .bent-at .ensures))
 
-cast-risen : tie.Need-cast-risen
-cast-risen c =
-    let e = c .before .before in
-    sfits-of-size w64 (pos (e .excess .result .sum))
-    (omega (arith, up-size (e .before .before .pre) (e .before .bent-at .ensures) _ (e .excess .ensures .0)))
-
-risen-requires : tie.Need-risen-requires
-risen-requires c κs =
-    let e = at-excess c in
-    let i = e .before .before .pre in
-    let b = e .before .bent-at .ensures in
-    rw (slope-read (i .good .ends .left), above-read e)
-    (record {
-      steep = slope-size (i .good .ends .left);
-      near = omega (arith, bent-input i b .distances .most);
-      size = omega (arith, up-size i b _ (e .excess .ensures .0));
-    })
-
--- the left value and what is above it
-sum-is : (c : tie.After-risen) →
-    (let a = at-excess (c .before) .before .before .args in
-    toZ w32 (a .p .value) +ℤ toZ w32 (ofZ w32 (c .risen .result))
-    ≡ round (interpolant convex (segment-of (a .p) (a .q)) (a .area)))
-sum-is c =
-    let e = at-excess (c .before) in
-    let i = e .before .before .pre in
-    let l = i .good .ends .left in
-    ap₂ (λ x y. x +ℤ y) (value-read l)
-    (toZ-ofZ (record { sfits = c .risen .ok }) ∙ (rw (slope-read l, above-read e) at (c .risen .ensures)))
-    ∙ up-reading i (e .before .bent-at .ensures) _ (e .excess .ensures .0)
-
+-- where one division tells
 add-result : tie.Need-add-result
-add-result c = rw (sum-is c) (small-fits (plain-small (at-excess (c .before) .before .before .pre)))
+add-result c =
+    let e = c .before .before .before in
+    let i = at-bent e .before .pre in
+    sum-fits false i (at-bent e .bent-at .ensures)
+    (rw (slope-read (i .good .ends .left)) at (e .estimate .ensures .0 (c .before .before .if1 .taken)))
 
 returns : tie.Need-returns
-returns c = rw (sum-is c) (small-read (plain-small (at-excess (c .before) .before .before .pre)))
+returns c =
+    let e = c .before .before .before in
+    let i = at-bent e .before .pre in
+    sum-read false i (at-bent e .bent-at .ensures)
+    (rw (slope-read (i .good .ends .left)) at (e .estimate .ensures .0 (c .before .before .if1 .taken)))
+
+-- where it does not
+exact-rise-requires : tie.Need-exact-rise-requires
+exact-rise-requires c κs =
+    let e = c .before .before in
+    let i = at-bent e .before .pre in (
+      rw (slope-read (i .good .ends .left)) (bent-input false i (at-bent e .bent-at .ensures)),
+      e .estimate .ensures .1 (c .before .if1 .left),
+    )
+
+add-result-2 : tie.Need-add-result-2
+add-result-2 c =
+    let b = at-bent (c .before .before .before) in
+    let i = b .before .pre in
+    sum-fits false i (b .bent-at .ensures) (rw (slope-read (i .good .ends .left)) at (c .exact-rise .ensures))
+
+returns-2 : tie.Need-returns-2
+returns-2 c =
+    let b = at-bent (c .before .before .before) in
+    let i = b .before .pre in
+    sum-read false i (b .bent-at .ensures) (rw (slope-read (i .good .ends .left)) at (c .exact-rise .ensures))
 
 pub convex-factor-spec : {M : Type 1} → statement M
 convex-factor-spec =
     tie.close
-    (tie.spec (λ c κs. c .pre) (λ c κs. bent-input (c .before .pre) (c .bent-at .ensures)) (search needs)
-    cast-risen risen-requires add-result returns)
+    (tie.spec (λ c κs. c .pre) (search needs) estimate-requires add-result returns exact-rise-requires add-result-2 returns-2)

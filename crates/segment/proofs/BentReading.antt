@@ -1,0 +1,310 @@
+-- The reading of a convex and of a concave segment, in the natural numbers that the code computes with.
+--   BentEnds, bent-ends   the order of the end slopes and the chord; bent-input, what `estimate` asks
+--   bent-reads            the left value and `bent-rise` are the rounded value; sum-fits, sum-read, as the code adds them
+-- Assumes nothing.
+use mathlib.Core.Path.{_≡_, refl, sym, _∙_, ap, ap₂}
+use mathlib.Core.Bool.{Bool, true, false, cond}
+use mathlib.Core.List.{[], _∷_}
+use Prim.Native.Nat.{ℕ, _+_, _-_, _*_, _/_, _^_, _≤_, _<_}
+use native.Mathlib.Nat.{mul-pos, zero-mul, zero-div}
+use native.Mathlib.Omega.{arith}
+use lib.Dec.{lit<}
+use lib.IntN.{ℤ, pos, negℤ, natAbs, _+ℤ_, _-ℤ_, _*ℤ_, *ℤ-comm, +ℤ-invr}
+use lib.Signed.{_≤ℤ_, _<ℤ_}
+use mir.Syntax.{w32}
+use mir.Val.{SFits, toZ, ofZ}
+use mir.Facts.{toZ-ofZ}
+use Rattle.exact.specs.Fraction.{Fraction, Proper, _over_, whole, _+ℚ_, _-ℚ_, _*ℚ_, _≈ℚ_, _<ℚ_}
+use Rattle.exact.specs.Rounding.{floorDiv, half, round}
+use Rattle.exact.proofs.Ring.{ring, terms}
+use Rattle.exact.proofs.Order as Z
+use Rattle.exact.proofs.Order.{signs}
+use Rattle.exact.proofs.Field.{field, ratios}
+use Rattle.exact.proofs.Fractions as Q
+use Rattle.exact.proofs.Fractions.{propers, positivity}
+use Rattle.exact.proofs.Magnitude.{size-neg, size--, sfits-of-size}
+use Rattle.model.specs.Points.{value-most, gradient, Segment, convex, mirror, mirror-segment, plain, mirrored}
+use Rattle.model.specs.Interpolant as I
+use Rattle.model.specs.Interpolant.{interpolant, exact-curve}
+use Rattle.model.specs.Shape.{fits, has-shape, segment-test}
+use Rattle.model.specs.Inner.{Neighbours, Good, Inside}
+use Rattle.model.proofs.ClosedForm.{Closed, congruence, Bending, W, W-positive, convex-form}
+use Rattle.model.proofs.ClosedForm.{bending-of-normal, bent-value, straight-value}
+use Rattle.model.proofs.Curves.{bent, straight, bend-kind}
+use Rattle.model.proofs.Mirror.{mirror-inside}
+use Rattle.model.proofs.Segments.{gap, rise, distance, v₀, v₁, d₀, d₁, S, g, e₀, e₁, a, b}
+use Rattle.model.proofs.Segments.{segment-normal, gap-positive, distance-in}
+use Rattle.point.proofs.Figures.{slope-size, value-read}
+use Rattle.shape.proofs.Figures.{h, gap-is, a-size, b-size}
+use Rattle.shape.proofs.Tests.{mirrored-slope, mirrored-chord}
+use Rattle.segment.specs.Inner.{bent-rule, signed, Apart, BentAt, BentInput, above-tangent, hundredths-of, bent-rise}
+use Rattle.segment.specs.declared.Bent.{Bent}
+use Rattle.segment.proofs.Distances.{t, u, from-left, from-right, h-is, distances, factor-size, factor-fits, factor-read}
+use Rattle.segment.proofs.Rounded.{round-twice, floor-above}
+
+-- ---- a value, or 200,000 less it
+
+abbrev taken : Bool → Fraction → Fraction
+taken down v = cond down (whole (pos value-most) -ℚ v) v
+
+abbrev taken-ℤ : Bool → ℤ → ℤ
+taken-ℤ down l = cond down (pos value-most -ℤ l) l
+
+taken-closed : (down : Bool) {v f : Fraction} → Closed v f → Closed (taken down v) (taken down f)
+taken-closed true c =
+    let p = c .proper in
+    record { proper = search propers; same = Q.≈-- (Q.≈-refl _) (c .same) }
+taken-closed false c = c
+
+taken-proper : (down : Bool) {f : Fraction} → Proper f → Proper (taken down f)
+taken-proper true p = search propers
+taken-proper false p = p
+
+-- l and z hundredths, and y / w hundredths
+reads-by : {v f : Fraction} (l z y : ℤ) {w : ℕ} → Closed v f → Proper f → 0 < w →
+    f +ℚ half ≈ℚ ((l *ℤ pos 100 +ℤ z) *ℤ pos w +ℤ y) over (pos w *ℤ pos 100) →
+    round v ≡ l +ℤ floorDiv (z +ℤ floorDiv y w) 100
+reads-by l z y {w} c p h e =
+    round-twice (l *ℤ pos 100 +ℤ z) y c p h (lit< tt) e
+    ∙ ap (λ n. floorDiv n 100) (ring (l ∷ z ∷ floorDiv y w ∷ []) (search terms depth 20 fits 9999) tt)
+    ∙ sym (floor-above l (z +ℤ floorDiv y w))
+
+-- ---- the curve and one half, as one fraction
+
+straight-half : (down : Bool) (l d t : ℤ) →
+    taken down (whole l +ℚ (d over pos 100) *ℚ whole t) +ℚ half
+    ≈ℚ ((taken-ℤ down l *ℤ pos 100 +ℤ (pos 50 +ℤ signed down d *ℤ t)) *ℤ pos 1 +ℤ pos 0) over (pos 1 *ℤ pos 100)
+straight-half true l d t = field (l ∷ d ∷ t ∷ []) (search ratios depth 20 fits 9999) tt
+straight-half false l d t = field (l ∷ d ∷ t ∷ []) (search ratios depth 20 fits 9999) tt
+
+bent-half : (down : Bool) (l d t h W w : ℤ) →
+    taken down (whole l +ℚ ((h *ℤ d *ℤ t) over (pos 100 *ℤ h)) +ℚ ((w *ℤ w) over (pos 100 *ℤ h *ℤ W))) +ℚ half
+    ≈ℚ ((taken-ℤ down l *ℤ pos 100 +ℤ (pos 50 +ℤ signed down d *ℤ t)) *ℤ (W *ℤ h) +ℤ signed down (w *ℤ w)) over (W *ℤ h *ℤ pos 100)
+bent-half true l d t h W w = field (l ∷ d ∷ t ∷ w ∷ h ∷ W ∷ []) (search ratios depth 20 fits 9999) tt
+bent-half false l d t h W w = field (l ∷ d ∷ t ∷ w ∷ h ∷ W ∷ []) (search ratios depth 20 fits 9999) tt
+
+-- ---- a convex segment, and the same taken from 200,000
+
+module _ (s : Segment) where
+  abbrev above : ℕ
+  above = natAbs (a s)
+
+  abbrev below : ℕ
+  below = natAbs (b s)
+
+  below-zero : d₀ s ≈ℚ rise s over gap s → b s ≡ pos 0
+  unfolding gradient _over_
+  below-zero k = rw (*ℤ-comm (gap s) (s .left .slope), k .cross, *ℤ-comm (rise s) (pos 100)) (+ℤ-invr (g s))
+
+  above-zero : rise s over gap s ≈ℚ d₁ s → a s ≡ pos 0
+  unfolding gradient _over_
+  above-zero k = rw (*ℤ-comm (pos 100) (rise s), k .cross, *ℤ-comm (s .right .slope) (gap s)) (+ℤ-invr (e₁ s))
+
+record Bends (s : Segment) (x : ℕ) : Type 0 where
+  pub above-is : a s ≡ pos (above s)
+  pub below-is : b s ≡ pos (below s)
+  pub reads : (down : Bool) → round (taken down (interpolant convex s x))
+      ≡ taken-ℤ down (v₀ s)
+      +ℤ bent-rise down (signed down (s .left .slope)) (t s x) (u s x) (h s) (above s) (below s)
+
+module _ {s : Segment} {x : ℕ} (i : Inside (Good (plain convex)) s x) where
+  module _ (low : d₀ s ≈ℚ rise s over gap s) (high : rise s over gap s ≈ℚ d₁ s) where
+    straight-closed : Closed (interpolant convex s x)
+        (whole (v₀ s) +ℚ (rise s over gap s) *ℚ whole (distance s x))
+    unfolding I.interpolant I.curve
+    straight-closed = straight-value (segment-normal s (i .good .ends .ordered)) (distance s x) low
+
+    along-slope : Closed (interpolant convex s x)
+        (whole (v₀ s) +ℚ (s .left .slope over pos 100) *ℚ whole (pos (t s x)))
+    unfolding gradient
+    along-slope =
+        let hp = gap-positive s (i .good .ends .ordered) in
+        let e = Q.≈-sym low in
+        record {
+          proper = straight-closed .proper;
+          same = Q.≈-trans (search propers) (rw (from-left i) at (straight-closed .same)) (search congruence);
+        }
+
+    nothing-above : (down : Bool) → above-tangent down (t s x) (u s x) (h s) (above s) (below s) ≡ floorDiv (pos 0) 1
+    unfolding floorDiv
+    nothing-above true = rw (ap natAbs (below-zero s low)) (simp (zero-mul, zero-div))
+    nothing-above false = rw (ap natAbs (below-zero s low)) (simp (zero-mul, zero-div))
+
+    straight-bends : Bends s x
+    straight-bends = record {
+      above-is = rw (above-zero s high);
+      below-is = rw (below-zero s low);
+      reads = λ down.
+          rw (nothing-above down)
+          (reads-by (taken-ℤ down (v₀ s)) (pos 50 +ℤ signed down (s .left .slope) *ℤ pos (t s x)) (pos 0) {w = 1}
+          (taken-closed down along-slope) (taken-proper down (search positivity)) (lit< tt)
+          (straight-half down (v₀ s) (s .left .slope) (pos (t s x))));
+    }
+
+  module _ (low : d₀ s <ℚ rise s over gap s) (high : rise s over gap s <ℚ d₁ s) where
+    bending : Bending (gap s) (v₀ s) (v₁ s) (d₀ s) (d₁ s) (S s) (a s) (g s) (b s)
+    bending = bending-of-normal (segment-normal s (i .good .ends .ordered)) low high
+
+    bent-closed : Closed (interpolant convex s x)
+        (convex-form (gap s) (v₀ s) (distance s x) (S s) (a s) (g s) (b s))
+    unfolding I.interpolant I.curve
+    bent-closed = bent-value bending (distance-in i)
+
+    above-is : a s ≡ pos (above s)
+    above-is = Z.natural-of-nonneg (Z.≤-of-< (bending .a-positive))
+
+    below-is : b s ≡ pos (below s)
+    below-is = Z.natural-of-nonneg (Z.≤-of-< (bending .b-positive))
+
+    abbrev w : ℕ
+    w = below s * t s x
+
+    abbrev divisor : ℕ
+    divisor = above s * u s x + w
+
+    W-is : W (gap s) (distance s x) (a s) (b s) ≡ pos divisor
+    W-is = rw (from-right i, from-left i, above-is, below-is)
+
+    left-is : g s -ℤ b s ≡ pos (h s) *ℤ s .left .slope
+    left-is = rw (← gap-is (i .good .ends)) (ring (g s ∷ e₀ s ∷ []) (search terms depth 20 fits 9999) tt)
+
+    S-is : S s ≡ pos 100 *ℤ pos (h s)
+    S-is = rw (gap-is (i .good .ends))
+
+    over-tangent : Closed (interpolant convex s x)
+        (whole (v₀ s) +ℚ ((pos (h s) *ℤ s .left .slope *ℤ pos (t s x)) over (pos 100 *ℤ pos (h s)))
+        +ℚ ((pos w *ℤ pos w) over (pos 100 *ℤ pos (h s) *ℤ pos divisor)))
+    over-tangent = rw (W-is, left-is, S-is, from-left i, below-is) at bent-closed
+
+    divisor-positive : 0 < divisor
+    divisor-positive = Z.<-of-pos-< (rw W-is at (W-positive bending (distance-in i)))
+
+    bent-bends : Bends s x
+    bent-bends =
+        let k : 0 < h s = (let o = i .good .ends .ordered in omega arith) in
+        let h-pos : pos 0 <ℤ pos (h s) = Z.pos-<-of-< k in
+        let W-pos : pos 0 <ℤ pos divisor = Z.pos-<-of-< divisor-positive in
+        record {
+          above-is = above-is;
+          below-is = below-is;
+          reads = λ down.
+              reads-by (taken-ℤ down (v₀ s)) (pos 50 +ℤ signed down (s .left .slope) *ℤ pos (t s x)) (signed down (pos (w * w)))
+              {w = divisor * h s} (taken-closed down over-tangent) (taken-proper down (search (propers, signs) depth 9))
+              (mul-pos divisor-positive k)
+              (bent-half down (v₀ s) (s .left .slope) (pos (t s x)) (pos (h s)) (pos divisor) (pos w));
+        }
+
+bends-inside : {s : Segment} {x : ℕ} → Inside (Good (plain convex)) s x → Bends s x
+unfolding segment-test has-shape fits
+bends-inside {s} i =
+    elim (bend-kind (gap s) (rise s) (i .good .shaped)) [
+      | bent low high ↦ bent-bends i low high
+      | straight low high ↦ straight-bends i low high
+    ]
+
+-- ---- a concave segment is the mirror of a convex one
+
+module _ {s : Segment} (n : Neighbours s) where
+  mirrored-a : a (mirror-segment s) ≡ negℤ (a s)
+  unfolding mirror
+  mirrored-a =
+      rw (mirrored-slope n (s .right), mirrored-chord n) (ring (e₁ s ∷ g s ∷ []) (search terms depth 20 fits 9999) tt)
+
+  mirrored-b : b (mirror-segment s) ≡ negℤ (b s)
+  unfolding mirror
+  mirrored-b =
+      rw (mirrored-slope n (s .left), mirrored-chord n) (ring (e₀ s ∷ g s ∷ []) (search terms depth 20 fits 9999) tt)
+
+nonneg-of-natural : {z y : ℤ} {n : ℕ} → z ≡ pos n → z ≡ y → pos 0 ≤ℤ y
+nonneg-of-natural e f = rw (← f, e) (Z.nonneg-pos _)
+
+-- ---- either, of the figures that the code has
+
+pub record BentEnds (down : Bool) (s : Segment) : Type 0 where
+  pub ends : Neighbours s
+  pub above : Apart down (e₁ s) (g s)
+  pub below : Apart down (g s) (e₀ s)
+
+pub bent-ends : (down : Bool) {s : Segment} {x : ℕ} → Inside (Good (bent-rule down)) s x → BentEnds down s
+bent-ends true i =
+    let n = i .good .ends in
+    let f = bends-inside (mirror-inside i) in
+    record {
+      ends = n;
+      above = record { size = a-size n; order = nonneg-of-natural (f .above-is) (mirrored-a n) };
+      below = record { size = b-size n; order = nonneg-of-natural (f .below-is) (mirrored-b n) };
+    }
+bent-ends false i =
+    let n = i .good .ends in
+    let f = bends-inside i in
+    record {
+      ends = n;
+      above = record { size = a-size n; order = nonneg-of-natural (f .above-is) refl };
+      below = record { size = b-size n; order = nonneg-of-natural (f .below-is) refl };
+    }
+
+size-signed : (down : Bool) (z : ℤ) → natAbs (signed down z) ≡ natAbs z
+size-signed true z = size-neg z
+size-signed false z = refl
+
+pub bent-input : (down : Bool) {s : Segment} {x : ℕ} {y : Bent} → Inside (Good (bent-rule down)) s x → BentAt down s x y →
+    BentInput (s .left .slope) (y .t) (y .u) (y .h) (y .a) (y .b)
+bent-input down {s} {x} {y} i k =
+    let e = bent-ends down i in
+    let n = e .ends in
+    record {
+      distances = rw (k .t, k .u) (distances i n);
+      sum = rw (k .t, k .u, k .h) (h-is i);
+      steep = slope-size (n .left);
+      above = omega (arith, ap natAbs (k .a), size-signed down (a s), a-size n);
+      below = omega (arith, ap natAbs (k .b), size-signed down (b s), b-size n);
+    }
+
+-- a mirrored value, taken from 200,000
+taken-back : {l : ℕ} → l ≤ value-most → pos value-most -ℤ pos (value-most - l) ≡ pos l
+taken-back {l} most = rw (← Z.difference-of-≤ most) (ring (pos l ∷ []) (search terms depth 20 fits 9999) tt)
+
+negated-twice : (z : ℤ) → negℤ (negℤ z) ≡ z
+negated-twice z = ring (z ∷ []) (search terms depth 20 fits 9999) tt
+
+pub bent-reads : (down : Bool) {s : Segment} {x : ℕ} {y : Bent} → Inside (Good (bent-rule down)) s x → BentAt down s x y →
+    pos (s .left .value) +ℤ bent-rise down (s .left .slope) (y .t) (y .u) (y .h) (y .a) (y .b)
+    ≡ round (exact-curve (bent-rule down) s x)
+unfolding exact-curve mirror
+bent-reads true {s} {x} {y} i k =
+    let n = i .good .ends in
+    let f = bends-inside (mirror-inside i) in
+    let a-is : y .a ≡ above (mirror-segment s) = Z.pos-injective (k .a ∙ sym (mirrored-a n) ∙ f .above-is) in
+    let b-is : y .b ≡ below (mirror-segment s) = Z.pos-injective (k .b ∙ sym (mirrored-b n) ∙ f .below-is) in
+    rw (k .t, k .u, k .h, a-is, b-is)
+    (sym (rw (taken-back (n .left .value), negated-twice (s .left .slope)) at (f .reads true)))
+bent-reads false {s} {x} {y} i k =
+    let f = bends-inside i in
+    let a-is : y .a ≡ above s = Z.pos-injective (k .a ∙ f .above-is) in
+    let b-is : y .b ≡ below s = Z.pos-injective (k .b ∙ f .below-is) in
+    rw (k .t, k .u, k .h, a-is, b-is) (sym (f .reads false))
+
+-- the sum of the left value and a rise, as the code has it
+of-sum : (l r z : ℤ) → l +ℤ r ≡ z → r ≡ z -ℤ l
+of-sum l r z e = rw (← e) (ring (l ∷ r ∷ []) (search terms depth 20 fits 9999) tt)
+
+module _ (down : Bool) {s : Segment} {x : ℕ} {y : Bent} (i : Inside (Good (bent-rule down)) s x) (k : BentAt down s x y) {r : ℤ}
+    (e : r ≡ bent-rise down (s .left .slope) (y .t) (y .u) (y .h) (y .a) (y .b)) where
+  abbrev factor : ℤ
+  factor = round (exact-curve (bent-rule down) s x)
+
+  rise-read : toZ w32 (ofZ w32 r) ≡ r
+  rise-read =
+      let l = pos (s .left .value) in
+      let r-is : r ≡ factor -ℤ l = e ∙ of-sum l _ factor (bent-reads down i k) in
+      toZ-ofZ (sfits-of-size w32 r
+      (omega (arith, ap natAbs r-is, size-- factor l, factor-size i, bent-ends down i .ends .left .value)))
+
+  sum-is : toZ w32 (s .left .value) +ℤ toZ w32 (ofZ w32 r) ≡ factor
+  sum-is = ap₂ (λ l z. l +ℤ z) (value-read (bent-ends down i .ends .left)) (rise-read ∙ e) ∙ bent-reads down i k
+
+  pub sum-fits : SFits w32 (toZ w32 (s .left .value) +ℤ toZ w32 (ofZ w32 r))
+  sum-fits = rw sum-is (factor-fits i)
+
+  pub sum-read : toZ w32 (ofZ w32 (toZ w32 (s .left .value) +ℤ toZ w32 (ofZ w32 r))) ≡ factor
+  sum-read = rw sum-is (factor-read i)
