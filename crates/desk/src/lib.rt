@@ -54,7 +54,7 @@ fn copy_blocks(src: &[u8], dst: &mut [u8]) -> usize
 }
 
 // Copies all of src to the start of dst: what is left after blocks of four records by blocks of two, then the rest.
-fn copy(src: &[u8], dst: &mut [u8])
+fn copy_all(src: &[u8], dst: &mut [u8])
     requires { ⌜ length (now src) ≤ length (now dst) ⌝ }
     ensures { λ _. ⌜ now (dst .exit)
         ≡ take (length (now (src .entry))) (now (src .entry)) ++ drop (length (now (src .entry))) (now (dst .entry)) ⌝ }
@@ -66,6 +66,19 @@ fn copy(src: &[u8], dst: &mut [u8])
         at += 24;
     }
     bytes::copy(&src[at..], &mut dst[at..]);
+}
+
+// The same. Two records, the fewest of a curve, are one block.
+fn copy(src: &[u8], dst: &mut [u8])
+    requires { ⌜ length (now src) ≤ length (now dst) ⌝ }
+    ensures { λ _. ⌜ now (dst .exit)
+        ≡ take (length (now (src .entry))) (now (src .entry)) ++ drop (length (now (src .entry))) (now (dst .entry)) ⌝ }
+{
+    if src.len() == 24 {
+        copy_24(src, 0, dst);
+        return;
+    }
+    copy_all(src, dst);
 }
 
 #[no_mangle]

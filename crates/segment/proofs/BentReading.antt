@@ -79,7 +79,8 @@ straight-half false l d t = field (l ∷ d ∷ t ∷ []) (search ratios depth 20
 
 bent-half : (down : Bool) (l d t h W w : ℤ) →
     taken down (whole l +ℚ ((h *ℤ d *ℤ t) over (pos 100 *ℤ h)) +ℚ ((w *ℤ w) over (pos 100 *ℤ h *ℤ W))) +ℚ half
-    ≈ℚ ((taken-ℤ down l *ℤ pos 100 +ℤ (pos 50 +ℤ signed down d *ℤ t)) *ℤ (W *ℤ h) +ℤ signed down (w *ℤ w)) over (W *ℤ h *ℤ pos 100)
+    ≈ℚ ((taken-ℤ down l *ℤ pos 100 +ℤ (pos 50 +ℤ signed down d *ℤ t)) *ℤ (W *ℤ h) +ℤ signed down (w *ℤ w))
+    over (W *ℤ h *ℤ pos 100)
 bent-half true l d t h W w = field (l ∷ d ∷ t ∷ w ∷ h ∷ W ∷ []) (search ratios depth 20 fits 9999) tt
 bent-half false l d t h W w = field (l ∷ d ∷ t ∷ w ∷ h ∷ W ∷ []) (search ratios depth 20 fits 9999) tt
 

@@ -290,7 +290,8 @@ module _ {s : Segment} {x : ℕ} (i : Inside (Good (mirrored rising)) s x) where
       back : (l : ℤ) → whole (pos value-most) -ℚ whole (pos value-most -ℤ l) ≈ℚ whole l
       back l = field (l ∷ []) (search ratios depth 20 fits 9999) tt
 
-  pub falling-reads : pos (climbed (u s x) (t s x) (turned (s .right)) (turned (s .left))) ≡ round (exact-curve (mirrored rising) s x)
+  pub falling-reads :
+      pos (climbed (u s x) (t s x) (turned (s .right)) (turned (s .left))) ≡ round (exact-curve (mirrored rising) s x)
   unfolding mirror
   falling-reads =
       elim (true-or-false (eqb (s .left .value) (s .right .value))) [

@@ -9,7 +9,8 @@ use mathlib.Core.Bool.{Bool, true, false, _&&_, and-true, and-false}
 use mathlib.Core.List.{[], _∷_}
 use mathlib.Core.Logic.{_⊎_, inl, inr}
 use Prim.Native.Nat.{ℕ, zero, suc, _+_, _*_, _/_, _%_, _<_}
-use native.Mathlib.Nat.{mul-pos, div-one, div-add-mod', div-div-eq-div-mul, mod-lt, add-comm, mul-comm, mul-one, zero-add, zero-mul}
+use native.Mathlib.Nat.{mul-pos, div-one, div-add-mod', div-div-eq-div-mul, mod-lt}
+use native.Mathlib.Nat.{add-comm, mul-comm, mul-one, zero-add, zero-mul}
 use native.Mathlib.Omega.{arith}
 use borrow.Author.Tests.{ne-eqb, eqb-true, eqb-false}
 use lib.Arith.{mod-mul}

@@ -1,12 +1,13 @@
--- The sizes of what `part`, `rising` and `excess` compute.
+-- The sizes of what `part`, `rising`, `estimate`, `exact_rise` and `risen` compute.
 --   blend-size      a sum weighted by the distances from the two ends
 --   left-weights, right-weights   what the two calls of `part` ask
 --   whole-size, share-size, rising-size   B, A F with B / 2 for the rounding, and the factor
---   tangent-size, divisor-size, denominator-size, excess-size, raised-size   the parts of the convex curve, and their sum
+--   OneLow, least-near   a quotient by leading bits: below the exact one, and at most 1 too low; next-or-before, rounded down
+--                   with its sign
+--   divisor-size, denominator-size, excess-size, quotient-size   the parts of the convex curve
 --   w-most, w-most-size   w in the whole segment
---   OneLow, least-near   what is above the tangent, by leading bits: below the exact quotient, and at most 1 too low
---   near-hundreds, near-down   the hundreds of a sum with it
---   full-sum, full-down, full-rest   the sum by two divisions
+--   full-quotient, full-rest   the quotient by two divisions
+--   risen-input     what `risen` asks; sum-fits, rise-fits and so on, that its sums fit
 -- Assumes nothing.
 use mathlib.Core.Path.{_≡_, sym, _∙_, ap}
 use mathlib.Core.Bool.{Bool, true, false, cond}
@@ -30,7 +31,8 @@ use Rattle.exact.proofs.Tests.{compare, true-or-false}
 use Rattle.exact.proofs.Magnitude.{scaled-size, size-neg, size-+, size--, size-*, sfits-of-size}
 use Rattle.model.specs.Points.{gap-most, value-most, slope-most}
 use Rattle.shape.specs.Inner.{over-most}
-use Rattle.segment.specs.Inner.{part, Weights, whole-part, rising-reading, RisingInput, BentInput, floor-of, RisenInput, hundredths-of}
+use Rattle.segment.specs.Inner.{part, Weights, whole-part, rising-reading, RisingInput}
+use Rattle.segment.specs.Inner.{BentInput, floor-of, RisenInput, hundredths-of}
 
 blend-size : (t u : ℕ) {g e m : ℕ} → t + u ≤ gap-most → g ≤ m → e ≤ m → g * t + e * u ≤ gap-most * m
 blend-size t u {m = m} near k l =

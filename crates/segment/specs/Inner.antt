@@ -5,7 +5,8 @@
 --   rising-reading   the rounded value; climbed, the same between two points, whose values may be equal
 --   turned           a point of a curve that is read from right to left
 --   BentAt           the figures of an area of a convex or concave segment; bent-rule, the rule of the one or the other
---   above-tangent    how far the curve is above its left tangent, in hundredths, rounded down; floor-of, by quotient and remainder
+--   above-tangent    how far the curve is above its left tangent, in hundredths, rounded down; floor-of, by a quotient and a
+--                    remainder
 --   bent-rise        how far it is above its left value, rounded; hundredths-of, that before the division by 100
 --   Weights, RisingInput, Climb (Rising), Apart, BentInput, RisenInput   what `part`, `rising`, `climb`, `apart`, `estimate` and
 --                    `risen` ask

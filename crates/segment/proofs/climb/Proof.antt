@@ -55,4 +55,5 @@ returns-2 c =
 pub climb-spec : {M : Type 1} → statement M
 climb-spec =
     tie.close
-    (tie.spec (search needs) returns (λ c. facts (c .before .before) .rises) (search needs) cast-d0 cast-d1 (search needs) rising-requires returns-2)
+    (tie.spec (search needs) returns (λ c. facts (c .before .before) .rises) (search needs) cast-d0 cast-d1 (search needs)
+    rising-requires returns-2)

@@ -3,7 +3,7 @@
 use mathlib.Core.Path.{_≡_, refl, sym, _∙_, ap}
 use mathlib.Core.Bool.{Bool, true, false, not, true≢false}
 use Prim.Native.Nat.{ℕ, _+_, _*_, _/_, _%_, _^_, _<_}
-use native.Mathlib.Nat.{mul-pos, zero-mul, zero-div}
+use native.Mathlib.Nat.{mul-pos, zero-div}
 use native.Mathlib.Omega.{arith}
 use borrow.Author.Needs.{needs}
 use borrow.Author.Tests.{eq-eqb}
@@ -39,8 +39,8 @@ risen-requires c κs = rw (toZ-ofZ (c .before .fits .slope)) (risen-input (c .be
 
 nothing-above : (down : Bool) {n : ℕ} (d : ℕ) → n ≡ 0 → floorDiv (signed down (pos (n * n))) d ≡ pos 0
 unfolding floorDiv
-nothing-above true d e = rw e (simp (zero-mul, zero-div))
-nothing-above false d e = rw e (simp (zero-mul, zero-div))
+nothing-above true d e = rw e (simp zero-div)
+nothing-above false d e = rw e (simp zero-div)
 
 returns : tie.Need-returns
 returns c =
@@ -78,7 +78,8 @@ above-read c =
 risen-requires-2 : tie.Need-risen-requires-2
 risen-requires-2 c κs =
     let s = c .before .before .before in
-    rw (toZ-ofZ (s .fits .slope), above-read c) (risen-input (s .pre) (s .args .down) _ (w s * w s % denominator s) (quotient-size (s .pre)))
+    rw (toZ-ofZ (s .fits .slope), above-read c)
+    (risen-input (s .pre) (s .args .down) _ (w s * w s % denominator s) (quotient-size (s .pre)))
 
 returns-2 : tie.Need-returns-2
 returns-2 c =
@@ -131,7 +132,8 @@ sum-read c =
     toZ-ofZ (record { sfits = c .hundredths .ok })
     ∙ (rw (toZ-ofZ (c .before .before .before .before .fits .slope), next-read (c .before)) at (c .hundredths .ensures))
 
-hundreds-read : (c : tie.After-floor-div) → toZ w64 (ofZ w64 (c .floor-div .result)) ≡ floorDiv (sum (c .before .before .before)) 100
+hundreds-read : (c : tie.After-floor-div) →
+    toZ w64 (ofZ w64 (c .floor-div .result)) ≡ floorDiv (sum (c .before .before .before)) 100
 hundreds-read c = toZ-ofZ (record { sfits = c .floor-div .ok }) ∙ (rw (sum-read (c .before)) at (c .floor-div .ensures))
 
 cast-t28 : tie.Need-cast-t28
@@ -148,7 +150,8 @@ module _ (c : tie.After-floor-div) where
   sum-is : c .before .hundredths .result ≡ sum e
   sum-is = rw (toZ-ofZ (e .before .before .fits .slope), next-read (c .before .before)) at (c .before .hundredths .ensures)
 
-  not-00 : not (eqb (ofZ w64 (c .before .hundredths .result)) (ofZ w64 (pos 100 *ℤ toZ w64 (ofZ w64 (c .floor-div .result))))) ≡ true →
+  not-00 : (let k = toZ w64 (ofZ w64 (c .floor-div .result)) in
+      not (eqb (ofZ w64 (c .before .hundredths .result)) (ofZ w64 (pos 100 *ℤ k))) ≡ true) →
       sum e ≡ pos 100 *ℤ floorDiv (sum e) 100 → ⊥
   not-00 sure same =
       true≢false
@@ -164,7 +167,8 @@ returns-3 c =
     let some : 0 < denominator s = mul-pos (omega arith) (h-positive (s .pre)) in (
       λ sure.
           rw (hundreds-read c) (toZ-ofZ (rise-fits (next-input (e c))))
-          ∙ same-hundreds (pos 50 +ℤ slope *ℤ pos t) (floor-of down (least s + 1) 0) (next-or-before (near (e c)) down) (not-00 c sure)
+          ∙ same-hundreds (pos 50 +ℤ slope *ℤ pos t) (floor-of down (least s + 1) 0) (next-or-before (near (e c)) down)
+          (not-00 c sure)
           ∙ ap (λ z. floorDiv (hundredths-of slope t z) 100) (floor-of-is down (w s * w s) some),
       λ _. omega arith,
     )
@@ -176,5 +180,6 @@ estimate-spec =
     (λ c. omega (arith, divisor-size (c .before .pre))) (λ c. omega (arith, divisor-size (c .before .pre)))
     (λ c. omega (arith, w-most-size (c .before .pre))) (search needs) mul-c mul-floor-of div-floor-of mul-floor-of div-floor-of
     floor-of-requires risen-requires-2 returns-2 mul-least
-    (λ c. omega (arith, denominator-size (c .before .before .pre))) (λ c. omega (arith, denominator-size (c .before .before .pre)))
+    (λ c. omega (arith, denominator-size (c .before .before .pre)))
+    (λ c. omega (arith, denominator-size (c .before .before .pre)))
     (search needs) add-floor-of floor-of-requires-2 hundredths-requires (search needs) cast-t28 mul-t27 returns-3)

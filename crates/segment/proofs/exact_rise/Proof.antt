@@ -49,7 +49,8 @@ risen-requires c κs =
     let s = e .mul-div .result in
     let h = e .before .args .h in
     rw (toZ-ofZ (e .before .fits .slope), above-read c)
-    (risen-input k (e .before .args .down) (s .q / h) (s .r + s .q % h) (full-quotient k (e .mul-div .ensures) (some (e .before))))
+    (risen-input k (e .before .args .down) (s .q / h) (s .r + s .q % h)
+    (full-quotient k (e .mul-div .ensures) (some (e .before))))
 
 returns : tie.Need-returns
 returns c =
@@ -67,5 +68,6 @@ exact-rise-spec =
     tie.close
     (tie.spec (λ c. omega (arith, w-most (c .pre .0), w-most-size (c .pre .0))) (λ c. omega (arith, divisor-size (c .pre .0)))
     (λ c. omega (arith, divisor-size (c .pre .0))) mul-div-requires
-    (λ c. omega (arith, h-positive (c .before .before .pre .0))) (λ c. omega (arith, h-positive (c .before .before .before .pre .0)))
+    (λ c. omega (arith, h-positive (c .before .before .pre .0)))
+    (λ c. omega (arith, h-positive (c .before .before .before .pre .0)))
     add-floor-of floor-of-requires risen-requires returns)

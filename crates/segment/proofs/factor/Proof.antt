@@ -36,5 +36,6 @@ returns-4 c = rw (rule-4 (c .before)) (toZ-ofZ (record { sfits = c .concave-fact
 pub factor-spec : {M : Type 1} → statement M
 factor-spec =
     tie.close
-    (tie.spec (λ c κs. rw (rule-1 c) at (c .before .before .pre)) returns (λ c κs. rw (rule-2 c) at (c .before .before .pre)) returns-2
+    (tie.spec (λ c κs. rw (rule-1 c) at (c .before .before .pre)) returns
+    (λ c κs. rw (rule-2 c) at (c .before .before .pre)) returns-2
     (λ c κs. rw (rule-3 c) at (c .before .before .pre)) returns-3 (λ c κs. rw (rule-4 c) at (c .before .before .pre)) returns-4)

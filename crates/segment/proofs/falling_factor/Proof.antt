@@ -21,8 +21,9 @@ returns c =
     let k = c .before in
     let e = k .before .before .before .before .before in
     let s = segment-of (e .args .p) (e .args .q) in
+    let x = e .args .area in
     toZ-ofZ (record { sfits = c .climb .ok }) ∙ (rw (u-read (e .pre)) at (c .climb .ensures))
-    ∙ ap₂ (λ p q. pos (climbed (u s (e .args .area)) (t s (e .args .area)) p q)) (k .before .turned .ensures) (k .turned2 .ensures)
+    ∙ ap₂ (λ p q. pos (climbed (u s x) (t s x) p q)) (k .before .turned .ensures) (k .turned2 .ensures)
     ∙ falling-reads (e .pre)
 
 pub falling-factor-spec : {M : Type 1} → statement M
