@@ -2,18 +2,14 @@
 --   rounding-at-whole   any `Rounding` of what is the whole number k is k
 --   round-is-half-up    `round` is at most one half off, halves up, and nothing else is (`half-up-unique`)
 --   round-rounding      `round` is a `Rounding`
---   tie-of-≤, ≤-of-tie  an exact half; round-from, the rounding of what is taken from a whole number: its halves go up again
 -- Assumes nothing.
-use mathlib.Core.Path.{_≡_, refl, sym, _∙_}
-use mathlib.Core.Bool.{Bool, true, false, cond, true≢false}
-use mathlib.Core.Logic.{inl, inr}
+use mathlib.Core.Path.{_≡_, _∙_}
 use mathlib.Core.List.{[], _∷_}
-use lib.IntN.{ℤ, pos, _+ℤ_, _-ℤ_}
+use lib.IntN.{ℤ, pos, _+ℤ_}
 use lib.Signed.{_≤ℤ_}
-use Rattle.exact.specs.Fraction.{Fraction, Proper, whole, _+ℚ_, _-ℚ_, _≈ℚ_, _≤ℚ_, _<ℚ_, leℚ}
+use Rattle.exact.specs.Fraction.{Fraction, Proper, whole, _+ℚ_, _-ℚ_, _≈ℚ_}
 use Rattle.exact.specs.Rounding.{half, round}
-use Rattle.exact.specs.Inner.{Rounding, HalfUp, tie}
-use Rattle.exact.proofs.Tests.{T-true}
+use Rattle.exact.specs.Inner.{Rounding, HalfUp}
 use Rattle.exact.proofs.Order as Z
 use Rattle.exact.proofs.Field.{field, ratios, _∷ℚ_}
 use Rattle.exact.proofs.Fractions as Q
@@ -69,46 +65,3 @@ round-rounding = record {
       (Q.≤-+ px proper-half py proper-half h (Q.≤-of-≈ (Q.≈-refl half)));
   keeps-whole = λ z. half-up-unique (Q.proper-whole z) (round-is-half-up (whole z) (Q.proper-whole z)) (half-up-whole z);
 }
-
--- ---- ties
-
-pub tie-of-≤ : (x : Fraction) → x +ℚ half ≤ℚ whole (round x) → tie x ≡ true
-unfolding tie leℚ
-tie-of-≤ x h = T-true _ (h .cross .le)
-
-pub ≤-of-tie : (x : Fraction) → tie x ≡ true → x +ℚ half ≤ℚ whole (round x)
-unfolding tie
-≤-of-tie x e = Q.≤-of-leℚ (rw e tt)
-
-<-of-no-tie : (x : Fraction) → tie x ≡ false → whole (round x) <ℚ x +ℚ half
-<-of-no-tie x e =
-    elim (Q.≤-or-< (x +ℚ half) (whole (round x))) [ inl h ↦ absurd (true≢false (sym (tie-of-≤ x h) ∙ e)) | inr h ↦ h ]
-
--- what is taken from a whole number; an exact half goes up again
-module _ (z : ℤ) {x : Fraction} (px : Proper x) where
-  from-half-up : (b : Bool) → tie x ≡ b → HalfUp (whole z -ℚ x) (z -ℤ round x +ℤ cond b (pos 1) (pos 0))
-  from-half-up true e = record {
-    above = Q.<-by (search positivity) (search positivity)
-        (whole (pos 1) +ℚ (x +ℚ half -ℚ whole (round x))) (search (propers, proper-half))
-        (field (x ∷ℚ z ∷ round x ∷ []) (search ratios depth 20 fits 9999) tt)
-        (search (positivity, proper-half, round-is-half-up x px .below));
-    below = Q.≤-by (search positivity) (search positivity)
-        (whole (round x) -ℚ (x +ℚ half)) (search positivity)
-        (field (x ∷ℚ z ∷ round x ∷ []) (search ratios depth 20 fits 9999) tt)
-        (Q.nonneg-difference (≤-of-tie x e));
-  }
-  from-half-up false e = record {
-    above = Q.<-by (search positivity) (search positivity)
-        (x +ℚ half -ℚ whole (round x)) (search positivity)
-        (field (x ∷ℚ z ∷ round x ∷ []) (search ratios depth 20 fits 9999) tt)
-        (Q.positive-difference (<-of-no-tie x e));
-    below = Q.≤-by (search positivity) (search positivity)
-        (whole (round x) -ℚ (x -ℚ half)) (search positivity)
-        (field (x ∷ℚ z ∷ round x ∷ []) (search ratios depth 20 fits 9999) tt)
-        (search (positivity, Q.≤-of-<, round-is-half-up x px .above));
-  }
-
-  pub round-from : round (whole z -ℚ x) ≡ z -ℤ round x +ℤ cond (tie x) (pos 1) (pos 0)
-  round-from =
-      let p : Proper (whole z -ℚ x) = search propers in
-      half-up-unique p (round-is-half-up (whole z -ℚ x) p) (from-half-up (tie x) refl)

@@ -1,6 +1,6 @@
 -- What laws and contracts of inner functions cite. Nothing here need be believed.
 --   Rounding                what most laws ask of a rounding rule, and no more
---   HalfUp                  the rule of document 01 at one value; tie, the value is an exact half
+--   HalfUp                  the rule of document 01 at one value
 --   eqZ                     equality of integers, as a test
 --   folded                  an integer, or −1 less it where it is below 0
 --   Scaled, Divided, Step   the quotient of a product by long division: what it asks, and what holds after each digit
@@ -10,8 +10,8 @@ use mathlib.Core.Bool.{Bool, _&&_}
 use lib.IntN.{ℤ, pos, negsuc}
 use lib.Signed.{_≤ℤ_, leZ}
 use Prim.Native.Nat.{ℕ, _*_, _/_, _%_, _^_, _≤_, _<_}
-use Rattle.exact.specs.Fraction.{Fraction, Proper, whole, _+ℚ_, _-ℚ_, _≤ℚ_, _<ℚ_, leℚ}
-use Rattle.exact.specs.Rounding.{half, round}
+use Rattle.exact.specs.Fraction.{Fraction, Proper, whole, _+ℚ_, _-ℚ_, _≤ℚ_, _<ℚ_}
+use Rattle.exact.specs.Rounding.{half}
 
 pub record Rounding (rnd : Fraction → ℤ) : Type 0 where
   pub keeps-order : (x y : Fraction) → Proper x → Proper y → x ≤ℚ y → rnd x ≤ℤ rnd y
@@ -21,10 +21,6 @@ pub record Rounding (rnd : Fraction → ℤ) : Type 0 where
 pub record HalfUp (x : Fraction) (k : ℤ) : Type 0 where
   pub above : x -ℚ half <ℚ whole k
   pub below : whole k ≤ℚ x +ℚ half
-
--- x is an exact half: its rounding is one half above it
-unfoldable pub tie : Fraction → Bool
-tie x = leℚ (x +ℚ half) (whole (round x))
 
 abbrev pub eqZ : ℤ → ℤ → Bool
 eqZ a b = leZ a b && leZ b a

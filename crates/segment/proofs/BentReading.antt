@@ -5,7 +5,7 @@
 use mathlib.Core.Path.{_≡_, refl, sym, _∙_, ap, ap₂}
 use mathlib.Core.Bool.{Bool, true, false, cond}
 use mathlib.Core.List.{[], _∷_}
-use Prim.Native.Nat.{ℕ, _+_, _-_, _*_, _/_, _^_, _≤_, _<_}
+use Prim.Native.Nat.{ℕ, _+_, _-_, _*_, _≤_, _<_}
 use native.Mathlib.Nat.{mul-pos, zero-mul, zero-div}
 use native.Mathlib.Omega.{arith}
 use lib.Dec.{lit<}
@@ -23,7 +23,7 @@ use Rattle.exact.proofs.Field.{field, ratios}
 use Rattle.exact.proofs.Fractions as Q
 use Rattle.exact.proofs.Fractions.{propers, positivity}
 use Rattle.exact.proofs.Magnitude.{size-neg, size--, sfits-of-size}
-use Rattle.model.specs.Points.{value-most, gradient, Segment, convex, mirror, mirror-segment, plain, mirrored}
+use Rattle.model.specs.Points.{value-most, gradient, Segment, convex, mirror, mirror-segment, plain}
 use Rattle.model.specs.Interpolant as I
 use Rattle.model.specs.Interpolant.{interpolant, exact-curve}
 use Rattle.model.specs.Shape.{fits, has-shape, segment-test}
@@ -37,7 +37,7 @@ use Rattle.model.proofs.Segments.{segment-normal, gap-positive, distance-in}
 use Rattle.point.proofs.Figures.{slope-size, value-read}
 use Rattle.shape.proofs.Figures.{h, gap-is, a-size, b-size}
 use Rattle.shape.proofs.Tests.{mirrored-slope, mirrored-chord}
-use Rattle.segment.specs.Inner.{bent-rule, signed, Apart, BentAt, BentInput, above-tangent, hundredths-of, bent-rise}
+use Rattle.segment.specs.Inner.{bent-rule, signed, Apart, BentAt, BentInput, above-tangent, bent-rise}
 use Rattle.segment.specs.declared.Bent.{Bent}
 use Rattle.segment.proofs.Distances.{t, u, from-left, from-right, h-is, distances, factor-size, factor-fits, factor-read}
 use Rattle.segment.proofs.Rounded.{round-twice, floor-above}

@@ -4,13 +4,12 @@
 --   falling-climb, falling-reads   the same from the right end
 -- Assumes nothing.
 use mathlib.Core.Path.{_≡_, refl, sym, _∙_, ap}
-use mathlib.Core.Bool.{cond}
 use mathlib.Core.List.{[], _∷_}
-use mathlib.Core.Logic.{_⊎_, inl, inr}
-use Prim.Native.Nat.{ℕ, _+_, _-_, _*_, _/_, _^_, _≤_, _<_}
+use mathlib.Core.Logic.{inl, inr}
+use Prim.Native.Nat.{ℕ, _+_, _-_, _*_, _/_, _≤_, _<_}
 use native.Mathlib.Nat.{add-assoc, add-comm, mul-add-div-right}
 use native.Mathlib.Omega.{arith}
-use borrow.Author.Tests.{eqb-true, eqb-false, eq-eqb, ne-eqb}
+use borrow.Author.Tests.{eqb-true, eqb-false}
 use lib.Dec.{eqb, lit<}
 use lib.IntN.{ℤ, pos, natAbs, _+ℤ_, _-ℤ_, _*ℤ_}
 use lib.Signed.{_<ℤ_}
@@ -34,7 +33,7 @@ use Rattle.model.proofs.Mirror.{mirror-inside}
 use Rattle.model.proofs.Segments.{gap, rise, distance, v₀, v₁, d₀, d₁, S, e₀, e₁, g, segment-normal, distance-in}
 use Rattle.point.proofs.Figures.{slope-size}
 use Rattle.shape.proofs.Figures.{gap-is}
-use Rattle.segment.specs.Inner.{part, whole-part, RisingInput, rising-reading, Rising, Climb, climbed, turned}
+use Rattle.segment.specs.Inner.{part, rising-reading, Climb, climbed, turned}
 use Rattle.segment.proofs.Distances.{t, u, h-is, from-left, from-right, distances, factor-size}
 use Rattle.segment.proofs.Rounded.{round-twice}
 

@@ -10,12 +10,12 @@
 --   risen-input     what `risen` asks; sum-fits, rise-fits and so on, that its sums fit
 -- Assumes nothing.
 use mathlib.Core.Path.{_≡_, sym, _∙_, ap}
-use mathlib.Core.Bool.{Bool, true, false, cond}
+use mathlib.Core.Bool.{Bool, true, false}
 use mathlib.Core.List.{[], _∷_}
 use mathlib.Core.Logic.{_⊎_, inl, inr}
 use Prim.Native.Nat.{ℕ, zero, suc, _+_, _-_, _*_, _/_, _%_, _^_, _≤_, _<_}
 use native.Mathlib.Nat.{mul-le-mul, mul-le-mul-left, mul-le-mul-right, le-mul-of-pos-right, div-le-self, add-div-right}
-use native.Mathlib.Nat.{mod-lt, div-div-eq-div-mul, div-add-mod', div-mul-le-self, le-trans, mul-pos, sub-zero}
+use native.Mathlib.Nat.{mod-lt, div-div-eq-div-mul, div-add-mod', div-mul-le-self, le-trans, mul-pos}
 use native.Mathlib.Omega.{arith}
 use borrow.Author.Tests.{eqb-true}
 use lib.Dec.{eqb}

@@ -1,6 +1,6 @@
 -- `segment::estimate` meets its contract.
 -- Assumes nothing.
-use mathlib.Core.Path.{_≡_, refl, sym, _∙_, ap}
+use mathlib.Core.Path.{_≡_, sym, _∙_, ap}
 use mathlib.Core.Bool.{Bool, true, false, not, true≢false}
 use Prim.Native.Nat.{ℕ, _+_, _*_, _/_, _%_, _^_, _<_}
 use native.Mathlib.Nat.{mul-pos, zero-div}
@@ -9,7 +9,7 @@ use borrow.Author.Needs.{needs}
 use borrow.Author.Tests.{eq-eqb}
 use lib.Dec.{eqb}
 use lib.IntN.{ℤ, pos, _+ℤ_, _*ℤ_}
-use mir.Syntax.{w32, w64}
+use mir.Syntax.{w64}
 use mir.Val.{toZ, ofZ}
 use mir.Facts.{toZ-ofZ}
 use Rattle.exact.specs.Rounding.{floorDiv}

@@ -7,7 +7,7 @@ use mir.Val.{toZ, ofZ}
 use mir.Facts.{toZ-ofZ}
 use Rattle.exact.specs.Rounding.{floorDiv}
 use Rattle.segment.specs.Inner.{hundredths-of}
-use Rattle.segment.proofs.Sizes.{sum-fits, rise-fits}
+use Rattle.segment.proofs.Sizes.{rise-fits}
 use Rattle.segment.proofs.risen.Statement.{statement}
 use Rattle.segment.proofs.risen.Tie as tie
 
