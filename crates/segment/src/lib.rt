@@ -2,7 +2,7 @@
 ghost use mathlib.Core.Path.{_≡_};
 ghost use mathlib.Core.Bool.{true, false};
 ghost use lib.IntN.{pos, _-ℤ_};
-ghost use Prim.Native.Nat.{_*_, _<_, _^_};
+ghost use Prim.Native.Nat.{_+_, _*_, _<_, _^_};
 ghost use Rattle.segment.specs.Inner as inner;
 ghost use Rattle.segment.specs.Inner.{Weights, RisingInput, rising-reading, Climb, climbed};
 ghost use Rattle.segment.specs.Inner.{signed, Apart, BentAt, BentInput, bent-rise, floor-of, RisenInput, hundredths-of};
@@ -193,12 +193,13 @@ fn estimate(down: bool, slope: i32, t: u64, u: u64, h: u64, a: u64, b: u64) -> E
 }
 
 // The same where w is not 0, by three divisions.
-fn exact_rise(down: bool, slope: i32, t: u64, u: u64, h: u64, a: u64, b: u64) -> i32
-    requires { ⌜ BentInput slope t u h a b × (0 < b * t) ⌝ }
-    ensures { λ r. ⌜ r ≡ bent-rise down slope t u h a b ⌝ }
+fn exact_rise(down: bool, slope: i32, t: u64, u: u64, a: u64, b: u64) -> i32
+    requires { ⌜ BentInput slope t u (t + u) a b × (0 < b * t) ⌝ }
+    ensures { λ r. ⌜ r ≡ bent-rise down slope t u (t + u) a b ⌝ }
 {
     let w = b * t;
     let s = exact::mul_div(w, w, a * u + w);
+    let h = t + u;
     risen(slope, t, floor_of(down, s.q / h, s.r + s.q % h))
 }
 
@@ -214,7 +215,7 @@ fn convex_factor(p: Point, q: Point, area: u32) -> i32
     if e.sure {
         return left + e.rise;
     }
-    left + exact_rise(false, p.slope, x.t, x.u, x.h, x.a, x.b)
+    left + exact_rise(false, p.slope, x.t, x.u, x.a, x.b)
 }
 
 fn concave_factor(p: Point, q: Point, area: u32) -> i32
@@ -227,7 +228,7 @@ fn concave_factor(p: Point, q: Point, area: u32) -> i32
     if e.sure {
         return left + e.rise;
     }
-    left + exact_rise(true, p.slope, x.t, x.u, x.h, x.a, x.b)
+    left + exact_rise(true, p.slope, x.t, x.u, x.a, x.b)
 }
 
 // The factor at an area of a segment that has its shape.

@@ -36,22 +36,23 @@ returns c =
 exact-rise-requires : tie.Need-exact-rise-requires
 exact-rise-requires c κs =
     let e = c .before .before in
-    let i = at-bent e .before .pre in (
-      rw (slope-read (i .good .ends .left)) (bent-input false i (at-bent e .bent-at .ensures)),
-      e .estimate .ensures .1 (c .before .if1 .left),
-    )
+    let i = at-bent e .before .pre in
+    let k = bent-input false i (at-bent e .bent-at .ensures) in
+    (rw (slope-read (i .good .ends .left), ← k .sum) k, e .estimate .ensures .1 (c .before .if1 .left))
 
 add-result-2 : tie.Need-add-result-2
 add-result-2 c =
     let b = at-bent (c .before .before .before) in
     let i = b .before .pre in
-    sum-fits false i (b .bent-at .ensures) (rw (slope-read (i .good .ends .left)) at (c .exact-rise .ensures))
+    let h-is = bent-input false i (b .bent-at .ensures) .sum in
+    sum-fits false i (b .bent-at .ensures) (rw (slope-read (i .good .ends .left), ← h-is) at (c .exact-rise .ensures))
 
 returns-2 : tie.Need-returns-2
 returns-2 c =
     let b = at-bent (c .before .before .before) in
     let i = b .before .pre in
-    sum-read false i (b .bent-at .ensures) (rw (slope-read (i .good .ends .left)) at (c .exact-rise .ensures))
+    let h-is = bent-input false i (b .bent-at .ensures) .sum in
+    sum-read false i (b .bent-at .ensures) (rw (slope-read (i .good .ends .left), ← h-is) at (c .exact-rise .ensures))
 
 pub convex-factor-spec : {M : Type 1} → statement M
 convex-factor-spec =

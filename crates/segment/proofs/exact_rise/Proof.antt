@@ -4,6 +4,7 @@ use mathlib.Core.Path.{_≡_, _∙_, ap}
 use Prim.Native.Nat.{_+_, _*_, _/_, _%_, _<_}
 use native.Mathlib.Nat.{mul-pos}
 use native.Mathlib.Omega.{arith}
+use borrow.Author.Needs.{needs}
 use mir.Syntax.{w64}
 use mir.Val.{toZ, ofZ}
 use mir.Facts.{toZ-ofZ}
@@ -37,7 +38,7 @@ floor-of-requires c κs =
 -- what is above the tangent, as the code has it
 above-read : (c : tie.After-floor-of) → (let e = c .before .before .before .before in
     let s = e .mul-div .result in
-    let h = e .before .args .h in
+    let h = e .before .args .t + e .before .args .u in
     toZ w64 (ofZ w64 (c .floor-of .result)) ≡ floor-of (e .before .args .down) (s .q / h) (s .r + s .q % h))
 above-read c = toZ-ofZ (record { sfits = c .floor-of .ok }) ∙ c .floor-of .ensures
 
@@ -46,7 +47,7 @@ risen-requires c κs =
     let e = c .before .before .before .before in
     let k = e .before .pre .0 in
     let s = e .mul-div .result in
-    let h = e .before .args .h in
+    let h = e .before .args .t + e .before .args .u in
     rw (toZ-ofZ (e .before .fits .slope), above-read c)
     (risen-input k (e .before .args .down) (s .q / h) (s .r + s .q % h)
     (full-quotient k (e .mul-div .ensures) (some (e .before))))
@@ -66,7 +67,7 @@ pub exact-rise-spec : {M : Type 1} → statement M
 exact-rise-spec =
     tie.close
     (tie.spec (λ c. omega (arith, w-most (c .pre .0), w-most-size (c .pre .0))) (λ c. omega (arith, divisor-size (c .pre .0)))
-    (λ c. omega (arith, divisor-size (c .pre .0))) mul-div-requires
+    (λ c. omega (arith, divisor-size (c .pre .0))) mul-div-requires (search needs)
     (λ c. omega (arith, h-positive (c .before .before .pre .0)))
     (λ c. omega (arith, h-positive (c .before .before .before .pre .0)))
     add-floor-of floor-of-requires risen-requires returns)
