@@ -262,10 +262,20 @@ module _ {slope : ℤ} {t : ℕ} {above : ℤ} (k : RisenInput slope t above) wh
   pub rise-fits : SFits w32 (floorDiv (hundredths-of slope t above) 100)
   rise-fits = sfits-of-size w32 (floorDiv (hundredths-of slope t above) 100) (omega (arith, rise-size))
 
-  pub hundreds-fits : SFits w64 (pos 100 *ℤ floorDiv (hundredths-of slope t above) 100)
-  hundreds-fits =
-      let q = floorDiv (hundredths-of slope t above) 100 in
-      sfits-of-size w64 (pos 100 *ℤ q) (omega (arith, size-* (pos 100) q, rise-size))
+  -- the hundreds, and the last two digits
+  abbrev hundreds : ℤ
+  hundreds = pos 100 *ℤ floorDiv (hundredths-of slope t above) 100
+
+  hundreds-size : natAbs hundreds ≤ 100 * (2 ^ 31 - 1)
+  hundreds-size = omega (arith, size-* (pos 100) (floorDiv (hundredths-of slope t above) 100), rise-size)
+
+  pub hundreds-fits : SFits w64 hundreds
+  hundreds-fits = sfits-of-size w64 hundreds (omega (arith, hundreds-size))
+
+  pub digits-fits : SFits w64 (hundredths-of slope t above -ℤ hundreds)
+  digits-fits =
+      let z : ℤ = hundredths-of slope t above in
+      sfits-of-size w64 (z -ℤ hundreds) (omega (arith, size-- z hundreds, sum-size, hundreds-size))
 
   pub distance-read : toZ w64 t ≡ pos t
   distance-read = toZ-pos w64 (omega (arith, k .near))

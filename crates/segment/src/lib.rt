@@ -188,7 +188,7 @@ fn estimate(down: bool, slope: i32, t: u64, u: u64, h: u64, a: u64, b: u64) -> E
     let k = exact::floor_div(n, 100);
     Estimated {
         rise: k as i32,
-        sure: n != 100 * k,
+        sure: n - 100 * k != 0,
     }
 }
 

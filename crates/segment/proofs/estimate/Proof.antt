@@ -8,7 +8,7 @@ use native.Mathlib.Omega.{arith}
 use borrow.Author.Needs.{needs}
 use borrow.Author.Tests.{eq-eqb}
 use lib.Dec.{eqb}
-use lib.IntN.{ℤ, pos, _+ℤ_, _*ℤ_}
+use lib.IntN.{ℤ, pos, _+ℤ_, _-ℤ_, _*ℤ_, +ℤ-invr}
 use mir.Syntax.{w64}
 use mir.Val.{toZ, ofZ}
 use mir.Facts.{toZ-ofZ}
@@ -17,7 +17,8 @@ use Rattle.exact.proofs.Magnitude.{product-size}
 use Rattle.segment.specs.Inner.{signed, floor-of, hundredths-of, RisenInput}
 use Rattle.segment.proofs.Rounded.{floor-of-is, same-hundreds}
 use Rattle.segment.proofs.Sizes.{OneLow, h-positive, divisor-size, denominator-size, w-most, w-most-size, excess-size}
-use Rattle.segment.proofs.Sizes.{quotient-size, risen-input, least-near, next-or-before, rise-fits, hundreds-fits}
+use Rattle.segment.proofs.Sizes.{quotient-size, risen-input, least-near, next-or-before}
+use Rattle.segment.proofs.Sizes.{rise-fits, hundreds-fits, digits-fits}
 use Rattle.segment.proofs.estimate.Statement.{statement}
 use Rattle.segment.proofs.estimate.Tie as tie
 
@@ -142,21 +143,28 @@ cast-t28 c = rw (hundreds-read c) (rise-fits (next-input (c .before .before .bef
 mul-t27 : tie.Need-mul-t27
 mul-t27 c = rw (hundreds-read c) (hundreds-fits (next-input (c .before .before .before)))
 
+hundreds-is : (c : tie.After-floor-div) →
+    toZ w64 (ofZ w64 (pos 100 *ℤ toZ w64 (ofZ w64 (c .floor-div .result))))
+    ≡ pos 100 *ℤ floorDiv (sum (c .before .before .before)) 100
+hundreds-is c = rw (hundreds-read c) (toZ-ofZ (hundreds-fits (next-input (c .before .before .before))))
+
+sub-t29 : tie.Need-sub-t29
+sub-t29 c = rw (sum-read (c .before), hundreds-is c) (digits-fits (next-input (c .before .before .before)))
+
 -- the sum does not end in 00
 module _ (c : tie.After-floor-div) where
   abbrev e : tie.Else2
   e = c .before .before .before
 
-  sum-is : c .before .hundredths .result ≡ sum e
-  sum-is = rw (toZ-ofZ (e .before .before .fits .slope), next-read (c .before .before)) at (c .before .hundredths .ensures)
+  abbrev digits : ℤ
+  digits =
+      toZ w64 (ofZ w64 (c .before .hundredths .result))
+      -ℤ toZ w64 (ofZ w64 (pos 100 *ℤ toZ w64 (ofZ w64 (c .floor-div .result))))
 
-  not-00 : (let k = toZ w64 (ofZ w64 (c .floor-div .result)) in
-      not (eqb (ofZ w64 (c .before .hundredths .result)) (ofZ w64 (pos 100 *ℤ k))) ≡ true) →
-      sum e ≡ pos 100 *ℤ floorDiv (sum e) 100 → ⊥
+  not-00 : not (eqb (ofZ w64 digits) 0) ≡ true → sum e ≡ pos 100 *ℤ floorDiv (sum e) 100 → ⊥
   not-00 sure same =
-      true≢false
-      (sym sure
-      ∙ ap not (eq-eqb _ _ (ap (λ z. ofZ w64 z) (sum-is ∙ same ∙ ap (λ z. pos 100 *ℤ z) (sym (hundreds-read c))))))
+      let none : digits ≡ pos 0 = rw (sum-read (c .before), hundreds-is c, ← same) (+ℤ-invr (sum e)) in
+      true≢false (sym sure ∙ ap not (eq-eqb _ 0 (ap (λ z. ofZ w64 z) none)))
 
 returns-3 : tie.Need-returns-3
 returns-3 c =
@@ -182,4 +190,4 @@ estimate-spec =
     floor-of-requires risen-requires-2 returns-2 mul-least
     (λ c. omega (arith, denominator-size (c .before .before .pre)))
     (λ c. omega (arith, denominator-size (c .before .before .pre)))
-    (search needs) add-floor-of floor-of-requires-2 hundredths-requires (search needs) cast-t28 mul-t27 returns-3)
+    (search needs) add-floor-of floor-of-requires-2 hundredths-requires (search needs) cast-t28 mul-t27 sub-t29 returns-3)
