@@ -76,7 +76,7 @@ negated : (c q r : ℕ) (e : ℤ) →
     0 < c →
     pos 0 ≤ℤ (e *ℤ pos c -ℤ pos r) →
     pos 0 <ℤ (pos c -ℤ e *ℤ pos c +ℤ pos r) →
-    floorDiv (negℤ (pos (q * c + r))) c ≡ negℤ (pos q) -ℤ e
+    floorDiv (negℤ (pos (q * c + r))) c ≡ negℤ (pos q +ℤ e)
 negated c q r e h low high =
     floorDiv-unique h (record {
       low = Z.≤-by _ (ring (pos c ∷ pos q ∷ pos r ∷ e ∷ []) (search terms depth 20 fits 9999) tt) low;

@@ -19,7 +19,7 @@ use native.Mathlib.Nat.{mod-lt, div-div-eq-div-mul, div-add-mod', div-mul-le-sel
 use native.Mathlib.Omega.{arith}
 use borrow.Author.Tests.{eqb-true}
 use lib.Dec.{eqb}
-use lib.IntN.{ℤ, pos, negsuc, negℤ, natAbs, _+ℤ_, _-ℤ_, _*ℤ_}
+use lib.IntN.{ℤ, pos, negsuc, natAbs, _+ℤ_, _-ℤ_, _*ℤ_}
 use mir.Syntax.{w32, w64}
 use mir.Val.{SFits, toZ}
 use mir.Facts.{toZ-pos}
@@ -157,8 +157,8 @@ module _ {n c least : ℕ} (k : OneLow n c least) where
 floor-of-size : (down : Bool) (q r : ℕ) → natAbs (floor-of down q r) ≤ q + 1
 floor-of-size true q r =
     elim (true-or-false (eqb r 0)) [
-      | inl e ↦ rw e (omega (arith, size-- (negℤ (pos q)) (pos 0), size-neg (pos q)))
-      | inr e ↦ rw e (omega (arith, size-- (negℤ (pos q)) (pos 1), size-neg (pos q)))
+      | inl e ↦ rw e (omega (arith, size-neg (pos (q + 0))))
+      | inr e ↦ rw e (omega (arith, size-neg (pos (q + 1))))
     ]
 floor-of-size false q r = omega arith
 

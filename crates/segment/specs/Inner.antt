@@ -5,8 +5,8 @@
 --   rising-reading   the rounded value; climbed, the same between two points, whose values may be equal
 --   turned           a point of a curve that is read from right to left
 --   BentAt           the figures of an area of a convex or concave segment; bent-rule, the rule of the one or the other
---   above-tangent    how far the curve is above its left tangent, in hundredths, rounded down; floor-of, by a quotient and a
---                    remainder
+--   above-tangent    how far the curve is above its left tangent, in hundredths, rounded down; ceil-of and floor-of, by a
+--                    quotient and a remainder
 --   bent-rise        how far it is above its left value, rounded; hundredths-of, that before the division by 100
 --   Weights, RisingInput, Climb (Rising), Apart, BentInput, RisenInput   what `part`, `rising`, `climb`, `apart`, `estimate` and
 --                    `risen` ask
@@ -100,9 +100,12 @@ pub record BentAt (down : Bool) (s : Segment) (x : ℕ) (y : Bent) : Type 0 wher
       signed down (pos 100 *ℤ (pos (s .right .value) -ℤ pos (s .left .value))
       -ℤ (pos (s .right .area) -ℤ pos (s .left .area)) *ℤ s .left .slope)
 
--- n / d with quotient q and remainder r, or that with its sign changed, rounded down
+-- n / d with quotient q and remainder r, rounded up; rounded down, or with its sign changed and rounded down
+abbrev pub ceil-of : (q r : ℕ) → ℕ
+ceil-of q r = q + cond (eqb r 0) 0 1
+
 abbrev pub floor-of : Bool → (q r : ℕ) → ℤ
-floor-of down q r = cond down (negℤ (pos q) -ℤ cond (eqb r 0) (pos 0) (pos 1)) (pos q)
+floor-of down q r = cond down (negℤ (pos (ceil-of q r))) (pos q)
 
 -- w² / (W h), where w = b t and W = a u + b t
 abbrev pub above-tangent : Bool → (t u h a b : ℕ) → ℤ

@@ -120,19 +120,26 @@ fn bent_at(down: bool, p: Point, q: Point, area: u32) -> Bent
     }
 }
 
-// The quotient q with the remainder r, or that with its sign changed, rounded down.
+// A quotient q with the remainder r, rounded up.
+fn ceil_of(q: u64, r: u64) -> u64
+    requires { ⌜ q < 2 ^ 38 ⌝ }
+    ensures { λ n. ⌜ n ≡ inner.ceil-of q r ⌝ }
+{
+    if r == 0 {
+        return q;
+    }
+    q + 1
+}
+
+// The same rounded down, or with its sign changed and rounded down.
 fn floor_of(down: bool, q: u64, r: u64) -> i64
     requires { ⌜ q < 2 ^ 38 ⌝ }
     ensures { λ k. ⌜ k ≡ floor-of down q r ⌝ }
 {
-    let n = q as i64;
     if down {
-        if r == 0 {
-            return -n;
-        }
-        return -1 - n;
+        return -(ceil_of(q, r) as i64);
     }
-    n
+    q as i64
 }
 
 // The left tangent above the left value in hundredths, one half for the rounding, and what is above the tangent.

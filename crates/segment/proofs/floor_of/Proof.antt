@@ -1,54 +1,52 @@
 -- `segment::floor_of` meets its contract.
 -- Assumes nothing.
 use mathlib.Core.Path.{_≡_}
-use mathlib.Core.List.{[], _∷_}
-use Prim.Native.Nat.{ℕ, _^_, _<_}
+use Prim.Native.Nat.{ℕ, _+_, _^_, _≤_, _<_}
+use mathlib.Core.Logic.{inl, inr}
 use native.Mathlib.Omega.{arith}
 use borrow.Author.Needs.{needs}
-use borrow.Author.Tests.{eq-eqb, ne-eqb}
-use lib.IntN.{pos, negsuc, negℤ, _-ℤ_}
+use lib.Dec.{eqb}
+use lib.IntN.{pos, negℤ, _-ℤ_, +ℤ-idl}
 use mir.Syntax.{w64}
 use mir.Val.{SFits, toZ}
 use mir.Facts.{toZ-ofZ, toZ-pos}
-use Rattle.exact.proofs.Ring.{ring, terms}
-use Rattle.exact.proofs.Magnitude.{size--, sfits-of-size}
+use Rattle.exact.proofs.Magnitude.{size-neg, sfits-of-size}
+use Rattle.exact.proofs.Tests.{true-or-false}
+use Rattle.segment.specs.Inner.{ceil-of}
 use Rattle.segment.proofs.floor_of.Statement.{statement}
 use Rattle.segment.proofs.floor_of.Tie as tie
 
-module _ {n : ℕ} (h : n < 2 ^ 38) where
-  quotient-read : toZ w64 n ≡ pos n
-  quotient-read = toZ-pos w64 (omega arith)
+module _ {q : ℕ} (r : ℕ) (h : q < 2 ^ 38) where
+  ceil-size : ceil-of q r ≤ 2 ^ 38
+  ceil-size = elim (true-or-false (eqb r 0)) [ inl e ↦ rw e (omega arith) | inr e ↦ rw e (omega arith) ]
 
-  negated-fits : SFits w64 (pos 0 -ℤ pos n)
-  negated-fits = sfits-of-size w64 (pos 0 -ℤ pos n) (omega (arith, size-- (pos 0) (pos n)))
+  ceil-read : toZ w64 (ceil-of q r) ≡ pos (ceil-of q r)
+  ceil-read = toZ-pos w64 (omega (arith, ceil-size))
 
-  before-fits : SFits w64 (negsuc 0 -ℤ pos n)
-  before-fits = sfits-of-size w64 (negsuc 0 -ℤ pos n) (omega (arith, size-- (negsuc 0) (pos n)))
+  negated-is : pos 0 -ℤ toZ w64 (ceil-of q r) ≡ negℤ (pos (ceil-of q r))
+  negated-is = rw ceil-read (+ℤ-idl _)
 
-  negated-is : pos 0 -ℤ pos n ≡ negℤ (pos n) -ℤ pos 0
-  negated-is = ring (pos n ∷ []) (search terms depth 20 fits 9999) tt
+  negated-fits : SFits w64 (negℤ (pos (ceil-of q r)))
+  negated-fits = sfits-of-size w64 (negℤ (pos (ceil-of q r))) (omega (arith, size-neg (pos (ceil-of q r)), ceil-size))
 
-  before-is : negsuc 0 -ℤ pos n ≡ negℤ (pos n) -ℤ pos 1
-  before-is = ring (pos n ∷ []) (search terms depth 20 fits 9999) tt
+cast-result : tie.Need-cast-result
+cast-result c =
+    let s = c .before .before in
+    rw (c .ceil-of .ensures) (sfits-of-size w64 _ (omega (arith, ceil-size (s .args .r) (s .pre))))
 
 sub-result : tie.Need-sub-result
-sub-result c = let h = c .before .before .pre in rw (quotient-read h) (negated-fits h)
+sub-result c =
+    let s = c .before .before in
+    rw (c .ceil-of .ensures, negated-is (s .args .r) (s .pre)) (negated-fits (s .args .r) (s .pre))
 
 returns : tie.Need-returns
 returns c =
-    let h = c .before .before .pre in
-    rw (quotient-read h, toZ-ofZ (negated-fits h), c .before .if1 .taken, eq-eqb _ 0 (c .if2 .taken)) (negated-is h)
-
-sub-result-2 : tie.Need-sub-result-2
-sub-result-2 c = let h = c .before .before .pre in rw (quotient-read h) (before-fits h)
+    let s = c .before .before in
+    rw (c .ceil-of .ensures, negated-is (s .args .r) (s .pre), c .before .if1 .taken)
+    (toZ-ofZ (negated-fits (s .args .r) (s .pre)))
 
 returns-2 : tie.Need-returns-2
-returns-2 c =
-    let h = c .before .before .pre in
-    rw (quotient-read h, toZ-ofZ (before-fits h), c .before .if1 .taken, ne-eqb _ 0 (c .if2 .left)) (before-is h)
-
-returns-3 : tie.Need-returns-3
-returns-3 c = rw (c .if1 .left) (quotient-read (c .before .pre))
+returns-2 c = rw (c .if1 .left) (toZ-pos w64 (let h = c .before .pre in omega arith))
 
 pub floor-of-spec : {M : Type 1} → statement M
-floor-of-spec = tie.close (tie.spec (search needs) sub-result returns sub-result-2 returns-2 returns-3)
+floor-of-spec = tie.close (tie.spec (λ c κs. c .before .pre) cast-result sub-result returns (search needs) returns-2)
