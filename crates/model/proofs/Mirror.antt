@@ -2,6 +2,7 @@
 --   mirror-limits, mirror-neighbours, mirror-good   mirrored points keep their limits; mirrored, a segment of a mirrored rule has
 --                                                   the rule's shape (mirror-inside)
 --   curve-proper                     the exact value of a rule has a denominator above 0
+--   taken-back                       the value of a mirrored point, taken from 200,000, is the point's
 --   curve-left, curve-right          it is the point's value at both ends
 -- Assumes nothing.
 use mathlib.Core.Path.{sym}
@@ -55,7 +56,7 @@ curve-proper {rule = plain shape} i = interpolant-proper i
 curve-proper {rule = mirrored shape} i = let p = interpolant-proper (mirror-inside i) in search propers
 
 -- the value of a mirrored point, taken from 200,000
-taken-back : {p : Point} {v : Fraction} → Limits p → Closed v (whole (pos (mirror p .value))) →
+pub taken-back : {p : Point} {v : Fraction} → Limits p → Closed v (whole (pos (mirror p .value))) →
     Closed (whole (pos value-most) -ℚ v) (whole (pos (p .value)))
 unfolding mirror
 taken-back {p} {v} l c =

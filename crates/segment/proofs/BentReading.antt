@@ -1,6 +1,7 @@
 -- The reading of a convex and of a concave segment, in the natural numbers that the code computes with.
 --   BentEnds, bent-ends   the order of the end slopes and the chord; bent-input, what `estimate` asks
 --   bent-reads            the left value and `bent-rise` are the rounded value; sum-fits, sum-read, as the code adds them
+--   input-read, input-summed, summed   with the slope as the code has it, and h as t + u
 -- Assumes nothing.
 use mathlib.Core.Path.{_≡_, refl, sym, _∙_, ap, ap₂}
 use mathlib.Core.Bool.{Bool, true, false, cond}
@@ -34,12 +35,13 @@ use Rattle.model.proofs.Curves.{bent, straight, bend-kind}
 use Rattle.model.proofs.Mirror.{mirror-inside}
 use Rattle.model.proofs.Segments.{gap, rise, distance, v₀, v₁, d₀, d₁, S, g, e₀, e₁, a, b}
 use Rattle.model.proofs.Segments.{segment-normal, gap-positive, distance-in}
-use Rattle.point.proofs.Figures.{slope-size, value-read}
+use Rattle.point.proofs.Figures.{slope-size, slope-read, value-read}
 use Rattle.shape.proofs.Figures.{h, gap-is, a-size, b-size}
 use Rattle.shape.proofs.Tests.{mirrored-slope, mirrored-chord}
 use Rattle.segment.specs.Inner.{bent-rule, signed, Apart, BentAt, BentInput, above-tangent, bent-rise}
 use Rattle.segment.specs.declared.Bent.{Bent}
-use Rattle.segment.proofs.Distances.{t, u, from-left, from-right, h-is, distances, factor-size, factor-fits, factor-read}
+use Rattle.segment.proofs.Distances.{t, u, from-left, from-right, h-is, distances, mirror-back}
+use Rattle.segment.proofs.Distances.{factor-size, factor-fits, factor-read}
 use Rattle.segment.proofs.Rounded.{round-twice, floor-above}
 
 -- ---- a value, or 200,000 less it
@@ -261,10 +263,6 @@ bent-input down {s} {x} {y} i k =
       below = omega (arith, ap natAbs (k .b), size-signed down (b s), b-size n);
     }
 
--- a mirrored value, taken from 200,000
-taken-back : {l : ℕ} → l ≤ value-most → pos value-most -ℤ pos (value-most - l) ≡ pos l
-taken-back {l} most = rw (← Z.difference-of-≤ most) (ring (pos l ∷ []) (search terms depth 20 fits 9999) tt)
-
 negated-twice : (z : ℤ) → negℤ (negℤ z) ≡ z
 negated-twice z = ring (z ∷ []) (search terms depth 20 fits 9999) tt
 
@@ -278,34 +276,57 @@ bent-reads true {s} {x} {y} i k =
     let a-is : y .a ≡ above (mirror-segment s) = Z.pos-injective (k .a ∙ sym (mirrored-a n) ∙ f .above-is) in
     let b-is : y .b ≡ below (mirror-segment s) = Z.pos-injective (k .b ∙ sym (mirrored-b n) ∙ f .below-is) in
     rw (k .t, k .u, k .h, a-is, b-is)
-    (sym (rw (taken-back (n .left .value), negated-twice (s .left .slope)) at (f .reads true)))
+    (sym (rw (mirror-back (n .left .value), negated-twice (s .left .slope)) at (f .reads true)))
 bent-reads false {s} {x} {y} i k =
     let f = bends-inside i in
     let a-is : y .a ≡ above s = Z.pos-injective (k .a ∙ f .above-is) in
     let b-is : y .b ≡ below s = Z.pos-injective (k .b ∙ f .below-is) in
     rw (k .t, k .u, k .h, a-is, b-is) (sym (f .reads false))
 
--- the sum of the left value and a rise, as the code has it
 of-sum : (l r z : ℤ) → l +ℤ r ≡ z → r ≡ z -ℤ l
 of-sum l r z e = rw (← e) (ring (l ∷ r ∷ []) (search terms depth 20 fits 9999) tt)
 
-module _ (down : Bool) {s : Segment} {x : ℕ} {y : Bent} (i : Inside (Good (bent-rule down)) s x) (k : BentAt down s x y) {r : ℤ}
-    (e : r ≡ bent-rise down (s .left .slope) (y .t) (y .u) (y .h) (y .a) (y .b)) where
+-- the left slope, and the sum of the left value and a rise, as the code has them
+module _ (down : Bool) {s : Segment} {x : ℕ} {y : Bent} (i : Inside (Good (bent-rule down)) s x) (k : BentAt down s x y) where
+  abbrev slope : ℤ
+  slope = toZ w32 (ofZ w32 (s .left .slope))
+
   abbrev factor : ℤ
   factor = round (exact-curve (bent-rule down) s x)
 
-  rise-read : toZ w32 (ofZ w32 r) ≡ r
-  rise-read =
-      let l = pos (s .left .value) in
-      let r-is : r ≡ factor -ℤ l = e ∙ of-sum l _ factor (bent-reads down i k) in
-      toZ-ofZ (sfits-of-size w32 r
-      (omega (arith, ap natAbs r-is, size-- factor l, factor-size i, bent-ends down i .ends .left .value)))
+  slope-is : slope ≡ s .left .slope
+  slope-is = slope-read (bent-ends down i .ends .left)
 
-  sum-is : toZ w32 (s .left .value) +ℤ toZ w32 (ofZ w32 r) ≡ factor
-  sum-is = ap₂ (λ l z. l +ℤ z) (value-read (bent-ends down i .ends .left)) (rise-read ∙ e) ∙ bent-reads down i k
+  h-sum : y .h ≡ y .t + y .u
+  h-sum = bent-input down i k .sum
 
-  pub sum-fits : SFits w32 (toZ w32 (s .left .value) +ℤ toZ w32 (ofZ w32 r))
-  sum-fits = rw sum-is (factor-fits i)
+  pub input-read : BentInput slope (y .t) (y .u) (y .h) (y .a) (y .b)
+  input-read = rw slope-is (bent-input down i k)
 
-  pub sum-read : toZ w32 (ofZ w32 (toZ w32 (s .left .value) +ℤ toZ w32 (ofZ w32 r))) ≡ factor
-  sum-read = rw sum-is (factor-read i)
+  pub input-summed : BentInput slope (y .t) (y .u) (y .t + y .u) (y .a) (y .b)
+  input-summed = rw (← h-sum) input-read
+
+  module _ {r : ℤ} (e : r ≡ bent-rise down slope (y .t) (y .u) (y .h) (y .a) (y .b)) where
+    rise-is : r ≡ bent-rise down (s .left .slope) (y .t) (y .u) (y .h) (y .a) (y .b)
+    rise-is = e ∙ rw slope-is
+
+    rise-read : toZ w32 (ofZ w32 r) ≡ r
+    rise-read =
+        let l = pos (s .left .value) in
+        let r-is : r ≡ factor -ℤ l = rise-is ∙ of-sum l _ factor (bent-reads down i k) in
+        toZ-ofZ (sfits-of-size w32 r
+        (omega (arith, ap natAbs r-is, size-- factor l, factor-size i, bent-ends down i .ends .left .value)))
+
+    sum-is : toZ w32 (s .left .value) +ℤ toZ w32 (ofZ w32 r) ≡ factor
+    sum-is = ap₂ (λ l z. l +ℤ z) (value-read (bent-ends down i .ends .left)) (rise-read ∙ rise-is) ∙ bent-reads down i k
+
+    pub sum-fits : SFits w32 (toZ w32 (s .left .value) +ℤ toZ w32 (ofZ w32 r))
+    sum-fits = rw sum-is (factor-fits i)
+
+    pub sum-read : toZ w32 (ofZ w32 (toZ w32 (s .left .value) +ℤ toZ w32 (ofZ w32 r))) ≡ factor
+    sum-read = rw sum-is (factor-read i)
+
+  -- the same where h is t + u
+  pub summed : {r : ℤ} → r ≡ bent-rise down slope (y .t) (y .u) (y .t + y .u) (y .a) (y .b) →
+      r ≡ bent-rise down slope (y .t) (y .u) (y .h) (y .a) (y .b)
+  summed e = e ∙ rw h-sum

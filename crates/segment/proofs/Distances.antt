@@ -1,5 +1,6 @@
 -- An area inside a segment, in machine numbers.
 --   t, u            its distances from the two ends; h-is, their sum is the gap; u-read, as the code computes the second
+--   mirror-back     200,000 less a mirrored value is the value
 --   factor-size     a factor is from −200,000 to 400,000; factor-fits, factor-read, it fits 32 bits
 -- Assumes nothing.
 use mathlib.Core.Path.{_≡_, _∙_}
@@ -15,7 +16,7 @@ use Rattle.exact.proofs.Ring.{ring, terms}
 use Rattle.exact.proofs.Order as Z
 use Rattle.exact.proofs.Magnitude.{size-between, sfits-of-size}
 use Rattle.exact.proofs.Rounding.{round-rounding}
-use Rattle.model.specs.Points.{Segment, Rule}
+use Rattle.model.specs.Points.{value-most, Segment, Rule}
 use Rattle.model.specs.Inner.{Neighbours, Good, Inside}
 use Rattle.model.specs.Interpolant.{exact-curve}
 use Rattle.model.proofs.Segments.{gap, distance}
@@ -48,6 +49,9 @@ module _ {G : Segment → Type 0} {s : Segment} {x : ℕ} (i : Inside G s x) whe
 
   pub distances : Neighbours s → Distances (t s x) (u s x)
   distances n = record { most = omega (arith, n .near, h-is); least = omega (arith, n .ordered, h-is) }
+
+pub mirror-back : {l : ℕ} → l ≤ value-most → pos value-most -ℤ pos (value-most - l) ≡ pos l
+mirror-back {l} most = rw (← Z.difference-of-≤ most) (ring (pos l ∷ []) (search terms depth 20 fits 9999) tt)
 
 module _ {rule : Rule} {s : Segment} {x : ℕ} (i : Inside (Good rule) s x) where
   pub factor-size : natAbs (round (exact-curve rule s x)) ≤ 400000

@@ -29,12 +29,12 @@ use Rattle.model.specs.Shape.{fits, has-shape, segment-test}
 use Rattle.model.specs.Inner.{Limits, Good, Inside}
 use Rattle.model.proofs.ClosedForm.{Closed, Climbing, A, B, B-positive, rising-form, climbing-of-normal, flat-value, rising-value}
 use Rattle.model.proofs.Curves.{climbs, flat, rise-kind}
-use Rattle.model.proofs.Mirror.{mirror-inside}
+use Rattle.model.proofs.Mirror.{mirror-inside, taken-back}
 use Rattle.model.proofs.Segments.{gap, rise, distance, v₀, v₁, d₀, d₁, S, e₀, e₁, g, segment-normal, distance-in}
 use Rattle.point.proofs.Figures.{slope-size}
 use Rattle.shape.proofs.Figures.{gap-is}
 use Rattle.segment.specs.Inner.{part, rising-reading, Climb, climbed, turned}
-use Rattle.segment.proofs.Distances.{t, u, h-is, from-left, from-right, distances, factor-size}
+use Rattle.segment.proofs.Distances.{t, u, h-is, from-left, from-right, distances, factor-size, mirror-back}
 use Rattle.segment.proofs.Rounded.{round-twice}
 
 module _ (s : Segment) where
@@ -188,10 +188,10 @@ module _ {s : Segment} {x : ℕ} (i : Inside (Good (plain rising)) s x) where
 
 -- ---- from the right end
 
--- a mirrored value, and a difference, taken from 200,000
-taken-back : {l r : ℕ} → r ≤ l → l ≤ value-most → pos value-most -ℤ pos (value-most - l) -ℤ pos (l - r) ≡ pos r
-taken-back {l} {r} falls most =
-    rw (← Z.difference-of-≤ most, ← Z.difference-of-≤ falls) (ring (pos l ∷ pos r ∷ []) (search terms depth 20 fits 9999) tt)
+-- the right value: the mirror's left value and the difference, taken from 200,000
+right-of : {l r : ℕ} → r ≤ l → l ≤ value-most → pos value-most -ℤ pos (value-most - l) -ℤ pos (l - r) ≡ pos r
+right-of {l} {r} falls most =
+    rw (mirror-back most, ← Z.difference-of-≤ falls) (ring (pos l ∷ pos r ∷ []) (search terms depth 20 fits 9999) tt)
 
 pub turned-limits : {p : Point} → Limits p → Limits (turned p)
 turned-limits l = record {
@@ -223,7 +223,7 @@ module _ {s : Segment} {x : ℕ} (i : Inside (Good (mirrored rising)) s x) where
 
     right-value : pos value-most -ℤ v₀ m -ℤ pos (F m) ≡ pos (s .right .value)
     unfolding mirror
-    right-value = rw F-is (taken-back falls (i .good .ends .left .value))
+    right-value = rw F-is (right-of falls (i .good .ends .left .value))
 
     falling-value : Closed (exact-curve (mirrored rising) s x)
         (whole (pos (s .right .value))
@@ -280,14 +280,8 @@ module _ {s : Segment} {x : ℕ} (i : Inside (Good (mirrored rising)) s x) where
   level : s .left .value ≡ s .right .value → round (exact-curve (mirrored rising) s x) ≡ pos (s .right .value)
   unfolding exact-curve mirror
   level e =
-      let c = flat-inside j (ap (λ n. value-most - n) (sym e)) in
-      let p = c .proper in
-      rounding-at-whole round-rounding (pos (s .right .value)) (search propers)
-      (Q.≈-trans (search propers) (Q.≈-- (Q.≈-refl _) (c .same))
-      (rw (← e, ← Z.difference-of-≤ (i .good .ends .left .value)) (back (pos (s .left .value)))))
-    where
-      back : (l : ℤ) → whole (pos value-most) -ℚ whole (pos value-most -ℤ l) ≈ℚ whole l
-      back l = field (l ∷ []) (search ratios depth 20 fits 9999) tt
+      let c = taken-back {p = s .left} (i .good .ends .left) (flat-inside j (ap (λ n. value-most - n) (sym e))) in
+      rounding-at-whole round-rounding (pos (s .left .value)) (c .proper) (c .same) ∙ ap pos e
 
   pub falling-reads :
       pos (climbed (u s x) (t s x) (turned (s .right)) (turned (s .left))) ≡ round (exact-curve (mirrored rising) s x)

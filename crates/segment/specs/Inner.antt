@@ -4,6 +4,7 @@
 --   part             A of the rising curve, from one end; whole-part is B; share, A F with B / 2 for the rounding
 --   rising-reading   the rounded value; climbed, the same between two points, whose values may be equal
 --   turned           a point of a curve that is read from right to left
+--   signed           a number, or with its sign changed: `down` is for concave curves
 --   BentAt           the figures of an area of a convex or concave segment; bent-rule, the rule of the one or the other
 --   above-tangent    how far the curve is above its left tangent, in hundredths, rounded down; ceil-of and floor-of, by a
 --                    quotient and a remainder

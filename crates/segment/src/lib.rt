@@ -158,7 +158,7 @@ fn risen(slope: i32, t: u64, above: i64) -> i32
     exact::floor_div(hundredths(slope, t, above), 100) as i32
 }
 
-// What is above the left value, or that one division does not tell it.
+// How far a curve is above its left value, rounded. `sure` is false where one division does not tell it.
 struct Estimated {
     rise: i32,
     sure: bool,

@@ -2,59 +2,33 @@
 -- Assumes nothing.
 use mathlib.Core.Bool.{true}
 use borrow.Author.Needs.{needs}
-use Rattle.point.proofs.Figures.{slope-read}
-use Rattle.segment.proofs.BentReading.{bent-input, sum-fits, sum-read}
+use Rattle.segment.proofs.BentReading.{input-read, input-summed, summed, sum-fits, sum-read}
 use Rattle.segment.proofs.concave_factor.Statement.{statement}
 use Rattle.segment.proofs.concave_factor.Tie as tie
 
 -- the place after `bent_at`
-abbrev at-bent : tie.After-estimate → tie.After-bent-at
-at-bent c = c .before .before .before
-
-estimate-requires : tie.Need-estimate-requires
-estimate-requires c κs =
-    let b = c .before .before in
-    let i = b .before .pre in
-    rw (slope-read (i .good .ends .left)) (bent-input true i (b .bent-at .ensures))
-
--- where one division tells
-add-result : tie.Need-add-result
-add-result c =
-    let e = c .before .before .before in
-    let i = at-bent e .before .pre in
-    sum-fits true i (at-bent e .bent-at .ensures)
-    (rw (slope-read (i .good .ends .left)) at (e .estimate .ensures .0 (c .before .before .if1 .taken)))
-
-returns : tie.Need-returns
-returns c =
-    let e = c .before .before .before in
-    let i = at-bent e .before .pre in
-    sum-read true i (at-bent e .bent-at .ensures)
-    (rw (slope-read (i .good .ends .left)) at (e .estimate .ensures .0 (c .before .before .if1 .taken)))
-
--- where it does not
-exact-rise-requires : tie.Need-exact-rise-requires
-exact-rise-requires c κs =
-    let e = c .before .before in
-    let i = at-bent e .before .pre in
-    let k = bent-input true i (at-bent e .bent-at .ensures) in
-    (rw (slope-read (i .good .ends .left), ← k .sum) k, e .estimate .ensures .1 (c .before .if1 .left))
-
-add-result-2 : tie.Need-add-result-2
-add-result-2 c =
-    let b = at-bent (c .before .before .before) in
-    let i = b .before .pre in
-    let h-is = bent-input true i (b .bent-at .ensures) .sum in
-    sum-fits true i (b .bent-at .ensures) (rw (slope-read (i .good .ends .left), ← h-is) at (c .exact-rise .ensures))
-
-returns-2 : tie.Need-returns-2
-returns-2 c =
-    let b = at-bent (c .before .before .before) in
-    let i = b .before .pre in
-    let h-is = bent-input true i (b .bent-at .ensures) .sum in
-    sum-read true i (b .bent-at .ensures) (rw (slope-read (i .good .ends .left), ← h-is) at (c .exact-rise .ensures))
+abbrev at : tie.After-estimate → tie.After-bent-at
+at c = c .before .before .before
 
 pub concave-factor-spec : {M : Type 1} → statement M
 concave-factor-spec =
     tie.close
-    (tie.spec (λ c κs. c .pre) (search needs) estimate-requires add-result returns exact-rise-requires add-result-2 returns-2)
+    (tie.spec (λ c κs. c .pre) (search needs)
+    (λ c κs. let b = c .before .before in input-read true (b .before .pre) (b .bent-at .ensures))
+    (λ c.
+    let e = c .before .before .before in
+    sum-fits true (at e .before .pre) (at e .bent-at .ensures) (e .estimate .ensures .0 (c .before .before .if1 .taken)))
+    (λ c.
+    let e = c .before .before .before in
+    sum-read true (at e .before .pre) (at e .bent-at .ensures) (e .estimate .ensures .0 (c .before .before .if1 .taken)))
+    (λ c κs.
+    let e = c .before .before in
+    (input-summed true (at e .before .pre) (at e .bent-at .ensures), e .estimate .ensures .1 (c .before .if1 .left)))
+    (λ c.
+    let b = at (c .before .before .before) in
+    let k = b .bent-at .ensures in
+    sum-fits true (b .before .pre) k (summed true (b .before .pre) k (c .exact-rise .ensures)))
+    (λ c.
+    let b = at (c .before .before .before) in
+    let k = b .bent-at .ensures in
+    sum-read true (b .before .pre) k (summed true (b .before .pre) k (c .exact-rise .ensures))))
