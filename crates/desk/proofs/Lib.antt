@@ -1,4 +1,3 @@
--- Theorems of the desk reading, and their laws.
-pub mod Apart
+-- Laws of a list that is copied in parts, and of the point records.
 pub mod Records
 pub mod Blocks

@@ -1,4 +1,2 @@
--- The desk reading.
-pub mod Desk
-pub mod Laws
+-- What inner contracts cite.
 pub mod Inner

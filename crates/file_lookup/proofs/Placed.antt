@@ -2,6 +2,7 @@
 --   curve-points     the points of an accepted curve are as many as a curve has
 --   outside-is       row 7, by the first and the last record
 --   reached-first    an area that is not outside is not below that of the first point
+--   ReadAt           an area's reading is given, and the index of the segment read is that of a point before the last
 --   segment-is       the segment at an index
 -- Assumes nothing.
 use mathlib.Core.Path.{_≡_, refl, _∙_}
@@ -11,10 +12,14 @@ use Prim.Native.Nat.{ℕ, suc, _-_, _≤_, _<_}
 use native.Mathlib.Omega.{arith}
 use lib.Dec.{ltb}
 use lib.ListN.{length, length-map}
-use Rattle.model.specs.Points.{points-least}
-use Rattle.model.specs.Read.{outside}
-use Rattle.model.specs.Inner.{Accepted, between, segment-at, areas-of, Reached}
+use Rattle.model.specs.Points.{points-least, Point}
+use Rattle.model.specs.Answer.{gives}
+use Rattle.model.specs.Read.{segment-read, reading, outside}
+use Rattle.model.specs.Inner.{read-rows, segment-answer, Accepted, between, segment-at, areas-of, Reached}
+use Rattle.model.proofs.Rows.{gives-injective, then-first, then-rest}
+use Rattle.model.proofs.Indexed.{read-inner}
 use Rattle.model.proofs.Accepted.{count-of}
+use Rattle.model.proofs.Answers.{Given, given-of-rows}
 use Rattle.model.proofs.Outside.{outside-of, not-before}
 use Rattle.layout.specs.Layout.{record-at}
 use Rattle.layout.specs.Inner.{first-points, Holds}
@@ -45,6 +50,22 @@ module _ (bytes : List ℕ) (n : ℕ) where
       record {
         inner = omega (arith, areas-size);
         low = not-before (first-points bytes n) refl (rw areas-size some) x e;
+      }
+
+  pub record ReadAt (code x i : ℕ) : Type 0 where
+    pub given : Given (first-points bytes n) code x (reading (first-points bytes n) code x)
+    pub index : segment-read (first-points bytes n) x ≡ i
+    pub inner : suc i < n
+
+  pub read-at-of : (code x : ℕ) {i : ℕ} → segment-answer (first-points bytes n) code x ≡ gives i → ReadAt code x i
+  read-at-of code x e =
+      let ps : List Point = first-points bytes n in
+      let g = given-of-rows ps code x (then-first (read-rows ps code x) _ e) in
+      let index = gives-injective (then-rest (read-rows ps code x) _ e) in
+      record {
+        given = g;
+        index = index;
+        inner = rw (index, size-of-first bytes n) at (read-inner ps x (count-of (g .accepted) .0));
       }
 
   pub segment-is : {i : ℕ} → suc i < n →

@@ -1,14 +1,13 @@
 // Row 7, the segment that an area takes and the factor there, of the points of a curve file where they stand.
 ghost use mathlib.Core.Path.{_≡_};
 ghost use lib.ListN.{length};
-ghost use Rattle.model.specs.Answer.{gives};
+ghost use Rattle.model.specs.Answer.{gives, _then_};
 ghost use Rattle.model.specs.Read.{outside as lies-outside, reading};
-ghost use Rattle.model.specs.Inner.{fault-answer, read-rows, areas-of, Reached, Taken, Strides, LastOf, Readable};
+ghost use Rattle.model.specs.Inner.{fault-answer, read-rows, segment-answer, areas-of, Reached, Taken, Strides, LastOf};
 ghost use Rattle.layout.specs.Inner.{first-points, Holds};
 ghost use Rattle.records.specs.Inner.{CurvePoints};
 use layout::area_of;
 use layout::record_at;
-use rows::Fault;
 
 // Whether an area is outside the first n points: row 7.
 fn outside(bytes: &[u8], n: usize, area: u32) -> bool
@@ -55,33 +54,51 @@ fn find(bytes: &[u8], n: usize, area: u32) -> usize
     last_not_above(bytes, n, from, 1, end, area)
 }
 
-// The factor at an area that takes the segment at i.
-fn factor_at(bytes: &[u8], n: usize, shape: u32, i: usize, area: u32) -> i32
-    requires { ⌜ CurvePoints n (length (now bytes)) × Readable (first-points (now bytes) n) shape i area ⌝ }
+// A refusal, or number 0 and the index of the segment read.
+pub struct Located {
+    pub number: u32,
+    pub place: u32,
+    pub index: usize,
+}
+
+// Rows 1 to 7 of the file's first n points and an area; then the segment read.
+pub fn locate(bytes: &[u8], n: usize, shape: u32, area: u32) -> Located
+    requires { ⌜ Holds n (length (now bytes)) ⌝ }
+    ensures { λ r. ⌜ (fault-answer (r .number) (r .place) then gives (r .index))
+        ≡ segment-answer (first-points (now (bytes .entry)) n) shape area ⌝ }
+{
+    let fault = records::curve_fault(bytes, n, shape);
+    if fault.number != 0 {
+        return Located {
+            number: fault.number,
+            place: fault.place,
+            index: 0,
+        };
+    }
+    if outside(bytes, n, area) {
+        return Located {
+            number: 7,
+            place: 0,
+            index: 0,
+        };
+    }
+    let index = find(bytes, n, area);
+    Located {
+        number: 0,
+        place: 0,
+        index,
+    }
+}
+
+// The factor at an area, from the index of the segment read.
+pub fn factor_at(bytes: &[u8], n: usize, shape: u32, i: usize, area: u32) -> i32
+    requires { ⌜ Holds n (length (now bytes)) × (segment-answer (first-points (now bytes) n) shape area ≡ gives i) ⌝ }
     ensures { λ r. ⌜ r ≡ reading (first-points (now (bytes .entry)) n) shape area ⌝ }
 {
     segment::factor(shape, record_at(bytes, i), record_at(bytes, i + 1), area)
 }
 
-// Rows 1 to 7 of the file's first n points and an area.
-pub fn read_fault(bytes: &[u8], n: usize, shape: u32, area: u32) -> Fault
-    requires { ⌜ Holds n (length (now bytes)) ⌝ }
-    ensures { λ r. ⌜ fault-answer (r .number) (r .place) ≡ read-rows (first-points (now (bytes .entry)) n) shape area ⌝ }
-{
-    let fault = records::curve_fault(bytes, n, shape);
-    if fault.number != 0 {
-        return fault;
-    }
-    if outside(bytes, n, area) {
-        return Fault {
-            number: 7,
-            place: 0,
-        };
-    }
-    fault
-}
-
-// The factor at an area that these rows do not refuse.
+// The factor at an area that rows 1 to 7 do not refuse.
 pub fn factor(bytes: &[u8], n: usize, shape: u32, area: u32) -> i32
     requires { ⌜ Holds n (length (now bytes)) × (read-rows (first-points (now bytes) n) shape area ≡ gives tt) ⌝ }
     ensures { λ r. ⌜ r ≡ reading (first-points (now (bytes .entry)) n) shape area ⌝ }

@@ -4,7 +4,8 @@
 --   neighbours-of-rows    points that pass rows 1 and 3 to 5 are a chain; good-of-rows, and row 6 too
 --   chained-of     the points of an accepted curve are a chain of good segments
 --   value-is       the exact value at an area is that of the segment where a walk from the left stops
---   inside, reading-is    the segment that an area takes, by its index
+--   inside-read    an area that is not outside is inside the segment read
+--   read-is        an index that an area takes is that of the segment read; inside, reading-is, what follows
 -- Assumes nothing.
 use mathlib.Core.Path.{_≡_, _∙_, ap, subst⁻¹}
 use mathlib.Core.Bool.{false, not}
@@ -22,11 +23,11 @@ use Rattle.model.specs.Points.{points-least, points-most, area-most, Poi
 use Rattle.model.specs.Interpolant.{exact-curve}
 use Rattle.model.specs.Shape.{segment-test}
 use Rattle.model.specs.Check.{bad-count, bad-code, point-rows, segment-rows, curve-rows}
-use Rattle.model.specs.Read.{value-in, outside, exact-value, reading}
+use Rattle.model.specs.Read.{segment-read, outside, exact-value, reading}
 use Rattle.model.specs.Inner.{Accepted, between, point-at, segment-at, areas-of, Limits, Neighbours, Good}
 use Rattle.model.specs.Inner.{Inside, Taken, Readable}
-use Rattle.model.proofs.Walk.{Chain, end, link, taken-is-stop, good-ordered}
-use Rattle.model.proofs.Indexed.{Chained, chained, stop-in, stop-at, stop-in-inside}
+use Rattle.model.proofs.Walk.{Chain, end, link, good-ordered}
+use Rattle.model.proofs.Indexed.{Chained, chained, stop-in, index-is, read-stops, stop-in-inside}
 use Rattle.model.proofs.Rows.{then-first, then-rest, row-passed, count-of-row-1, code-of-row-2, passed, neighbours}
 
 neighbour-chain : (i : ℕ) (p : Point) (ps : List Point) → Limits p → point-rows i (some (p .area)) ps ≡ gives tt →
@@ -99,26 +100,28 @@ module _ {ps : List Point} {code : ℕ} (k : Accepted ps code) where
       let i = stops-inside x e in
       le-trans (i .high) (i .good .ends .right .area)
 
-chained-value : {ps : List Point} (code : ℕ) → Chained (Good (rule-of code)) ps → (x : ℕ) →
-    exact-value ps code x ≡ exact-curve (rule-of code) (stop-in ps x) x
-unfolding exact-value value-in segments
-chained-value code (chained c) x =
-    ap (λ (s : Segment). exact-curve (rule-of code) s x) (taken-is-stop (Good (rule-of code)) good-ordered x c)
+module _ {ps : List Point} {code : ℕ} (k : Accepted ps code) (x : ℕ) where
+  stop-is : segment-at ps (segment-read ps x) ≡ stop-in ps x
+  stop-is = read-stops (Good (rule-of code)) good-ordered (chained-of k) x
 
-pub value-is : {ps : List Point} {code : ℕ} → Accepted ps code → (x : ℕ) →
-    exact-value ps code x ≡ exact-curve (rule-of code) (stop-in ps x) x
-value-is {code = code} k x = chained-value code (chained-of k) x
+  pub value-is : exact-value ps code x ≡ exact-curve (rule-of code) (stop-in ps x) x
+  unfolding exact-value
+  value-is = ap (λ (s : Segment). exact-curve (rule-of code) s x) stop-is
+
+  pub inside-read : outside ps x ≡ false → Inside (Good (rule-of code)) (segment-at ps (segment-read ps x)) x
+  inside-read e = rw stop-is (stops-inside k x e)
 
 module _ {ps : List Point} {code i x : ℕ} (k : Accepted ps code) (t : Taken (areas-of ps) i x) where
-  stop-is : stop-in ps x ≡ segment-at ps i
-  stop-is = stop-at (Good (rule-of code)) good-ordered (chained-of k) i x t
+  pub read-is : segment-read ps x ≡ i
+  read-is = index-is (Good (rule-of code)) good-ordered (chained-of k) i x t
 
   pub value-at-index : exact-value ps code x ≡ exact-curve (rule-of code) (segment-at ps i) x
-  value-at-index = value-is k x ∙ ap (λ (s : Segment). exact-curve (rule-of code) s x) stop-is
+  unfolding exact-value
+  value-at-index = ap (λ (j : ℕ). exact-curve (rule-of code) (segment-at ps j) x) read-is
 
 module _ {ps : List Point} {code i x : ℕ} (k : Readable ps code i x) where
   pub inside : Inside (Good (rule-of code)) (segment-at ps i) x
-  inside = rw (stop-is (k .accepted) (k .taken)) at (stops-inside (k .accepted) x (k .within))
+  inside = rw (read-is (k .accepted) (k .taken)) at (inside-read (k .accepted) x (k .within))
 
   pub reading-is : reading ps code x ≡ round (exact-curve (rule-of code) (segment-at ps i) x)
   unfolding reading

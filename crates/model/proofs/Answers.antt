@@ -7,7 +7,7 @@
 --   given-of-rows      rows 1 to 7 decide: they pass, and Read gives the reading; read-refused, they refuse, and Read does
 --   refused-outside    on an accepted curve Read refuses by row 7 only
 --   factor-is-high     no factor that Read gives is below −200,000
---   then-refused       rows that refuse, before whatever follows; refused-before, from before a result; then-assoc
+--   then-refused       rows that refuse, before whatever follows; refused-first, from before a result; refused-before; then-assoc
 -- Assumes nothing.
 use mathlib.Core.Path.{_≡_, refl, sym, _∙_, ap, subst}
 use mathlib.Core.Bool.{Bool, true, false}
@@ -72,6 +72,12 @@ pub then-refused : {A : Type 0} {n i : ℕ} (rows : Answer (Unit {0})) (rest : A
     (rows then rest) ≡ refused n i
 unfolding _then_
 then-refused rows rest e = rw e
+
+pub refused-first : {A : Type 0} {n i : ℕ} (rows : Answer (Unit {0})) (x : A) → (rows then gives x) ≡ refused n i →
+    rows ≡ refused n i
+unfolding _then_
+refused-first (gives u) x e = absurd (refused≢gives (sym e))
+refused-first (refused n i) x e = cc
 
 pub then-assoc : {A : Type 0} (x y : Answer (Unit {0})) (z : Answer A) → ((x then y) then z) ≡ (x then y then z)
 unfolding _then_

@@ -4,13 +4,12 @@
 --   mirror-curve, mirror-area    that curve; it has the same areas
 -- Assumes nothing.
 use mathlib.Core.Path.{_≡_, refl, _∙_, ap}
-use mathlib.Core.Bool.{Bool, true, false, cond}
+use mathlib.Core.Bool.{false}
 use mathlib.Core.List.{List, [], _∷_, map}
 use mathlib.Core.Option.{Option, none, some}
-use Prim.Native.Nat.{ℕ, suc, _-_, _≤_, _<_}
+use Prim.Native.Nat.{ℕ, zero, suc, _-_, _≤_, _<_}
 use native.Mathlib.Omega.{arith}
 use borrow.Author.Tests.{le-ltb}
-use lib.Dec.{leb}
 use lib.IntN.{pos}
 use lib.ListN.{length, length-map}
 use Rattle.exact.specs.Fraction.{whole, _-ℚ_}
@@ -21,12 +20,13 @@ use Rattle.model.specs.Points.{mirror, mirror-segment, plain, mirrored}
 use Rattle.model.specs.Interpolant.{exact-curve}
 use Rattle.model.specs.Shape.{segment-test}
 use Rattle.model.specs.Check.{bad-count, bad-code, bad-value, bad-slope, point-rows, segment-rows, curve-rows}
-use Rattle.model.specs.Read.{taken, value-in, exact-value, last-area, outside}
+use Rattle.model.specs.Read.{last-from, segment-read, exact-value, last-area, outside}
 use Rattle.model.specs.Laws.{Curve, Area, MirrorAccepted}
-use Rattle.model.specs.Inner.{Accepted, between, Limits}
+use Rattle.model.specs.Inner.{Accepted, point-at, segment-at, Limits}
 use Rattle.model.proofs.Codes.{plain-of, mirrored-of}
 use Rattle.model.proofs.Mirror.{mirror-limits}
 use Rattle.model.proofs.Rows.{passed}
+use Rattle.model.proofs.Indexed.{read-inner}
 use Rattle.model.proofs.Accepted.{count-of, code-of, points-pass, segments-pass}
 
 -- ---- rows 3 to 6
@@ -59,36 +59,41 @@ rows-mirror i shape (s ∷ ss) = rw (rows-mirror (suc i) shape ss)
 
 -- ---- the exact value
 
-cond-mirror : (b : Bool) (n s : Segment) → cond b (mirror-segment n) (mirror-segment s) ≡ mirror-segment (cond b n s)
-cond-mirror true n s = refl
-cond-mirror false n s = refl
+last-mirror : (x last i : ℕ) (ss : List Segment) → last-from x last i (map mirror-segment ss) ≡ last-from x last i ss
+unfolding last-from mirror
+last-mirror x last i [] = refl
+last-mirror x last i (s ∷ ss) = last-mirror x _ (suc i) ss
 
-taken-mirror : (x : ℕ) (s : Segment) (ss : List Segment) →
-    taken x (mirror-segment s) (map mirror-segment ss) ≡ mirror-segment (taken x s ss)
-unfolding taken mirror
-taken-mirror x s [] = refl
-taken-mirror x s (n ∷ ss) =
-    ap (λ (k : Segment). taken x k (map mirror-segment ss)) (cond-mirror (leb (n .left .area) x) n s) ∙ taken-mirror x _ ss
+read-mirror : (ps : List Point) (x : ℕ) → segment-read (map mirror ps) x ≡ segment-read ps x
+unfolding segment-read
+read-mirror ps x = rw (segments-mirror ps) (last-mirror x 0 0 (segments ps))
+
+point-mirror : (ps : List Point) (i : ℕ) → i < length ps → point-at (map mirror ps) i ≡ mirror (point-at ps i)
+point-mirror [] i h = absurd (omega arith)
+point-mirror (p ∷ ps) zero h = refl
+point-mirror (p ∷ ps) (suc i) h = point-mirror ps i (omega arith)
+
+segment-mirror : (ps : List Point) (i : ℕ) → suc i < length ps →
+    segment-at (map mirror ps) i ≡ mirror-segment (segment-at ps i)
+segment-mirror ps i h = rw (point-mirror ps i (omega arith), point-mirror ps (suc i) h)
 
 value-mirror : (shape : Shape) (x : ℕ) (ps : List Point) → 2 ≤ length ps →
-    value-in (mirrored shape) (segments ps) x ≡ whole (pos value-most) -ℚ value-in (plain shape) (segments (map mirror ps)) x
-unfolding value-in segments exact-curve
-value-mirror shape x [] h = absurd (omega arith)
-value-mirror shape x (p ∷ []) h = absurd (omega arith)
-value-mirror shape x (p ∷ q ∷ ps) h =
-    rw (segments-mirror (q ∷ ps), taken-mirror x (between p q) (segments (q ∷ ps)))
+    exact-curve (mirrored shape) (segment-at ps (segment-read ps x)) x
+    ≡ whole (pos value-most) -ℚ exact-curve (plain shape) (segment-at (map mirror ps) (segment-read (map mirror ps) x)) x
+unfolding exact-curve
+value-mirror shape x ps h = rw (read-mirror ps x, segment-mirror ps (segment-read ps x) (read-inner ps x h))
 
 -- ---- the curve
 
-last-mirror : (p : Point) (ps : List Point) → last-area (mirror p) (map mirror ps) ≡ last-area p ps
+last-area-mirror : (p : Point) (ps : List Point) → last-area (mirror p) (map mirror ps) ≡ last-area p ps
 unfolding mirror
-last-mirror p [] = refl
-last-mirror p (q ∷ ps) = last-mirror q ps
+last-area-mirror p [] = refl
+last-area-mirror p (q ∷ ps) = last-area-mirror q ps
 
 outside-mirror : (ps : List Point) (x : ℕ) → outside (map mirror ps) x ≡ outside ps x
 unfolding outside mirror
 outside-mirror [] x = refl
-outside-mirror (p ∷ ps) x = rw (last-mirror p ps)
+outside-mirror (p ∷ ps) x = rw (last-area-mirror p ps)
 
 module _ (c : Curve) where
   accepted : Accepted (c .points) (c .code)

@@ -10,7 +10,7 @@ use Rattle.model.specs.Interpolant.{rising-curve, convex-curve, curve, i
 use Rattle.model.specs.Shape.{rises, bends, fits, has-shape, segment-test}
 use Rattle.model.specs.Check.{lengths-differ, bad-count, bad-code, bad-area, bad-value, bad-slope}
 use Rattle.model.specs.Check.{point-rows, segment-rows, curve-rows, check-answer, on-lists}
-use Rattle.model.specs.Read.{taken, value-in, outside, exact-value, reading, read-answer}
+use Rattle.model.specs.Read.{last-from, segment-read, outside, exact-value, reading, read-answer}
 use Rattle.model.specs.Sheet.{bad-sheet, tabulate, sheet-answer, sheet-list}
 use Rattle.model.specs.Readings.{bow, ten, TenReadings, kink, FurtherReadings}
 use Rattle.model.specs.Readings.{mirrored-bow, ten-mirrored, fall, arch, MirroredReadings}
@@ -20,7 +20,7 @@ unfolding _over_ whole _+ℚ_ _-ℚ_ _*ℚ_ _/ℚ_ leℚ ltℚ eqℚ floorDiv fl
     gradient points segments shape-of rule-of mirror chord p q P Q rational r-rising r-convex rising-curve convex-curve curve
     interpolant exact-curve rises bends fits has-shape segment-test
     lengths-differ bad-count bad-code bad-area bad-value bad-slope point-rows segment-rows curve-rows check-answer on-lists
-    taken value-in outside exact-value reading read-answer bad-sheet tabulate sheet-answer sheet-list
+    last-from segment-read outside exact-value reading read-answer bad-sheet tabulate sheet-answer sheet-list
     bow ten kink mirrored-bow ten-mirrored fall arch
 computed = (
   λ area. refl,

@@ -1,23 +1,23 @@
 -- One induction over the points of a curve: what holds inside each segment and joins at the points holds between any two areas.
 --   Chain G p ps     p, then the points ps; each neighbouring pair is a segment with G
---   stop p q ps x    where a walk from the left stops at x; on a chain that is the segment taken, and x is inside it
+--   stop p q ps x    where a walk from the left stops at x; on a chain that is the segment read, and x is inside it
 --   Spreads G R      R between areas holds inside a segment and where two segments meet, and is transitive
 --   across           so R holds between any two areas of a chain
 --   good-ordered     the areas of a good segment increase
 -- Assumes nothing.
-use mathlib.Core.Path.{_≡_, refl}
+use mathlib.Core.Path.{_≡_, refl, sym, _∙_}
 use mathlib.Core.Bool.{cond}
 use mathlib.Core.List.{List, [], _∷_}
 use mathlib.Core.Logic.{inl, inr}
-use Prim.Native.Nat.{ℕ, _≤_, _<_}
-use native.Mathlib.Nat.{le-refl, le-trans, le-of-lt}
+use Prim.Native.Nat.{ℕ, suc, _+_, _≤_, _<_}
+use native.Mathlib.Nat.{add-zero, le-refl, le-trans, le-of-lt}
 use native.Mathlib.Omega.{arith}
 use lib.Dec.{leb}
 use borrow.Author.Tests.{lt-leb, le-leb}
 use Rattle.exact.proofs.Tests.{compare}
 use Rattle.model.specs.Points.{Point, Segment, segments, Rule}
-use Rattle.model.specs.Read.{taken, last-area}
-use Rattle.model.specs.Inner.{between, Good, Inside}
+use Rattle.model.specs.Read.{last-from, last-area}
+use Rattle.model.specs.Inner.{between, segment-at, Good, Inside}
 
 pub good-ordered : {rule : Rule} (s : Segment) → Good rule s → s .left .area < s .right .area
 good-ordered s g = g .ends .ordered
@@ -25,6 +25,18 @@ good-ordered s g = g .ends .ordered
 abbrev pub stop : Point → Point → List Point → ℕ → Segment
 stop p q [] x = between p q
 stop p q (r ∷ ps) x = cond (leb (q .area) x) (stop q r ps x) (between p q)
+
+-- and its index, from the second point on
+abbrev pub stop-index : Point → List Point → ℕ → ℕ
+stop-index q [] x = 0
+stop-index q (r ∷ ps) x = cond (leb (q .area) x) (suc (stop-index r ps x)) 0
+
+pub stop-index-is : (p q : Point) (ps : List Point) (x : ℕ) → segment-at (p ∷ q ∷ ps) (stop-index q ps x) ≡ stop p q ps x
+stop-index-is p q [] x = refl
+stop-index-is p q (r ∷ ps) x = elim (compare (q .area) x) [
+  | inl (h, e) ↦ rw e (stop-index-is q r ps x)
+  | inr (h, e) ↦ rw e
+]
 
 pub record Spreads (G : Segment → Type 0) (R : Segment → ℕ → Segment → ℕ → Type 0) : Type 0 where
   pub inside : {s : Segment} {x y : ℕ} → Inside G s x → Inside G s y → x ≤ y → R s x s y
@@ -43,23 +55,23 @@ module _ (G : Segment → Type 0) where
     chain-ordered (end {p = p}) = le-refl (p .area)
     chain-ordered (link {p = p} {q = q} g c) = omega (arith, ordered (between p q) g, chain-ordered c)
 
-    -- areas increase, so a later segment is not taken
-    taken-before : (x : ℕ) (s : Segment) {p : Point} {ps : List Point} → Chain p ps → x < p .area →
-        taken x s (segments (p ∷ ps)) ≡ s
-    unfolding taken segments
-    taken-before x s end h = refl
-    taken-before x s (link {p = p} {q = q} g c) h =
-        rw (lt-leb (p .area) x h, taken) (taken-before x s c (omega (arith, ordered (between p q) g)))
+    -- areas increase, so a later segment is not read
+    last-before : (x last i : ℕ) {p : Point} {ps : List Point} → Chain p ps → x < p .area →
+        last-from x last i (segments (p ∷ ps)) ≡ last
+    unfolding last-from segments
+    last-before x last i end h = refl
+    last-before x last i (link {p = p} {q = q} g c) h =
+        rw (lt-leb (p .area) x h, last-from) (last-before x last (suc i) c (omega (arith, ordered (between p q) g)))
 
-    pub taken-is-stop : (x : ℕ) {p q : Point} {ps : List Point} → Chain p (q ∷ ps) →
-        taken x (between p q) (segments (q ∷ ps)) ≡ stop p q ps x
-    unfolding taken segments
-    taken-is-stop x (link g end) = refl
-    taken-is-stop x (link {p = p} {q = q} g (link {q = r} g' c)) =
-        let later = taken-is-stop x (link g' c) in
+    pub last-is-stop : (x i : ℕ) {p q : Point} {ps : List Point} → Chain p (q ∷ ps) →
+        last-from x i (suc i) (segments (q ∷ ps)) ≡ i + stop-index q ps x
+    unfolding last-from segments
+    last-is-stop x i (link g end) = sym (add-zero i)
+    last-is-stop x i (link {p = p} {q = q} g (link {q = r} {ps = ps} g' c)) =
         elim (compare (q .area) x) [
-          | inl (h, e) ↦ rw (e, taken) later
-          | inr (h, e) ↦ rw (e, taken) (taken-before x (between p q) c (omega (arith, ordered (between q r) g')))
+          | inl (h, e) ↦ rw (e, last-from) (last-is-stop x (suc i) (link g' c) ∙ omega arith)
+          | inr (h, e) ↦
+              rw (e, last-from) (last-before x i (suc (suc i)) c (omega (arith, ordered (between q r) g')) ∙ omega arith)
         ]
 
     pub stop-inside : (x : ℕ) {p q : Point} {ps : List Point} → Chain p (q ∷ ps) →

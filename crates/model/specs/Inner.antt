@@ -1,7 +1,7 @@
 -- What contracts of inner functions cite. Nothing here need be believed: the calls' contracts cite document 01's definitions.
 --   number-most        the largest number of a refusal
 --   fault-answer       a fault's number and place, as an answer
---   read-rows          rows 1 to 7; Accepted, rows 1 to 6 refuse nothing
+--   read-rows          rows 1 to 7; segment-answer, then the index of the segment read; Accepted, rows 1 to 6 refuse nothing
 --   Alike              three lists are equally long
 --   point-at           the point at an index; segment-at, the segment that begins there
 --   Limits             what rows 3 to 5 leave of a point; Neighbours, of two; Good, and row 6 too
@@ -21,9 +21,10 @@ use lib.ListN.{length, getD, drop}
 use lib.Signed.{_≤ℤ_}
 use Rattle.model.specs.Answer.{Answer, gives, row, _then_}
 use Rattle.model.specs.Points.{points-most, area-most, gap-most, value-most, slope-most, Point, Segment, Rule}
+pub use Rattle.model.specs.Points.{between, origin, point-at, segment-at}
 use Rattle.model.specs.Shape.{segment-test}
 use Rattle.model.specs.Check.{curve-rows}
-use Rattle.model.specs.Read.{outside}
+use Rattle.model.specs.Read.{segment-read, outside}
 use Rattle.model.specs.Sheet.{tabulate}
 
 abbrev pub number-most : ℕ
@@ -41,6 +42,10 @@ first-answer number place n = row (ltb place n) number place
 abbrev pub read-rows : List Point → ℕ → ℕ → Answer (Unit {0})
 read-rows ps code x = curve-rows ps code then row (outside ps x) 7 0
 
+-- then the index of the segment read
+abbrev pub segment-answer : List Point → ℕ → ℕ → Answer ℕ
+segment-answer ps code x = read-rows ps code x then gives (segment-read ps x)
+
 pub record Accepted (ps : List Point) (code : ℕ) : Type 0 where
   pub none-applies : curve-rows ps code ≡ gives tt
 
@@ -48,18 +53,6 @@ pub record Accepted (ps : List Point) (code : ℕ) : Type 0 where
 pub record Alike (areas values slopes : ℕ) : Type 0 where
   pub values-too : areas ≡ values
   pub slopes-too : areas ≡ slopes
-
-abbrev pub between : Point → Point → Segment
-between left right = record { left = left; right = right }
-
-abbrev pub origin : Point
-origin = record { area = 0; value = 0; slope = pos 0 }
-
-abbrev pub point-at : List Point → ℕ → Point
-point-at ps i = getD ps i origin
-
-abbrev pub segment-at : List Point → ℕ → Segment
-segment-at ps i = between (point-at ps i) (point-at ps (suc i))
 
 abbrev pub areas-of : List Point → List ℕ
 areas-of ps = map (λ p. p .area) ps

@@ -1,10 +1,11 @@
 -- Document 01, "The figures and their units".
 -- Assumes nothing.
-use Prim.Native.Nat.{ℕ, _-_}
+use Prim.Native.Nat.{ℕ, suc, _-_}
 use mathlib.Core.Bool.{cond}
 use mathlib.Core.List.{List, [], _∷_}
 use lib.Dec.{eqb, leb}
 use lib.IntN.{ℤ, pos, negℤ}
+use lib.ListN.{getD}
 use Rattle.exact.specs.Fraction.{Fraction, _over_}
 
 -- a curve is a list of 2 to 64 points
@@ -50,10 +51,24 @@ pub record Segment : Type 0 where
   pub left : Point
   pub right : Point
 
+abbrev pub between : Point → Point → Segment
+between left right = record { left = left; right = right }
+
 unfoldable pub segments : List Point → List Segment
 segments [] = []
 segments (p ∷ []) = []
-segments (p ∷ q ∷ ps) = record { left = p; right = q } ∷ segments (q ∷ ps)
+segments (p ∷ q ∷ ps) = between p q ∷ segments (q ∷ ps)
+
+-- the point at an index; a list that ends before it gives 0/0/0
+abbrev pub origin : Point
+origin = record { area = 0; value = 0; slope = pos 0 }
+
+abbrev pub point-at : List Point → ℕ → Point
+point-at ps i = getD ps i origin
+
+-- the segment at an index: the point there and the next
+abbrev pub segment-at : List Point → ℕ → Segment
+segment-at ps i = between (point-at ps i) (point-at ps (suc i))
 
 -- 1 is rising, 2 is convex
 pub data Shape : Type 0 where

@@ -1,29 +1,29 @@
 -- Document 01: the segment that an area takes, the exact value there, the reading ("Rounding"), and what Read answers.
 -- Assumes nothing.
-use Prim.Native.Nat.{ℕ}
+use Prim.Native.Nat.{ℕ, suc}
 use mathlib.Core.Bool.{Bool, true, cond, _||_}
 use mathlib.Core.List.{List, [], _∷_}
 use lib.Dec.{leb, ltb}
-use lib.IntN.{ℤ, pos}
-use Rattle.exact.specs.Fraction.{Fraction, whole}
+use lib.IntN.{ℤ}
+use Rattle.exact.specs.Fraction.{Fraction}
 use Rattle.exact.specs.Rounding.{round}
 use Rattle.model.specs.Answer.{Answer, gives, row, _then_}
-use Rattle.model.specs.Points.{Point, Segment, segments, Rule, rule-of}
+use Rattle.model.specs.Points.{Point, Segment, segments, segment-at, rule-of}
 use Rattle.model.specs.Interpolant.{exact-curve}
 use Rattle.model.specs.Check.{curve-rows}
 
--- the last segment whose left area is not above the area read, s being the last one so far
-unfoldable pub taken : ℕ → Segment → List Segment → Segment
-taken area s [] = s
-taken area s (n ∷ ns) = taken area (cond (leb (n .left .area) area) n s) ns
+-- the index of the last segment whose left area is not above the area read; `last` is that so far, and i the first one's here
+unfoldable pub last-from : (area last i : ℕ) → List Segment → ℕ
+last-from area last i [] = last
+last-from area last i (s ∷ ss) = last-from area (cond (leb (s .left .area) area) i last) (suc i) ss
 
--- the exact value in the segment taken; without a segment there is none (the curve is not accepted)
-unfoldable pub value-in : Rule → List Segment → ℕ → Fraction
-value-in rule [] area = whole (pos 0)
-value-in rule (s ∷ ss) area = exact-curve rule (taken area s ss) area
+-- the index of the segment read
+unfoldable pub segment-read : List Point → ℕ → ℕ
+segment-read ps area = last-from area 0 0 (segments ps)
 
+-- the exact value there
 unfoldable pub exact-value : List Point → ℕ → ℕ → Fraction
-exact-value ps code area = value-in (rule-of code) (segments ps) area
+exact-value ps code area = exact-curve (rule-of code) (segment-at ps (segment-read ps area)) area
 
 -- rounded once
 unfoldable pub reading : List Point → ℕ → ℕ → ℤ

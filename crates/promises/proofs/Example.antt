@@ -13,7 +13,7 @@ use Rattle.model.specs.Interpolant.{rising-curve, convex-curve, curve, interpol
 use Rattle.model.specs.Shape.{rises, bends, fits, has-shape, segment-test}
 use Rattle.model.specs.Check.{lengths-differ, bad-count, bad-code, bad-area, bad-value, bad-slope}
 use Rattle.model.specs.Check.{point-rows, segment-rows, curve-rows, on-lists}
-use Rattle.model.specs.Read.{taken, value-in, outside, exact-value, reading, read-answer}
+use Rattle.model.specs.Read.{last-from, segment-read, outside, exact-value, reading, read-answer}
 use Rattle.model.specs.Sheet.{bad-sheet, tabulate, sheet-answer, sheet-list}
 use Rattle.model.specs.Laws.{Curve}
 use Rattle.layout.specs.Layout.{twos-complement, little-endian, record-at, points-of}
@@ -40,7 +40,7 @@ unfolding _over_ whole _+ℚ_ _-ℚ_ _*ℚ_ _/ℚ_ leℚ ltℚ eqℚ floorDiv fl
     gradient points segments shape-of rule-of chord p q P Q rational r-rising r-convex rising-curve convex-curve curve
     interpolant exact-curve rises bends fits has-shape segment-test
     lengths-differ bad-count bad-code bad-area bad-value bad-slope point-rows segment-rows curve-rows on-lists
-    taken value-in outside exact-value reading read-answer bad-sheet tabulate sheet-answer sheet-list
+    last-from segment-read outside exact-value reading read-answer bad-sheet tabulate sheet-answer sheet-list
     twos-complement little-endian record-at wrong-mark bad-head bad-size head-rows factors pair-answer
     short-list open-answer filled desk-answer desk-number point-records desk-scratch
     records file one-point

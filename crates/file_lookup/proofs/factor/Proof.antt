@@ -4,8 +4,10 @@ use mathlib.Core.Path.{_∙_}
 use mathlib.Core.List.{List}
 use lib.ListN.{length}
 use mir.Facts.{toZ-ofZ}
+use Rattle.model.specs.Answer.{_then_}
 use Rattle.model.specs.Points.{Point}
 use Rattle.model.specs.Read.{reading}
+use Rattle.model.proofs.Accepted.{read-is}
 use Rattle.model.proofs.Answers.{Given, given-of-rows}
 use Rattle.layout.specs.Inner.{first-points}
 use Rattle.records.specs.Inner.{CurvePoints}
@@ -29,9 +31,10 @@ find-requires c κs =
     (k, reached-first _ _ _ (k .least) (given (c .before) .within))
 
 factor-at-requires : tie.Need-factor-at-requires
+unfolding _then_
 factor-at-requires c κs =
-    let g = given (c .before .before) in
-    (counted (c .before .before), record { accepted = g .accepted; within = g .within; taken = c .find .ensures })
+    let s = c .before .before in
+    (s .pre .0, rw (s .pre .1, read-is (given s .accepted) (c .find .ensures)))
 
 returns : tie.Need-returns
 returns c = toZ-ofZ (record { sfits = c .factor-at .ok }) ∙ c .factor-at .ensures

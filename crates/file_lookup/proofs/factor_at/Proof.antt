@@ -1,38 +1,46 @@
 -- `file_lookup::factor_at` meets its contract.
 -- Assumes nothing.
 use mathlib.Core.Path.{_≡_, sym}
-use Prim.Native.Nat.{suc, _<_}
+use mathlib.Core.List.{List}
 use native.Mathlib.Numerals.{add-one}
 use native.Mathlib.Omega.{arith}
 use mir.Facts.{toZ-ofZ}
+use Rattle.model.specs.Points.{Point}
+use Rattle.model.specs.Read.{segment-read, exact-value, reading}
 use Rattle.model.specs.Inner.{segment-at}
-use Rattle.model.proofs.Accepted.{inside, reading-is}
+use Rattle.model.proofs.Accepted.{inside-read}
 use Rattle.point.specs.Inner.{segment-of}
 use Rattle.layout.specs.Inner.{first-points}
-use Rattle.file_lookup.proofs.Placed.{areas-size, segment-is}
+use Rattle.file_lookup.proofs.Placed.{ReadAt, read-at-of, segment-is}
 use Rattle.file_lookup.proofs.factor_at.Statement.{statement}
 use Rattle.file_lookup.proofs.factor_at.Tie as tie
 
-inner : (c : tie.Start) → suc (c .args .i) < c .args .n
-inner c = rw (areas-size (c .args .bytes .now) (c .args .n)) at (c .pre .1 .taken .reached .inner)
+abbrev ps : tie.Start → List Point
+ps c = first-points (c .args .bytes .now) (c .args .n)
 
--- the two records are the segment at i
+read : (c : tie.Start) → (let k = c .args in ReadAt (k .bytes .now) (k .n) (k .shape) (k .area) (k .i))
+read c = read-at-of _ _ _ _ (c .pre .1)
+
+-- the two records are the segment read
 found : (c : tie.After-record-at2) →
-    (let k = c .before .before .before .args in
-    segment-of (c .before .record-at .result) (c .record-at2 .result) ≡ segment-at (first-points (k .bytes .now) (k .n)) (k .i))
+    (let s = c .before .before .before in
+    segment-of (c .before .record-at .result) (c .record-at2 .result) ≡ segment-at (ps s) (segment-read (ps s) (s .args .area)))
 found c =
-    rw (c .before .record-at .ensures, c .record-at2 .ensures, add-one) (sym (segment-is _ _ (inner (c .before .before .before))))
+    let s = c .before .before .before in
+    rw (c .before .record-at .ensures, c .record-at2 .ensures, add-one, read s .index)
+    (sym (segment-is _ _ (read s .inner)))
 
 factor-requires : tie.Need-factor-requires
-factor-requires c κs = rw (found c) (inside (c .before .before .before .pre .1))
+factor-requires c κs =
+    let g = read (c .before .before .before) .given in
+    rw (found c) (inside-read (g .accepted) _ (g .within))
 
 returns : tie.Need-returns
-returns c =
-    rw (toZ-ofZ (record { sfits = c .factor .ok }), c .factor .ensures, found (c .before))
-    (sym (reading-is (c .before .before .before .before .pre .1)))
+unfolding reading exact-value
+returns c = rw (toZ-ofZ (record { sfits = c .factor .ok }), c .factor .ensures, found (c .before))
 
 pub factor-at-spec : {M : Type 1} → statement M
 factor-at-spec =
     tie.close
-    (tie.spec (λ c κs. record { file = omega (arith, inner (c .before)) }) (λ c. omega (arith, inner (c .before .before)))
-    (λ c κs. record { file = omega (arith, inner (c .before .before)) }) factor-requires returns)
+    (tie.spec (λ c κs. record { file = omega (arith, read (c .before) .inner) }) (λ c. omega (arith, read (c .before .before) .inner))
+    (λ c κs. record { file = omega (arith, read (c .before .before) .inner) }) factor-requires returns)

@@ -1,6 +1,6 @@
--- `desk::refusal` meets its contract.
+-- `desk_answer::refused` meets its contract.
 -- Assumes nothing.
-use mathlib.Core.Path.{_≡_}
+use mathlib.Core.Path.{_≡_, refl}
 use native.Mathlib.Omega.{arith}
 use borrow.Author.Needs.{needs}
 use lib.IntN.{ℤ, pos, negℤ, _-ℤ_}
@@ -8,8 +8,8 @@ use mir.Syntax.{w32}
 use mir.Val.{SFits, toZ}
 use mir.Facts.{toZ-ofZ, toZ-pos}
 use Rattle.exact.proofs.Magnitude.{sfits-of-size, size--}
-use Rattle.desk.proofs.refusal.Statement.{statement}
-use Rattle.desk.proofs.refusal.Tie as tie
+use Rattle.desk_answer.proofs.refused.Statement.{statement}
+use Rattle.desk_answer.proofs.refused.Tie as tie
 
 module _ (c : tie.Start) where
   abbrev result : ℤ
@@ -21,11 +21,11 @@ module _ (c : tie.Start) where
   result-fits : SFits w32 result
   result-fits = sfits-of-size w32 result (omega (arith, c .pre, size-- (negℤ (pos 1000000)) (pos (c .args .number))))
 
-sub-result : tie.Need-sub-result
-sub-result c = rw (number-is c) (result-fits c)
+sub-below : tie.Need-sub-below
+sub-below c = rw (number-is c) (result-fits c)
 
 returns : tie.Need-returns
-returns c = rw (number-is c, toZ-ofZ (result-fits c))
+returns c = (rw (number-is c, toZ-ofZ (result-fits c)), refl)
 
-pub refusal-spec : {M : Type 1} → statement M
-refusal-spec = tie.close (tie.spec (search needs) sub-result returns)
+pub refused-spec : {M : Type 1} → statement M
+refused-spec = tie.close (tie.spec (search needs) sub-below returns)

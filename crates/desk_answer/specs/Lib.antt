@@ -1,0 +1,4 @@
+-- The desk readings.
+pub mod Desk
+pub mod Laws
+pub mod Inner
