@@ -31,11 +31,11 @@ use Rattle.model.proofs.Filling.{tabulate-at}
 use Rattle.model.proofs.Places.{each-fails, each-passes}
 use Rattle.layout.specs.Layout.{record-size, shape-code, count, points-of}
 use Rattle.layout.specs.Head.{head-rows}
-use Rattle.desk.specs.Desk.{desk-answer, desk-number}
-use Rattle.desk.specs.Laws.{Apart}
-use Rattle.desk.proofs.Apart.{apart}
+use Rattle.desk_answer.specs.Desk.{answer-with, desk-number}
+use Rattle.desk_answer.specs.Laws.{Apart}
+use Rattle.desk_answer.proofs.Apart.{apart}
 use Rattle.pair.specs.Pair.{Factors, factors, pair-answer}
-use Rattle.promises.specs.FactorRead.{FileOf, FactorRead, by-read, by-pair-form, by-pair-plan, by-sheet, by-desk}
+use Rattle.promises.specs.FactorRead.{FileOf, FactorRead, by-read, by-pair-form, by-pair-plan, by-sheet, by-desk, by-desk-two}
 use Rattle.promises.specs.Demands.{CheckAccepts, ThirdDemand}
 
 -- f is the reading at the area x of the curve
@@ -103,7 +103,7 @@ reads-of-entry c start step out entries index e h =
       same = sym (tabulate-at f (pos 0) 0 index entries h ∙ ap f (zero-add index));
     }
 
--- ---- the desk reading
+-- ---- the desk readings, whatever room they ask for
 
 -- rows 1 to 7 of the file are those of the curve
 file-reads : (c : Curve) (bytes : List ℕ) (x : ℕ) → FileOf c bytes →
@@ -116,20 +116,21 @@ unfolding desk-number Apart
 factor-of-number (gives g) f k e h = ap gives e
 factor-of-number (refused n i) f k e h = absurd (Z.≤-trans h (subst (λ (z : ℤ). z ≤ℤ negℤ (pos 1000001)) e k) .le)
 
-reads-of-desk : (c : Curve) (bytes : List ℕ) (x scratch : ℕ) (f : ℤ) → FileOf c bytes →
-    desk-answer bytes x scratch ≡ gives f → Reads c x f
-unfolding desk-answer
-reads-of-desk c bytes x scratch f k e =
-    let after-11 = then-rest (row (ltb scratch (record-size * count bytes)) 11 0) _ (then-rest (head-rows bytes) _ e) in
-    reads-of-read c x f (sym (file-reads c bytes x k) ∙ after-11)
+reads-of-desk : (c : Curve) (room : ℕ) (bytes : List ℕ) (x scratch : ℕ) (f : ℤ) → FileOf c bytes →
+    desk-number (answer-with room bytes x scratch) ≡ f → negℤ (pos 1000000) ≤ℤ f → Reads c x f
+unfolding answer-with
+reads-of-desk c room bytes x scratch f k e h =
+    let is = factor-of-number _ f (apart room bytes x scratch) e h in
+    reads-of-read c x f
+    (sym (file-reads c bytes x k) ∙ then-rest (row (ltb scratch room) 11 0) _ (then-rest (head-rows bytes) _ is))
 
 reads : {c : Curve} {x : ℕ} {f : ℤ} → FactorRead c x f → Reads c x f
 reads {c} (by-read x f e) = reads-of-read c x f (sym (on-curve c _) ∙ e)
 reads {c} (by-pair-form form plan r e) = reads-of-pair c form plan r (sym (on-curve c _) ∙ e) .at-form
 reads {c} (by-pair-plan form plan r e) = reads-of-pair c form plan r (sym (on-curve c _) ∙ e) .at-plan
 reads {c} (by-sheet start step out n index e h) = rw e (reads-of-entry c start step out n index (sym (on-curve c _) ∙ e) h)
-reads {c} (by-desk bytes x scratch f k e h) =
-    reads-of-desk c bytes x scratch f k (factor-of-number _ f (apart bytes x scratch) e h)
+reads {c} (by-desk bytes x scratch f k e h) = reads-of-desk c (record-size * count bytes) bytes x scratch f k e h
+reads {c} (by-desk-two bytes x scratch f k e h) = reads-of-desk c (2 * record-size) bytes x scratch f k e h
 
 -- ---- each area can be read
 
@@ -149,12 +150,11 @@ module _ (c : Curve) where
       let pass = each-passes _ 7 n (λ i h. inside i h .within) in
       row-refused (bad-sheet step n) 8 0 n (rw (c .accepted, pass) at e) .0
 
-  desk-refuses-by-11 : (bytes : List ℕ) (x scratch : ℕ) → FileOf c bytes → Area c x →
-      (number place : ℕ) → desk-answer bytes x scratch ≡ refused number place → number ≡ 11
-  unfolding desk-answer row _then_
-  desk-refuses-by-11 bytes x scratch k m number place e =
-      row-refused (ltb scratch (record-size * count bytes)) 11 0 (factor c x)
-      (rw (k .head, file-reads c bytes x k, read-gives x m) at e) .0
+  desk-refuses-by-11 : (room : ℕ) (bytes : List ℕ) (x scratch : ℕ) → FileOf c bytes → Area c x →
+      (number place : ℕ) → answer-with room bytes x scratch ≡ refused number place → number ≡ 11
+  unfolding answer-with row _then_
+  desk-refuses-by-11 room bytes x scratch k m number place e =
+      row-refused (ltb scratch room) 11 0 (factor c x) (rw (k .head, file-reads c bytes x k, read-gives x m) at e) .0
 
   -- ---- the factors
 
@@ -173,7 +173,8 @@ third-demand c =
       pair-refuses-none = λ form plan k m. (factors (factor c form) (factor c plan), on-curve c _ ∙ pair-gives c form plan k m);
       sheet-refuses-by-8 = λ start step n inside number place e.
           sheet-refuses-by-8 c start step n inside number place (sym (on-curve c _) ∙ e);
-      desk-refuses-by-11 = desk-refuses-by-11 c;
+      desk-refuses-by-11 = λ bytes. desk-refuses-by-11 c (record-size * count bytes) bytes;
+      desk-two-refuses-by-11 = desk-refuses-by-11 c (2 * record-size);
       half-a-unit = half-a-unit c;
       same-factor = λ x f g r s. sym (reads r .same) ∙ reads s .same;
       rising = λ e x y f g r s h.

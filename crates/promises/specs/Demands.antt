@@ -1,4 +1,4 @@
--- The third demand, and what document 02, item 4, adds to it. Proofs: proofs/Demands.antt.
+-- The third demand, and what document 02, items 4 and 5, add to it. Proofs: proofs/Demands.antt.
 -- Assumes nothing.
 use Prim.Native.Nat.{ℕ, _+_, _*_, _≤_, _<_}
 use mathlib.Core.Path.{_≡_}
@@ -13,7 +13,7 @@ use Rattle.model.specs.Check.{check-answer, on-lists}
 use Rattle.model.specs.Laws.{least-factor, most-factor, Curve, Area, exact}
 use Rattle.model.specs.Laws.{SegmentsMeet, ConvexChords, ConcaveChords, MirrorAccepted}
 use Rattle.model.specs.Sheet.{entry-area}
-use Rattle.desk.specs.Desk.{desk-answer}
+use Rattle.desk_answer.specs.Desk.{desk-answer, desk-answer-two}
 use Rattle.pair.specs.Pair.{Factors}
 use Rattle.promises.specs.FactorRead.{FileOf, FactorRead, read-of, pair-of, sheet-of}
 
@@ -35,9 +35,11 @@ pub record ThirdDemand (c : Curve) : Type 0 where
   -- Sheet, where every entry's area is one of them, refuses only by 8
   pub sheet-refuses-by-8 : (start step n : ℕ) → ((index : ℕ) → index < n → Area c (entry-area start step index)) →
       (number place : ℕ) → sheet-of c start step n ≡ refused number place → number ≡ 8
-  -- and the desk reading only by 11
+  -- and the desk readings only by 11
   pub desk-refuses-by-11 : (bytes : List ℕ) (x scratch : ℕ) → FileOf c bytes → Area c x →
       (number place : ℕ) → desk-answer bytes x scratch ≡ refused number place → number ≡ 11
+  pub desk-two-refuses-by-11 : (bytes : List ℕ) (x scratch : ℕ) → FileOf c bytes → Area c x →
+      (number place : ℕ) → desk-answer-two bytes x scratch ≡ refused number place → number ≡ 11
   -- each factor is at most half a unit off the exact value, whose denominator is above 0
   pub half-a-unit : (x : ℕ) (f : ℤ) → FactorRead c x f →
       Proper (exact c x) × (exact c x -ℚ half ≤ℚ whole f) × (whole f ≤ℚ exact c x +ℚ half)

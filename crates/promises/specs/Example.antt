@@ -4,13 +4,14 @@ use Prim.Native.Nat.{ℕ}
 use mathlib.Core.Path.{_≡_}
 use mathlib.Core.List.{List, [], _∷_, _++_, map}
 use lib.IntN.{pos, negℤ}
+use lib.ListN.{drop}
 use Rattle.model.specs.Answer.{gives, refused, filled}
 use Rattle.model.specs.Points.{Point}
 use Rattle.layout.specs.Layout.{points-of}
 use Rattle.encoding.specs.File.{record-bytes, file-bytes}
 use Rattle.file.specs.Open.{open-answer}
 use Rattle.file.specs.Write.{write-answer}
-use Rattle.desk.specs.Desk.{desk-answer, desk-number, desk-scratch}
+use Rattle.desk_answer.specs.Desk.{desk-answer, desk-answer-two, desk-number, point-records, segment-records}
 
 -- the two point records, and the file
 unfoldable pub records : List ℕ
@@ -24,6 +25,16 @@ file = 84 ∷ 82 ∷ 70 ∷ 1 ∷ 0 ∷ 2 ∷ 2 ∷ records
 -- one point only: row 1, where no earlier row applies
 unfoldable pub one-point : List ℕ
 one-point = 84 ∷ 82 ∷ 70 ∷ 1 ∷ 0 ∷ 2 ∷ 1 ∷ 244 ∷ 1 ∷ 0 ∷ 0 ∷ 16 ∷ 39 ∷ 0 ∷ 0 ∷ 0 ∷ 0 ∷ 0 ∷ 0 ∷ []
+
+-- a third point, 700/24000/10000; the file of the three, and the records of its second segment
+unfoldable pub third : List ℕ
+third = 188 ∷ 2 ∷ 0 ∷ 0 ∷ 192 ∷ 93 ∷ 0 ∷ 0 ∷ 16 ∷ 39 ∷ 0 ∷ 0 ∷ []
+
+unfoldable pub three : List ℕ
+three = 84 ∷ 82 ∷ 70 ∷ 1 ∷ 0 ∷ 2 ∷ 3 ∷ (records ++ third)
+
+unfoldable pub later : List ℕ
+later = drop 12 records ++ third
 
 -- K9's points, which have not their shape
 unfoldable pub shapeless : List Point
@@ -53,7 +64,25 @@ FileExample =
     × (filled (open-answer file 3 2 2) (map (λ p. p .slope) (points-of file)) (pos 7 ∷ pos 8 ∷ []) ≡ pos 0 ∷ pos 10000 ∷ [])
     -- the desk at 550, with a scratch of 25 bytes, and of 23
     × (desk-number (desk-answer file 550 25) ≡ pos 10800) × (desk-number (desk-answer file 550 23) ≡ negℤ (pos 1000011))
-    × (desk-scratch (desk-answer file 550 25) file (5 ∷ records) ≡ records ++ 0 ∷ [])
+    × (filled (desk-answer file 550 25) (point-records file) (5 ∷ records) ≡ records ++ 0 ∷ [])
     -- rows 9, 10, 11 and 1 in their order: mark, length, scratch and count are wrong; then all but the mark; and so on
     × (desk-answer (85 ∷ one-point) 550 0 ≡ refused 9 0) × (desk-answer (one-point ++ 0 ∷ []) 550 0 ≡ refused 10 0)
     × (desk-answer one-point 550 0 ≡ refused 11 0) × (desk-answer one-point 550 12 ≡ refused 1 0)
+
+-- document 02, item 5
+abbrev pub DeskTwoExample : Type 0
+DeskTwoExample =
+    -- 24 bytes are enough, 23 are not
+    (desk-number (desk-answer-two file 550 24) ≡ pos 10800) × (desk-number (desk-answer-two file 550 23) ≡ negℤ (pos 1000011))
+    -- the records of the segment read, and a byte after them: before the inner point, at it, at the last area
+    × (filled (desk-answer-two three 599 25) (segment-records three 599) (later ++ 9 ∷ []) ≡ records ++ 9 ∷ [])
+    × (filled (desk-answer-two three 600 25) (segment-records three 600) (records ++ 9 ∷ []) ≡ later ++ 9 ∷ [])
+    × (filled (desk-answer-two three 700 25) (segment-records three 700) (records ++ 9 ∷ []) ≡ later ++ 9 ∷ [])
+    × (desk-answer-two three 600 24 ≡ gives (pos 14000)) × (desk-answer-two three 700 24 ≡ gives (pos 24000))
+    -- beyond it: as found
+    × (filled (desk-answer-two three 701 25) (segment-records three 701) (later ++ 9 ∷ []) ≡ later ++ 9 ∷ [])
+    -- where the scratch length decides: three points and 24 bytes; one point and 12
+    × (desk-answer three 600 24 ≡ refused 11 0) × (desk-answer one-point 550 12 ≡ refused 1 0)
+    × (desk-answer-two one-point 550 12 ≡ refused 11 0) × (desk-answer-two one-point 550 24 ≡ refused 1 0)
+    -- rows 9 and 10 before it
+    × (desk-answer-two (85 ∷ one-point) 550 0 ≡ refused 9 0) × (desk-answer-two (one-point ++ 0 ∷ []) 550 0 ≡ refused 10 0)

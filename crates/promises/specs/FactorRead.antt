@@ -1,4 +1,4 @@
--- Document 01, "The words of the third demand": a factor read is one that Read, Pair, Sheet or the desk reading gives.
+-- Document 01, "The words of the third demand": a factor read is one that Read, Pair, Sheet or a desk reading gives.
 -- Assumes nothing.
 use Prim.Native.Nat.{ℕ, _<_}
 use mathlib.Core.Path.{_≡_}
@@ -13,7 +13,7 @@ use Rattle.model.specs.Read.{read-answer}
 use Rattle.model.specs.Sheet.{entry-area, sheet-answer, sheet-list}
 use Rattle.layout.specs.Layout.{shape-code, points-of}
 use Rattle.layout.specs.Head.{head-rows}
-use Rattle.desk.specs.Desk.{desk-answer, desk-number}
+use Rattle.desk_answer.specs.Desk.{desk-answer, desk-answer-two, desk-number}
 use Rattle.pair.specs.Pair.{Factors, pair-answer}
 
 -- a file with the curve's points and code
@@ -45,3 +45,6 @@ pub data FactorRead (c : Curve) : ℕ → ℤ → Type 0 where
       FactorRead c (entry-area start step index) (getD (list-of c start step out) index (pos 0))
   by-desk : (bytes : List ℕ) (x scratch : ℕ) (f : ℤ) → FileOf c bytes →
       desk-number (desk-answer bytes x scratch) ≡ f → negℤ (pos 1000000) ≤ℤ f → FactorRead c x f
+  -- document 02, item 5
+  by-desk-two : (bytes : List ℕ) (x scratch : ℕ) (f : ℤ) → FileOf c bytes →
+      desk-number (desk-answer-two bytes x scratch) ≡ f → negℤ (pos 1000000) ≤ℤ f → FactorRead c x f

@@ -19,7 +19,7 @@ use Rattle.model.specs.Interpolant.{rising-curve, convex-curve, curve, interpol
 use Rattle.model.specs.Shape.{rises, bends, fits, has-shape, segment-test}
 use Rattle.model.specs.Check.{bad-count, bad-code, bad-area, bad-value, bad-slope}
 use Rattle.model.specs.Check.{point-rows, segment-rows, curve-rows}
-use Rattle.model.specs.Read.{taken, value-in, exact-value, reading}
+use Rattle.model.specs.Read.{last-from, segment-read, exact-value, reading}
 use Rattle.model.specs.Sheet.{tabulate}
 use Rattle.layout.specs.Layout.{twos-complement, little-endian, record-at}
 use Rattle.layout.specs.Head.{wrong-mark, bad-head, bad-size, head-rows}
@@ -33,7 +33,7 @@ pub text-examples : TextExamples
 unfolding _over_ whole _+ℚ_ _-ℚ_ _*ℚ_ _/ℚ_ leℚ ltℚ eqℚ floorDiv floor round row _then_ gradient segments shape-of rule-of
     chord p q P Q rational r-rising r-convex rising-curve convex-curve curve interpolant exact-curve
     rises bends fits has-shape segment-test bad-count bad-code bad-area bad-value bad-slope point-rows segment-rows curve-rows
-    taken value-in exact-value reading tabulate
+    last-from segment-read exact-value reading tabulate
     twos-complement little-endian record-at wrong-mark bad-head bad-size head-rows short-list open-answer
     ascii digits-within decimal signed words-line entry-line entry-lines sheet-lines file-answer answer-text sheet-text file dips
 text-examples = (refl, refl, refl, refl)
