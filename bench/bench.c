@@ -27,6 +27,7 @@ enum { ARCHIVE, PLAIN, NATIVE, VERSIONS, STEFFEN = VERSIONS, SIDES };
 
 typedef struct {
     __typeof__(desk_reading) *desk;
+    __typeof__(desk_reading_two) *desk_two;
     __typeof__(curve_read) *read;
     __typeof__(curve_pair) *pair;
     __typeof__(curve_check) *check;
@@ -41,6 +42,7 @@ typedef struct {
 #define DECLARE(name)                                                          \
     __typeof__(name) plain_##name WEAK, native_##name WEAK;
 DECLARE(desk_reading)
+DECLARE(desk_reading_two)
 DECLARE(curve_read)
 DECLARE(curve_pair)
 DECLARE(curve_check)
@@ -51,9 +53,9 @@ DECLARE(curve_fill_slopes)
 __typeof__(steffen_sheet) steffen_sheet WEAK;
 
 #define ALL(prefix)                                                            \
-    {prefix##desk_reading, prefix##curve_read, prefix##curve_pair,             \
-     prefix##curve_check,  prefix##curve_open, prefix##curve_write,            \
-     prefix##curve_sheet,  prefix##curve_fill_slopes}
+    {prefix##desk_reading, prefix##desk_reading_two, prefix##curve_read,       \
+     prefix##curve_pair,   prefix##curve_check,      prefix##curve_open,       \
+     prefix##curve_write,  prefix##curve_sheet,      prefix##curve_fill_slopes}
 static const version versions[VERSIONS] = {ALL(), ALL(plain_), ALL(native_)};
 
 /* ---- inputs ---- */
@@ -141,6 +143,13 @@ static inline int64_t one_desk(const version *v, int i, output *to)
     const curve *c = &curves[i % CURVES];
     return v->desk(c->file, c->file_len, call_areas[i], to->scratch,
                    DESK_SCRATCH_MAX);
+}
+
+static inline int64_t one_desk_two(const version *v, int i, output *to)
+{
+    const curve *c = &curves[i % CURVES];
+    return v->desk_two(c->file, c->file_len, call_areas[i], to->scratch,
+                       DESK_SCRATCH_TWO);
 }
 
 static inline int64_t one_read(const version *v, int i, output *to)
@@ -239,6 +248,7 @@ typedef double batch_fn(const version *v, int loops);
         return timed(one_##name, v, CALLS, loops);                             \
     }
 BATCH(desk)
+BATCH(desk_two)
 BATCH(read)
 BATCH(pair)
 BATCH(check)
@@ -341,17 +351,17 @@ static void widen(call *c, const timing *t)
 
 static void print_head(void)
 {
-    printf("| %-12s | points | shape   | tariff  | archive |   plain | ratio "
+    printf("| %-16s | points | shape   | tariff  | archive |   plain | ratio "
            "|  native | ratio |     GSL | ratio |\n"
-           "|--------------|--------|---------|---------|---------|---------|"
-           "-------|---------|-------|---------|-------|\n",
+           "|------------------|--------|---------|---------|---------|"
+           "---------|-------|---------|-------|---------|-------|\n",
            "call");
 }
 
 static void print_row(const char *name, const char *shape, int count,
                       const char *tariff, const timing *t)
 {
-    printf("| %-12s | %6d | %-7s | %-7s | %7.2f |", name, count, shape, tariff,
+    printf("| %-16s | %6d | %-7s | %-7s | %7.2f |", name, count, shape, tariff,
            t->ns[ARCHIVE]);
     for (int k = PLAIN; k < SIDES; k++)
         if (k < t->sides)
@@ -402,6 +412,7 @@ int main(int argc, char **argv)
 {
     call calls[] = {
         CALL("desk reading", desk_reading, desk, CALLS, 4, 2),
+        CALL("desk reading two", desk_reading_two, desk_two, CALLS, 4, 2),
         CALL("sheet entry", curve_sheet, sheet, CURVES, 4, 2),
         CALL("read", curve_read, read, CALLS, 4, 2),
         CALL("pair", curve_pair, pair, CALLS, 4, 1),

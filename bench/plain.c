@@ -14,7 +14,7 @@ typedef struct {
     int32_t slope;
 } point;
 
-/* A refusal of the curve calls; the desk reading gives its number alone. */
+/* A refusal of the curve calls; the desk readings give its number alone. */
 static int64_t refused(int number, size_t place)
 {
     return -((INT64_C(1) << 32) * number + (int64_t)place);
@@ -216,15 +216,16 @@ static inline size_t find_record(const uint8_t *records, size_t count,
     return low;
 }
 
-int32_t plain_desk_reading(const uint8_t *bytes, size_t bytes_len,
+/* Either desk reading: the scratch gets the two points read between, or all. */
+static inline int32_t desk(const uint8_t *bytes, size_t bytes_len,
                            uint32_t area, uint8_t *scratch,
-                           size_t scratch_len)
+                           size_t scratch_len, int two)
 {
     int64_t fault = head_fault(bytes, bytes_len);
     if (fault)
         return desk_refused(fault);
     size_t count = bytes[6];
-    if (scratch_len < 12 * count)
+    if (two ? scratch_len < 24 : scratch_len < 12 * count)
         return desk_refused(refused(11, 0));
     const uint8_t *records = bytes + 7;
     fault = file_fault(bytes);
@@ -234,9 +235,29 @@ int32_t plain_desk_reading(const uint8_t *bytes, size_t bytes_len,
         return desk_refused(refused(7, 0));
     const uint8_t *left = records + 12 * find_record(records, count, area);
     point l = load_point(left), r = load_point(left + 12);
+    if (two) {
+        /* Taken first: the compiler cannot know that the copy leaves it. */
+        uint32_t shape = bytes[5];
+        memcpy(scratch, left, 24);
+        return segment_factor(l, r, shape, area);
+    }
     /* Not memcpy: gcc 12 puts rep movs for it, which is slow to start. */
     memmove(scratch, records, 12 * count);
     return segment_factor(l, r, bytes[5], area);
+}
+
+int32_t plain_desk_reading(const uint8_t *bytes, size_t bytes_len,
+                           uint32_t area, uint8_t *scratch,
+                           size_t scratch_len)
+{
+    return desk(bytes, bytes_len, area, scratch, scratch_len, 0);
+}
+
+int32_t plain_desk_reading_two(const uint8_t *bytes, size_t bytes_len,
+                               uint32_t area, uint8_t *scratch,
+                               size_t scratch_len)
+{
+    return desk(bytes, bytes_len, area, scratch, scratch_len, 1);
 }
 
 int64_t plain_curve_open(const uint8_t *bytes, size_t bytes_len,

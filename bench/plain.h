@@ -13,6 +13,10 @@ int32_t plain_desk_reading(const uint8_t *bytes, size_t bytes_len,
                            uint32_t area, uint8_t *scratch,
                            size_t scratch_len);
 
+int32_t plain_desk_reading_two(const uint8_t *bytes, size_t bytes_len,
+                               uint32_t area, uint8_t *scratch,
+                               size_t scratch_len);
+
 int64_t plain_curve_check(const uint32_t *areas, size_t areas_len,
                           const uint32_t *values, size_t values_len,
                           const int32_t *slopes, size_t slopes_len,

@@ -1,5 +1,6 @@
 /*
- * desk.h: read one factor from a curve file.
+ * desk.h: read one factor from a curve file. desk_reading wants a scratch of 12
+ * bytes for each point, desk_reading_two one of 24 bytes for any file.
  *
  * Link with libfactor_curves. C99 or later, and C++. The other calls, and the
  * refusal numbers in words, are in factor_curves.h, which this includes.
@@ -36,6 +37,8 @@ extern "C" {
 #define DESK_SCRATCH_MAX (DESK_POINT_BYTES * DESK_POINTS_MAX)
 /* The scratch for any file at all: with this much, never refusal 11. */
 #define DESK_SCRATCH_ENOUGH (DESK_POINT_BYTES * DESK_COUNT_MAX)
+/* The scratch of desk_reading_two for any file at all: two points. */
+#define DESK_SCRATCH_TWO 24
 
 /*
  * The refusal numbers of factor_curves.h under a desk's names. If several
@@ -53,7 +56,7 @@ extern "C" {
 #define DESK_REFUSED_LENGTH CURVE_REFUSED_LENGTH
 #define DESK_REFUSED_SCRATCH CURVE_REFUSED_ROOM
 
-/* Whether an answer of desk_reading is a refusal, and if so its number. */
+/* Whether an answer of a desk reading is a refusal, and if so its number. */
 #define DESK_IS_REFUSED(answer) ((answer) < -1000000)
 #define DESK_REFUSAL(answer) (-1000000 - (answer))
 
@@ -89,6 +92,21 @@ extern "C" {
  */
 int32_t desk_reading(const uint8_t *bytes, size_t bytes_len, uint32_t area,
                      uint8_t *scratch, size_t scratch_len);
+
+/*
+ * The same factor for a terminal with little memory to lend: the scratch needs
+ * DESK_SCRATCH_TWO bytes, whatever the file's count. Fewer are refusal 11, at
+ * its place in the order. Otherwise the answer is what desk_reading returns
+ * with a scratch that is long enough. The caller owes the same.
+ *
+ * With a factor, the first 24 bytes of the scratch are the file's records of
+ * the two points between which it was read, the left one first: those of the
+ * last segment that begins at the area or before it. So an inner point's area
+ * is read in the segment on its right, the last area in the last segment. The
+ * other bytes keep what they held; with a refusal the whole scratch does.
+ */
+int32_t desk_reading_two(const uint8_t *bytes, size_t bytes_len, uint32_t area,
+                         uint8_t *scratch, size_t scratch_len);
 
 #ifdef __cplusplus
 }

@@ -31,16 +31,19 @@ import exact_fractions as ref
 import file_kinds
 import list_kinds
 import slope_kinds
+import two_kinds
 
 SEED = 'factor curves 2'
 CHUNK = 500                     # cases that one random generator makes
-CALLS = ['desk', 'check', 'read', 'pair', 'sheet', 'open', 'write',
+CALLS = ['desk', 'desk_two', 'check', 'read', 'pair', 'sheet', 'open', 'write',
          'fill_slopes']
+DESKS = ('desk', 'desk_two')
+ON_FILES = (*DESKS, 'open')
 LIMITS = [(0, 20000), (0, 200000), (-10000, -1, 0, 1, 10000)]
 SLOPE_LIMITS = {1: (0, 1, 10000), 2: LIMITS[2], 3: (-10000, -1, 0),
                 4: LIMITS[2]}
 SHAPES = (1, 2, 3, 4)
-READING = ('desk', 'read', 'pair', 'sheet')
+READING = (*DESKS, 'read', 'pair', 'sheet')
 HEAD = struct.Struct('<BBB3I4Iq')
 PERIODS = [bytes(1 + (fill + 31 * i) % 255 for i in range(255))
            for fill in range(256)]
@@ -66,9 +69,12 @@ def points_packed(lists):
 
 # ---- one function for each call: answer, numbers, lists ----
 
-def desk(fill, data, area, length):
-    answer, after = ref.desk(data, area, found(fill, length))
-    return answer, [area], [data, after]
+def on_scratch(reading):
+    """The function for a desk reading."""
+    def desk(fill, data, area, length):
+        answer, after = reading(data, area, found(fill, length))
+        return answer, [area], [data, after]
+    return desk
 
 
 def check(_, lists, shape):
@@ -113,9 +119,10 @@ def fill_slopes(fill, lists, length):
                         packed('i', after)]
 
 
-FUNCTIONS = [desk, check, read, pair, sheet, open_file, write, fill_slopes]
-WIDTHS = [(1, 1), (4, 4, 4), (4, 4, 4), (4,) * 4, (4,) * 4, (1, 4, 4, 4),
-          (4, 4, 4, 1), (4, 4, 4)]
+FUNCTIONS = [on_scratch(ref.desk), on_scratch(ref.desk_two), check, read, pair,
+             sheet, open_file, write, fill_slopes]
+WIDTHS = [(1, 1), (1, 1), (4, 4, 4), (4, 4, 4), (4,) * 4, (4,) * 4,
+          (1, 4, 4, 4), (4, 4, 4, 1), (4, 4, 4)]
 
 
 def expected(fill, call, arguments):
@@ -136,14 +143,14 @@ def record(kind, fill, call, answer, extra, lists):
 
 def outcome(call, answer):
     """('ok', result), or a refusal's number and place."""
-    if call == 'desk':
+    if call in DESKS:
         return ('ok', answer) if answer > -1000000 else (-1000000 - answer, 0)
     return ('ok', answer) if answer > -2**32 else divmod(-answer, 2**32)
 
 
 def curve_of(call, arguments):
     """Shape and count, if rows 9 and 10 are passed."""
-    if call in ('desk', 'open'):
+    if call in ON_FILES:
         return arguments[0][5], arguments[0][6]
     shape = ref.RISING if call == 'fill_slopes' else arguments[1]
     return shape, len(arguments[0][0])
@@ -151,7 +158,7 @@ def curve_of(call, arguments):
 
 def lists_of(call, arguments):
     """The lists of a curve, of a file's too."""
-    if call in ('desk', 'open'):
+    if call in ON_FILES:
         return ref.file_lists(arguments[0])
     return arguments[0]
 
@@ -166,7 +173,7 @@ def limits_of(call, arguments):
 
 
 def areas_read(call, arguments):
-    if call == 'desk':
+    if call in DESKS:
         return arguments[1:2]
     if call == 'sheet':
         _, _, start, step, length = arguments
@@ -203,6 +210,24 @@ def noted_of_write(arguments, number, place):
         yield 'short' if room < 0 else 'enough', number, place
     if length == 0:
         yield 'no bytes', number
+
+
+def noted_of_two(arguments, number):
+    """What a case of the second desk reading shows of its scratch, and where
+    in its segment the area lies."""
+    data, area, length = arguments
+    if number == 11:                            # what a longer one would give
+        number, _ = outcome('desk_two', ref.desk_two(data, area, bytes(24))[0])
+    if length in two_kinds.LENGTHS:
+        yield 'scratch', number, length
+    if number not in (9, 10) and length in two_kinds.lengths(data[6]):
+        yield 'scratch of', data[6], length
+    if number == 'ok' and data[6] in two_kinds.ACCEPTED:
+        areas, _, _ = ref.file_lists(data)
+        segment = ref.segment_read(areas, area)
+        for end in (0, 1):
+            yield ('segment', data[5], data[6], segment, end,
+                   max(-2, min(area - areas[segment + end], 2)))
 
 
 def position(count, point):
@@ -243,6 +268,8 @@ def noted_of_fill(arguments, number, place):
 def noted(call, arguments, answer):
     """What this case shows: a refusal, or an accepted curve."""
     number, result = outcome(call, answer)
+    if call == 'desk_two':
+        yield from noted_of_two(arguments, number)
     if call == 'write':
         yield from noted_of_write(arguments, number, result)
     if call == 'fill_slopes':
@@ -289,7 +316,7 @@ def wanted_of_reading():
 def wanted_of_codes(call):
     """Codes that row 2 must have refused."""
     codes = [0, 5, 255]
-    if call not in ('desk', 'open'):
+    if call not in ON_FILES:
         for shape in SHAPES:
             codes += list_kinds.far_codes(shape)
     for code in codes:
@@ -304,9 +331,25 @@ def wanted_of_rows(call):
         for count in range(2, 65):
             yield call, 'ok', shape, count
         for number in (3, 4, 5, 6):
-            places = 1 if call == 'desk' else 63 if number == 6 else 64
+            places = 1 if call in DESKS else 63 if number == 6 else 64
             for place in range(places):
                 yield call, number, place, shape
+
+
+def wanted_of_two():
+    """What the second desk reading must have shown: each number with each
+    scratch, each count, and each segment's areas at and beside its ends."""
+    for length in two_kinds.LENGTHS:
+        for number in ('ok', 1, 2, 3, 4, 5, 6, 7, 9, 10):
+            yield 'scratch', number, length
+    for count in two_kinds.COUNTS:
+        for length in two_kinds.lengths(count):
+            yield 'scratch of', count, length
+    for shape, count in itertools.product(SHAPES, two_kinds.ACCEPTED):
+        for segment in range(count - 1):
+            for end, beside in ((0, 0), (0, 1), (1, -1)):
+                yield 'segment', shape, count, segment, end, beside
+        yield 'segment', shape, count, count - 2, 1, 0
 
 
 def wanted_of_write():
@@ -351,17 +394,19 @@ def wanted_of_fill():
 def wanted():
     """All that a whole run must have seen."""
     yield from wanted_of_limits()
+    yield from wanted_of_two()
     yield from wanted_of_write()
     yield from wanted_of_fill()
     yield from wanted_of_reading()
     for call in CALLS:
         if call != 'fill_slopes':
             yield from wanted_of_rows(call)
-    for call in ('open', 'desk'):
+    for call in ON_FILES:
         for number in (9, 10, 11):
             yield call, number, 0
-    yield from [('desk', 7, 0), ('read', 7, 0), ('pair', 7, 0), ('pair', 7, 1),
-                ('pair', 11, 0), ('sheet', 8, 0), ('write', 12, 0)]
+    yield from [('desk', 7, 0), ('desk_two', 7, 0), ('read', 7, 0),
+                ('pair', 7, 0), ('pair', 7, 1), ('pair', 11, 0),
+                ('sheet', 8, 0), ('write', 12, 0)]
     for place in range(list_kinds.ENTRIES_MAX):
         yield 'sheet', 7, place
     for entries in (1, 2, 1023, 1024):
@@ -371,17 +416,21 @@ def wanted():
 # ---- kinds ----
 
 def on_files(kind):
-    """The desk reading, and another call, on each file of a kind."""
+    """The desk reading, and another call, on each file of a kind; on one of
+    four also the second desk reading, its scratch as much short or longer."""
     def cases(rng):
         for data, area, length in kind(rng):
             yield 'desk', data, area, length
             yield list_kinds.further(rng, data, area)
+            if rng.random() < 0.25:
+                more = length - 12 * (data[6] if len(data) > 6 else 0)
+                yield 'desk_two', data, area, max(0, 24 + more)
     return cases
 
 
-KINDS = [(on_files(kind), name, 2 * least)
+KINDS = [(on_files(kind), name, 9 * least // 4)
          for kind, name, least in file_kinds.KINDS]
-KINDS += list_kinds.KINDS + slope_kinds.KINDS
+KINDS += list_kinds.KINDS + slope_kinds.KINDS + two_kinds.KINDS
 
 
 def chunk(job):

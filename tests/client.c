@@ -9,8 +9,10 @@
  * the refusal numbers that it can give. Each case is run with its lists at
  * the start and at the end of pages, against pages that trap. What was written
  * is opened again and must be the lists that went in; what was opened is
- * written again and must be the file that went in. Slopes that were filled
- * must be accepted, and be the same whatever the list held before.
+ * written again and must be the file that went in. Where the scratch is long
+ * enough, a desk reading gives the number that the other one gives, and Open
+ * and Read. Slopes that were filled must be accepted, and be the same whatever
+ * the list held before.
  *
  *     heap    each list is a block of its own, for a memory checker
  *     some    not every call and refusal is asked for
@@ -33,9 +35,14 @@ static unsigned long called[CALLS], refusals[CALLS][NUMBER_MAX + 1];
 static int use_heap, some, first;
 static test_case current;
 
+static int is_desk(int call)
+{
+    return call == DESK || call == DESK_TWO;
+}
+
 static int refusal_number(int call, int64_t answer)
 {
-    if (call == DESK)
+    if (is_desk(call))
         return DESK_IS_REFUSED(answer) ? (int)DESK_REFUSAL(answer) : 0;
     return CURVE_IS_REFUSED(answer) ? CURVE_REFUSAL(answer) : 0;
 }
@@ -108,8 +115,8 @@ static void compare(const test_case *c, int64_t got, uint8_t *const list[])
     }
 }
 
-/* Open and Read on the file say what the desk reading says. */
-static int desk_agrees(const test_case *c, const uint8_t *file, int64_t desk)
+/* By Open and Read, as a desk reading gives it. */
+static int64_t opened_and_read(const test_case *c, const uint8_t *file)
 {
     uint32_t areas[CURVE_COUNT_MAX], values[CURVE_COUNT_MAX];
     int32_t slopes[CURVE_COUNT_MAX];
@@ -121,12 +128,34 @@ static int desk_agrees(const test_case *c, const uint8_t *file, int64_t desk)
         other = curve_read(areas, count, values, count, slopes, count,
                            CURVE_SHAPE(other), c->number[0]);
     }
-    if (CURVE_IS_REFUSED(other))
-        other = -1000000 - CURVE_REFUSAL(other);
+    return CURVE_IS_REFUSED(other) ? -1000000 - CURVE_REFUSAL(other) : other;
+}
+
+/* By the other desk reading, with a scratch that is enough for any file. */
+static int64_t other_desk(const test_case *c, const uint8_t *file)
+{
+    uint8_t all[DESK_SCRATCH_ENOUGH], two[DESK_SCRATCH_TWO];
+    if (c->call == DESK)
+        return desk_reading_two(file, c->length[0], c->number[0], two,
+                                sizeof two);
+    return desk_reading(file, c->length[0], c->number[0], all, sizeof all);
+}
+
+/* The number of a desk reading, and that of a call without a short scratch. */
+static int agrees(int64_t desk, int64_t other)
+{
     if (desk == -1000000 - DESK_REFUSED_SCRATCH)
         return other != -1000000 - DESK_REFUSED_MARK &&
                other != -1000000 - DESK_REFUSED_LENGTH;
     return desk == other;
+}
+
+static void check_desk(const test_case *c, const uint8_t *file, int64_t desk)
+{
+    if (!agrees(desk, opened_and_read(c, file)))
+        show(c, desk, "Open and Read say something else", -1);
+    if (!agrees(desk, other_desk(c, file)))
+        show(c, desk, "the other desk reading says something else", -1);
 }
 
 /* The bytes that were written open as the lists that went in. */
@@ -229,8 +258,8 @@ static void run_case(const test_case *c, int where)
         check_filled(c, list, got);
     if (!guards_are_whole(c, where, list))
         show(c, got, "entries beside a list were changed", -1);
-    if (c->call == DESK && !desk_agrees(c, list[0], got))
-        show(c, got, "Open and Read say something else", -1);
+    if (is_desk(c->call))
+        check_desk(c, list[0], got);
     if (!comes_back(c, list, got))
         show(c, got, "not the same after Write and Open", -1);
     give_back(where, list);
@@ -263,10 +292,11 @@ static void run_all(test_case *c)
 static int can_give(int call, int number)
 {
     static const char *const numbers[CALLS] = {
-        [DESK] = "1111111101110", [CHECK] = "1111111000000",
-        [READ] = "1111111100000", [PAIR] = "1111111100010",
-        [SHEET] = "1111111110000", [OPEN] = "1111111001110",
-        [WRITE] = "1111111000001", [FILL_SLOPES] = "1101111000000"};
+        [DESK] = "1111111101110", [DESK_TWO] = "1111111101110",
+        [CHECK] = "1111111000000", [READ] = "1111111100000",
+        [PAIR] = "1111111100010", [SHEET] = "1111111110000",
+        [OPEN] = "1111111001110", [WRITE] = "1111111000001",
+        [FILL_SLOPES] = "1101111000000"};
     return numbers[call][number] == '1';
 }
 

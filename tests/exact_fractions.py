@@ -309,26 +309,44 @@ def write(areas, values, slopes, shape, buffer):
     return ('ok', len(data), data + buffer[len(data):])
 
 
-def desk(data, area, scratch):
+def desk_reading(data, area, scratch, room, points):
     """Rows 9, 10, 11, 1 to 6, then 7.
 
     Gives (number, scratch after the call). The number is the factor, or
-    -1,000,000 less the refusal number.
+    -1,000,000 less the refusal number. `room`: the bytes of scratch that a
+    count needs. `points`: of the areas, and the area read, the points whose
+    records the scratch then begins with.
     """
     number = file_fault(data)
     if number is not None:
         return -1000000 - number, scratch
     shape, count = data[5], data[6]
-    if len(scratch) < 12 * count:
+    if len(scratch) < room(count):
         return -1000000 - 11, scratch
     areas, values, slopes = file_lists(data)
     # Row 1 speaks of the file's count alone: these lists have that length.
     answer = read(areas, values, slopes, shape, area)
     if answer[0] == 'refused':
         return -1000000 - answer[1], scratch
-    # The point records in file order; the other bytes as found.
-    records = data[7:7 + 12 * count]
-    return answer[1], records + scratch[12 * count:]
+    # The records in file order; the other bytes as found.
+    kept = points(areas, area)
+    records = data[7 + 12 * kept[0]:7 + 12 * kept[-1] + 12]
+    return answer[1], records + scratch[len(records):]
+
+
+def desk(data, area, scratch):
+    """12 bytes for each point, and then all records."""
+    return desk_reading(data, area, scratch, lambda count: 12 * count,
+                        lambda areas, area: range(len(areas)))
+
+
+def desk_two(data, area, scratch):
+    """Document 02, item 5: 24 bytes, and then the two records of the segment
+    read."""
+    def points(areas, area):
+        segment = segment_read(areas, area)
+        return segment, segment + 1
+    return desk_reading(data, area, scratch, lambda count: 24, points)
 
 
 # ---- Document 02, item 2: slopes by the harmonic rule ----

@@ -1,9 +1,9 @@
 """Document 01's examples as cases for client.c, to standard output.
 
 The expected answers are those that document 01 states, and document 02 of the
-file that is written; filled slopes, and falling and concave curves, are worked
-out by hand. If exact_fractions.py gives another, it is said and the exit status
-is 1.
+file that is written and of the second desk reading; filled slopes, and falling
+and concave curves, are worked out by hand. If exact_fractions.py gives another,
+it is said and the exit status is 1.
 """
 
 import sys
@@ -31,12 +31,13 @@ def refusal(number, place):
 # ---- cases: call, arguments, answer, written lists (None: as found) ----
 
 def reads(points, shape, area, factor):
-    """By each call that reads a factor."""
+    """By each call that reads a factor, of two points."""
     lists, data = curves.lists(points), curve_file(points, shape)
     yield 'read', (lists, shape, area), factor, None
     yield 'pair', (lists, shape, area, area, 3), 3, [[factor, factor, 0]]
     yield 'sheet', (lists, shape, area, 1, 1), 1, [[factor]]
     yield 'desk', (data, area, len(data) - 7), factor, [data[7:]]
+    yield 'desk_two', (data, area, 24), factor, [data[7:]]
 
 
 def refused(points, shape, area, number, place):
@@ -47,6 +48,7 @@ def refused(points, shape, area, number, place):
     yield 'pair', (lists, shape, area, area, 3), answer, None
     yield 'sheet', (lists, shape, area, 1, 1), answer, None
     yield 'desk', (data, area, len(data) - 7), -1000000 - number, None
+    yield 'desk_two', (data, area, 24), -1000000 - number, None
 
 
 def passes(points, shape):
@@ -86,6 +88,45 @@ def file_31_bytes():
     yield 'write', (steep, 2, 31), 31, [data]
     yield 'write', (steep, 2, 33), 31, [data + cases.found(FILL, 33)[31:]]
     yield 'write', (steep, 2, 30), refusal(12, 0), None
+
+
+def two_records():
+    """K1 behind a level segment: the records of the segment read."""
+    data = bytes.fromhex('54 52 46 01 00 01 03'
+                         '90 01 00 00 10 27 00 00 00 00 00 00'
+                         'F4 01 00 00 10 27 00 00 00 00 00 00'
+                         '58 02 00 00 B0 36 00 00 10 27 00 00')
+    left, right = data[7:31], data[19:43]
+    for area, factor, records in (
+            (400, 10000, left), (401, 10000, left), (499, 10000, left),
+            (500, 10000, right), (525, 10229, right), (550, 10889, right),
+            (600, 14000, right)):
+        yield 'desk_two', (data, area, 24), factor, [records]
+        for length in (25, 35, 36, 40):
+            after = records + cases.found(FILL, length)[24:]
+            yield 'desk_two', (data, area, length), factor, [after]
+        yield 'desk', (data, area, 36), factor, [data[7:]]
+    for area, length, number in ((399, 24, 7), (601, 36, 7), (550, 23, 11),
+                                 (399, 23, 11), (550, 0, 11)):
+        yield 'desk_two', (data, area, length), -1000000 - number, None
+
+
+def two_scratches():
+    """Where the length of the scratch decides: count, and length with the
+    number of the first desk reading and of the second."""
+    for count, lengths in (
+            (0, ((0, 1, 11), (23, 1, 11), (24, 1, 1))),
+            (1, ((11, 11, 11), (12, 1, 11), (23, 1, 11), (24, 1, 1))),
+            (65, ((0, 11, 11), (23, 11, 11), (24, 11, 1), (780, 1, 1))),
+            (255, ((24, 11, 1), (3059, 11, 1), (3060, 1, 1)))):
+        data = curve_file(flat(count, 1), 1)
+        for length, first, second in lengths:
+            yield 'desk', (data, 0, length), -1000000 - first, None
+            yield 'desk_two', (data, 0, length), -1000000 - second, None
+        for call in ('desk', 'desk_two'):
+            yield call, (data + b'x', 0, 0), -1000010, None
+            yield call, (b'X' + data[1:], 0, 0), -1000009, None
+            yield call, (data[:6], 0, 0), -1000009, None
 
 
 def sheet_entries():
@@ -147,6 +188,9 @@ EXAMPLES = [
     ('a sheet of 1,024 entries passes, 1,025: refused 8', sheet_entries()),
     # The curve file.
     ('the file of 31 bytes', file_31_bytes()),
+    # The second desk reading.
+    ('two records of three', two_records()),
+    ('where the scratch decides', two_scratches()),
     # Falling and concave curves.
     ('118000/9 reads 13,111', reads(DOWN, 3, 550, 13111)),
     ('13200 reads 13,200', reads(DOWN, 4, 550, 13200)),
@@ -187,7 +231,7 @@ def written(call, arguments, after):
     """The lists that are lent to be written, after the call, as bytes."""
     if call in ('check', 'read'):
         return []
-    if call in ('desk', 'write'):
+    if call in ('desk', 'desk_two', 'write'):
         return after or [cases.found(FILL, arguments[-1])]
     if after is None:
         lengths = arguments[-1] if call == 'open' else arguments[-1:]

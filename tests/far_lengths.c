@@ -98,18 +98,31 @@ static void open_far_lists(void)
     uint32_t *a = far_list(found, sizeof found);
     uint32_t *v = far_list(found, sizeof found);
     int32_t *s = far_list(found, sizeof found);
-    uint8_t *scratch = far_list(found, sizeof found);
     expect("file", curve_open(bytes, FAR + 31, a, 2, v, 2, s, 2),
            REFUSED(10));
-    expect("file", desk_reading(bytes, FAR + 31, 550, scratch, 24), -1000010);
-    expect("as found", a[0] == 7 && v[0] == 7 && s[0] == 7 && scratch[0] == 7,
-           1);
+    expect("as found", a[0] == 7 && v[0] == 7 && s[0] == 7, 1);
     expect("open", curve_open(bytes, 31, a, FAR, v, FAR + 1, s, FAR), 514);
     expect("areas", a[0] == 500 && a[1] == 600 && a[2] == 7, 1);
     expect("values", v[0] == 10000 && v[1] == 14000 && v[2] == 7, 1);
     expect("slopes", s[0] == 0 && s[1] == 10000 && s[2] == 7, 1);
-    expect("desk", desk_reading(bytes, 31, 550, scratch, FAR), 10800);
-    expect("records", memcmp(scratch, file + 7, 24), 0);
+}
+
+/* By a desk reading: a far file, and scratches of FAR bytes and more. */
+static void read_at_desk(int32_t (*desk)(const uint8_t *, size_t, uint32_t,
+                                         uint8_t *, size_t))
+{
+    static const uint8_t found[25] = {7, [24] = 7};
+    uint8_t *bytes = far_list(file, sizeof file);
+    uint8_t *scratch = far_list(found, sizeof found);
+    expect("file", desk(bytes, FAR + 31, 550, scratch, 24), -1000010);
+    expect("outside", desk(bytes, 31, 601, scratch, FAR), -1000007);
+    expect("as found", memcmp(scratch, found, sizeof found), 0);
+    for (size_t more = 0; more < 25; more += 8) {
+        memcpy(scratch, found, sizeof found);
+        expect("desk", desk(bytes, 31, 550, scratch, FAR + more), 10800);
+        expect("records", memcmp(scratch, file + 7, 24), 0);
+        expect("byte after them", scratch[24], 7);
+    }
 }
 
 static void write_far_buffer(void)
@@ -154,6 +167,8 @@ int main(void)
     read_far_lists();
     write_far_lists();
     open_far_lists();
+    read_at_desk(desk_reading);
+    read_at_desk(desk_reading_two);
     write_far_buffer();
     fill_far_slopes();
     printf("%d tests, %d failures\n", tests, failures);

@@ -31,6 +31,7 @@ static void sizes(void)
                        DESK_FILE_MAX == 7 + 12 * 64);
     expect("scratch", DESK_SCRATCH_MAX == 12 * 64);
     expect("any scratch", DESK_SCRATCH_ENOUGH == 12 * 255);
+    expect("scratch of two", DESK_SCRATCH_TWO == 24);
 }
 
 /* Document 01, Refusals and their places; document 02, item 1: number 12. */
@@ -113,8 +114,8 @@ static void calls(void)
                     size_t, int32_t *, size_t) = curve_open;
     int64_t (*fill)(const uint32_t *, size_t, const uint32_t *, size_t,
                     int32_t *, size_t) = curve_fill_slopes;
-    int32_t (*desk)(const uint8_t *, size_t, uint32_t, uint8_t *, size_t) =
-        desk_reading;
+    int32_t (*desk[])(const uint8_t *, size_t, uint32_t, uint8_t *, size_t) = {
+        desk_reading, desk_reading_two};
     uint32_t a[] = {500, 600}, v[] = {10000, 14000};
     int32_t s[] = {0, 10000}, out[3];
     uint8_t file[CURVE_FILE_MAX], scratch[DESK_SCRATCH_MAX];
@@ -124,7 +125,8 @@ static void calls(void)
     expect("sheet", sheet(a, 2, v, 2, s, 2, CURVE_CONVEX, 550, 1, out, 3) == 3);
     expect("write", write(a, 2, v, 2, s, 2, CURVE_CONVEX, file, 775) == 31);
     expect("open", open(file, 31, a, 2, v, 2, s, 2) == 256 * CURVE_CONVEX + 2);
-    expect("desk", desk(file, 31, 550, scratch, 24) == 10800);
+    for (int i = 0; i < 2; i++)
+        expect("desk", desk[i](file, 31, 550, scratch, 24) == 10800);
     expect("fill", fill(a, 2, v, 2, s, 2) == 2);
     expect("filled", s[0] == 4000 && s[1] == 4000 &&
                          check(a, 2, v, 2, s, 2, CURVE_RISING) == 1);
@@ -146,6 +148,8 @@ static void mirrored(void)
     answer = curve_write(wide, 2, level, 2, bent, 2, CURVE_CONCAVE, file, 31);
     expect("concave, by the desk",
            answer == 31 && desk_reading(file, 31, 1000, scratch, 24) == 250000);
+    expect("concave, by the second desk reading",
+           desk_reading_two(file, 31, 1000, scratch, 24) == 250000);
 }
 
 int main(void)

@@ -3,7 +3,7 @@
 A case is a call's name and its arguments; a list that is lent to be written
 is given by its length:
 
-    'desk', file, area, scratch length
+    'desk', file, area, scratch length; 'desk_two' likewise
     'check', lists, shape
     'read', lists, shape, area
     'pair', lists, shape, form area, plan area, length of out
@@ -111,6 +111,7 @@ def all_calls(rng, points, shape, area):
     yield 'sheet', lists, shape, area, 1, 1
     yield 'open', data, (data[6], data[6] + rng.randrange(3), data[6])
     yield 'desk', data, area, 12 * data[6]
+    yield 'desk_two', data, area, 24
     yield 'write', lists, shape, len(data) + rng.randrange(2)
     yield 'fill_slopes', lists[:2], len(points)
 

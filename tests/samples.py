@@ -143,14 +143,21 @@ def test_files():
 
 # ---- the quoting desk ----
 
-def quoted(data, area):
-    """What quote begins with, and its exit status."""
-    answer, _ = ref.desk(data, area, bytes(3060))
+def quoted(data, area, two):
+    """What quote begins with, and its exit status; two: with -2."""
+    if two:
+        answer, scratch = ref.desk_two(data, area, bytes(24))
+    else:
+        answer, _ = ref.desk(data, area, bytes(3060))
     if answer < -1000000:
         return 'refused %d: ' % (-1000000 - answer), 1
     sign = '-' if answer < 0 else ''
     whole, part = divmod(abs(answer), 10000)
-    return 'factor %s%d.%04d (%d units)\n' % (sign, whole, part, answer), 0
+    text = 'factor %s%d.%04d (%d units)\n' % (sign, whole, part, answer)
+    if two:
+        text += 'between %d and %d\n' % tuple(
+            int.from_bytes(scratch[at:at + 4], 'little') for at in (0, 12))
+    return text, 0
 
 
 def run(*words, data=None):
@@ -158,23 +165,70 @@ def run(*words, data=None):
                           stderr=subprocess.PIPE, timeout=60)
 
 
+def areas_quoted(name, data):
+    """Of an accepted curve also its first, an inner and its last point's."""
+    yield from (0, 1, 499, 500, 550, 1000, 1999, 20000, 2**32 - 1)
+    if name not in REFUSED:
+        areas, _, _ = ref.file_lists(data)
+        inner = areas[len(areas) // 2]
+        yield from (areas[0], inner - 1, inner, inner + 1, areas[-1])
+
+
 def test_quote(program):
     for name, data in sample_files():
         path = os.path.join(SAMPLES, name)
-        for area in (0, 1, 499, 500, 550, 1000, 1999, 20000, 2**32 - 1):
-            wanted, status = quoted(data, area)
-            got = run(program, path, str(area))
-            text = got.stdout.decode()
-            expect('quote %s %d' % (name, area),
-                   (text[:len(wanted)], got.returncode, text.count('\n')),
-                   (wanted, status, 1))
-            expect('reason', 'unknown' in text, False)
+        for area in areas_quoted(name, data):
+            for options in ((), ('-2',)):
+                wanted, status = quoted(data, area, bool(options))
+                got = run(program, *options, path, str(area))
+                text = got.stdout.decode()
+                expect('quote %s %s %d' % (options, name, area),
+                       (text[:len(wanted)], got.returncode, text.count('\n')),
+                       (wanted, status, max(1, wanted.count('\n'))))
+                expect('reason', 'unknown' in text, False)
+    test_quote_two(program)
+    test_quote_usage(program)
+
+
+def test_quote_two(program):
+    """The points of samples/rising.txt that -2 reads between."""
+    path = os.path.join(SAMPLES, 'rising.trf')
+    for area, said in ((300, 'between 300 and 500'),
+                       (499, 'between 300 and 500'),
+                       (500, 'between 500 and 800'),
+                       (1499, 'between 1200 and 1500'),
+                       (1500, 'between 1500 and 2500'),
+                       (4000, 'between 2500 and 4000')):
+        got = run(program, '-2', path, str(area))
+        lines = got.stdout.decode().split('\n')
+        expect('-2 at %d' % area, (got.returncode, lines[1:]), (0, [said, '']))
+    for area in (299, 4001):
+        got = run(program, '-2', path, str(area))
+        expect('-2 at %d' % area, (got.returncode, got.stdout[:11]),
+               (1, b'refused 7: '))
+
+
+def test_quote_usage(program):
     good = os.path.join(SAMPLES, 'document-01.trf')
     for words in ((), (good,), (good, ''), (good, '-1'), (good, '5x'),
-                  (good, str(2**32)), ('/no/such/file', '1')):
-        got = run(program, *words)
-        expect('quote %r' % (words,), (got.returncode, got.stdout), (2, b''))
-        expect('a message', len(got.stderr) > 0, True)
+                  (good, str(2**32)), (good, '550', '-2'),
+                  (good, '550', '550'), ('-2',), ('-2', good), ('-2', '550'),
+                  ('-2', '-2', '550'), ('-2', good, '5x'),
+                  ('-2', good, '550', '550'), ('-2', '-2', good, '550'),
+                  ('-3', '550'), ('-3', good, '550'), ('-22', good, '550'),
+                  ('-', good, '550'), ('--two', good, '550')):
+        expect_message(b'usage: ', program, *words)
+    for options in ((), ('-2',)):
+        expect_message(b'quote: cannot read /no/such/file', program, *options,
+                       '/no/such/file', '1')
+
+
+def expect_message(said, *words):
+    """Exit status 2, and standard error begins so."""
+    got = run(*words)
+    expect('quote %r' % (words[1:],),
+           (got.returncode, got.stdout, got.stderr[:len(said)]),
+           (2, b'', said))
 
 
 # ---- the program ratesheet ----

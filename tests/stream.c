@@ -9,13 +9,14 @@
 #define FILE_BYTES {1, 0}
 #define POINT_LISTS {4, 0}, {4, 0}, {4, 0}
 
-const char *const call_names[CALLS] = {"desk_reading", "curve_check",
-                                       "curve_read",   "curve_pair",
-                                       "curve_sheet",  "curve_open",
-                                       "curve_write",  "curve_fill_slopes"};
+const char *const call_names[CALLS] = {
+    "desk_reading", "desk_reading_two", "curve_check",
+    "curve_read",   "curve_pair",       "curve_sheet",
+    "curve_open",   "curve_write",      "curve_fill_slopes"};
 
 const list_form forms[CALLS][LISTS] = {
     [DESK] = {FILE_BYTES, {1, 1}},
+    [DESK_TWO] = {FILE_BYTES, {1, 1}},
     [CHECK] = {POINT_LISTS},
     [READ] = {POINT_LISTS},
     [PAIR] = {POINT_LISTS, {4, 1}},
@@ -110,6 +111,8 @@ void fill_list(uint8_t *list, size_t size, uint8_t fill)
         list[i] = (uint8_t)(1 + (fill + 31 * i) % 255);
 }
 
+#define FILE_AND_SCRATCH list[0], c->length[0], number[0], list[1],           \
+                         c->length[1]
 #define THREE_LISTS (const uint32_t *)list[0], c->length[0],                  \
                     (const uint32_t *)list[1], c->length[1],                  \
                     (const int32_t *)list[2], c->length[2]
@@ -119,8 +122,9 @@ int64_t invoke(const test_case *c, uint8_t *const list[LISTS])
     const uint32_t *number = c->number;
     switch (c->call) {
     case DESK:
-        return desk_reading(list[0], c->length[0], number[0], list[1],
-                            c->length[1]);
+        return desk_reading(FILE_AND_SCRATCH);
+    case DESK_TWO:
+        return desk_reading_two(FILE_AND_SCRATCH);
     case CHECK:
         return curve_check(THREE_LISTS, number[0]);
     case READ:

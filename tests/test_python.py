@@ -37,6 +37,8 @@ from factor_curves import _calls, _library
 
 LARGEST = 2**32 - 1
 STEEP = [(500, 10000, 0), (600, 14000, 10000)]
+# The desk readings, and what the exact fractions have for them.
+DESKS = [(fc.desk_reading, ref.desk), (fc.desk_reading_two, ref.desk_two)]
 LIBRARY = _library.library()._name
 PACKAGE = os.path.dirname(os.path.abspath(fc.__file__))
 
@@ -189,49 +191,83 @@ class Files(unittest.TestCase):
         for same in (bytearray(data), memoryview(data), memoryview(b'x' + data)[1:],
                      memoryview(data[::-1])[::-1]):
             self.assertEqual(fc.Curve.from_bytes(same).points, tuple(STEEP))
-            self.assertEqual(fc.desk_reading(same, 550), 10800)
+            for desk, _ in DESKS:
+                self.assertEqual(desk(same, 550), 10800)
         for wrong in (5, None, 'TRF', [84, 82, 70]):
             for call in (fc.open_bytes, fc.Curve.from_bytes):
                 self.assertRaises(TypeError, call, wrong)
-            self.assertRaises(TypeError, fc.desk_reading, wrong, 550)
+            for desk, _ in DESKS:
+                self.assertRaises(TypeError, desk, wrong, 550)
 
-    def desk(self, data, area, length):
+    def desk(self, call, reference, data, area, length):
         before = bytes(range(256)) * 13
         scratch = bytearray(before[:length])
-        number, after = ref.desk(data, area, before[:length])
+        number, after = reference(data, area, before[:length])
         wanted = ('refused', -1000000 - number, None) if number < -1000000 else ('ok', number)
-        self.assertEqual(answer(fc.desk_reading, data, area, scratch), wanted)
+        self.assertEqual(answer(call, data, area, scratch), wanted)
         self.assertEqual(bytes(scratch), after)
         return wanted
 
-    def test_desk_reading(self):
-        seen = set()
+    def test_desk_readings(self):
+        seen = {call: set() for call, _ in DESKS}
         for data in self.files():
-            need = 12 * (data[6] if len(data) > 6 else 0)
-            for area in (0, 1, 550, 1000, 19999, LARGEST):
-                seen.add(self.desk(data, area, need + area % 5)[:2])
-            for length in (0, max(0, need - 1), need // 2, need):
-                seen.add(self.desk(data, 550, length)[:2])
-            answers = [answer(fc.desk_reading, data, 550, *scratch)
-                       for scratch in ((), (None,), (bytearray(fc.SCRATCH_ENOUGH),))]
-            self.assertEqual(answers[0], answers[1])
-            self.assertEqual(answers[0], answers[2])
-        numbers = {words[1] for words in seen if words[0] == 'refused'}
-        self.assertEqual(numbers, {1, 2, 3, 4, 5, 6, 7, 9, 10, 11})
+            count = data[6] if len(data) > 6 else 0
+            for (call, reference), need in zip(DESKS, (12 * count, 24)):
+                for area in (0, 1, 550, 1000, 19999, LARGEST):
+                    seen[call].add(self.desk(call, reference, data, area, need + area % 5)[:2])
+                for length in (0, 1, 11, 12, 23, 24, 25, 36, max(0, need - 1), need // 2, need):
+                    seen[call].add(self.desk(call, reference, data, 550, length)[:2])
+        for call, _ in DESKS:
+            numbers = {words[1] for words in seen[call] if words[0] == 'refused'}
+            self.assertEqual(numbers, {1, 2, 3, 4, 5, 6, 7, 9, 10, 11})
+
+    def test_scratch_of_their_own(self):
+        """The same from both, whatever scratch they have, if it is long enough."""
+        for data in self.files():
+            for area in (0, 550, 19999):
+                answers = {answer(call, data, area, *scratch) for call, _ in DESKS
+                           for scratch in ((), (None,), (bytearray(fc.SCRATCH_ENOUGH),))}
+                answers.add(answer(fc.desk_reading_two, data, area, bytearray(fc.SCRATCH_TWO)))
+                self.assertEqual(len(answers), 1, data)
+
+    def test_segment_read(self):
+        """Each rated point and the areas beside it, by the second desk reading."""
+        for points, shape in curves.random_curves('segments', 40):
+            data = curve_file(points, shape)
+            for area, _, _ in points:
+                for near in (max(0, area - 1), area, area + 1):
+                    self.desk(fc.desk_reading_two, ref.desk_two, data, near, 24 + near % 3)
 
     def test_scratch(self):
         data = curve_file(STEEP, 2)
         memory = bytearray(40)
-        self.assertEqual(fc.desk_reading(data, 550, memoryview(memory)[8:33]), 10800)
-        self.assertEqual(bytes(memory), bytes(8) + data[7:] + bytes(8))
-        memory.append(0)                        # nothing holds it after the call
-        overlapping = bytearray(data)           # the file itself as the scratch
-        self.assertEqual(fc.desk_reading(overlapping, 550, overlapping), 10800)
-        self.assertEqual(bytes(overlapping), data[7:] + data[24:])
-        for wrong in (b'', bytes(24), memoryview(bytes(24)), memoryview(memory)[::2], 24, 'x' * 24):
-            self.assertRaises(TypeError, fc.desk_reading, data, 550, wrong)
+        for call, _ in DESKS:
+            memory[:] = bytes(40)
+            self.assertEqual(call(data, 550, memoryview(memory)[8:33]), 10800)
+            self.assertEqual(bytes(memory), bytes(8) + data[7:] + bytes(8))
+            memory.append(0)                    # nothing holds it after the call
+            overlapping = bytearray(data)       # the file itself as the scratch
+            self.assertEqual(call(overlapping, area=550, scratch=overlapping), 10800)
+            self.assertEqual(bytes(overlapping), data[7:] + data[24:])
+            for wrong in (b'', bytes(24), memoryview(bytes(24)), memoryview(memory)[::2], 24,
+                          'x' * 24, [0] * 24):
+                self.assertRaises(TypeError, call, data, 550, wrong)
         lent, length = _calls._lent(bytearray())
         self.assertEqual((len(lent), length), (1, 0))       # so that its address is not null
+
+    def test_two_records(self):
+        """Document 02, item 5: three points, of which the scratch gets two."""
+        data = curve_file([(400, 10000, 0)] + STEEP, 1)
+        for area, factor, first in [(400, 10000, 0), (499, 10000, 0), (500, 10000, 1),
+                                    (550, 10889, 1), (600, 14000, 1)]:
+            scratch = bytearray(b'\xee' * 36)
+            self.assertEqual(fc.desk_reading_two(data, area, scratch), factor)
+            self.assertEqual(bytes(scratch), data[7 + 12 * first:31 + 12 * first] + b'\xee' * 12)
+        for area, length, number in [(550, 23, 11), (399, 23, 11), (399, 24, 7), (601, 24, 7)]:
+            scratch = bytearray(b'\xee' * length)
+            self.assertEqual(answer(fc.desk_reading_two, data, area, scratch),
+                             ('refused', number, None))
+            self.assertEqual(bytes(scratch), b'\xee' * length)
 
     def test_from_file(self):
         for path, data in sample_files():
@@ -414,7 +450,8 @@ class FallingAndConcave(unittest.TestCase):
             self.assertEqual(curve.read(area), factor)
             self.assertEqual(curve.sheet(area, 1, 1), [factor])
             self.assertEqual(curve.pair(area, area), (factor, factor, 0))
-            self.assertEqual(fc.desk_reading(data, area), factor)
+            for desk, _ in DESKS:
+                self.assertEqual(desk(data, area), factor)
             self.assertEqual([curve.read(point[0]) for point in points],
                              [point[1] for point in points])
 
@@ -607,6 +644,7 @@ class Numbers(unittest.TestCase):
         yield 'unsigned', lambda n: fc.sheet(*columns, 2, n, 1, 1), 'start'
         yield 'unsigned', lambda n: fc.sheet(*columns, 2, 550, n, 1), 'step'
         yield 'unsigned', lambda n: fc.desk_reading(data, n), 'area'
+        yield 'unsigned', lambda n: fc.desk_reading_two(data, n), 'area'
         yield 'unsigned', curve.read, 'area'
         yield 'unsigned', lambda n: curve.pair(n, 550), 'form'
         yield 'unsigned', lambda n: curve.pair(550, n), 'plan'
@@ -789,11 +827,12 @@ class Refusals(unittest.TestCase):
                          (str(refusal), 6, 1, refusal.words))
 
     def test_without_a_place(self):
-        with self.assertRaises(fc.Refused) as caught:
-            fc.desk_reading(curve_file(STEEP, 2), 499)
-        self.assertEqual(caught.exception.number, fc.Refusal.OUTSIDE)
-        self.assertIsNone(caught.exception.place)
-        self.assertEqual(str(caught.exception), 'refused 7: ' + fc.refusal_words(7))
+        for desk, _ in DESKS:
+            with self.assertRaises(fc.Refused) as caught:
+                desk(curve_file(STEEP, 2), 499)
+            self.assertEqual(caught.exception.number, fc.Refusal.OUTSIDE)
+            self.assertIsNone(caught.exception.place)
+            self.assertEqual(str(caught.exception), 'refused 7: ' + fc.refusal_words(7))
 
     def test_words(self):
         """Each number has words of its own: those that stand in c/refusal_words.c."""
@@ -835,6 +874,8 @@ class Package(unittest.TestCase):
         desk = self.defines('desk.h')
         self.assertEqual(fc.SCRATCH_ENOUGH,
                          int(desk['DESK_POINT_BYTES']) * int(header['CURVE_COUNT_MAX']))
+        self.assertEqual(fc.SCRATCH_TWO, int(desk['DESK_SCRATCH_TWO']))
+        self.assertEqual(fc.SCRATCH_TWO, 24)
 
     def test_version(self):
         with open(os.path.join(ROOT, 'VERSION'), encoding='ascii') as file:
@@ -844,6 +885,10 @@ class Package(unittest.TestCase):
             self.assertIn('\n__version__ = "%s"\n' % version, file.read())
 
     def test_names(self):
+        self.assertEqual(sorted(fc.__all__), sorted(
+            name for name in vars(fc) if not name.startswith('_')))
+        for name in ('SCRATCH_TWO', 'desk_reading', 'desk_reading_two'):
+            self.assertIn(name, fc.__all__)
         for name in fc.__all__:
             thing = getattr(fc, name)
             if callable(thing):

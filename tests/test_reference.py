@@ -764,14 +764,15 @@ def bad_files():
 
 
 def test_bad_files():
-    """Rows 2 to 6 by Open, the desk reading and ratesheet."""
+    """Rows 2 to 6 by Open, the desk readings and ratesheet."""
     scratch = bytes(range(40))
     for data, number, place in bad_files():
         expect('open, %d' % number, ref.open_file(data, (9, 9, 9)),
                refused(number, place))
         # Area 9,999 is outside: 2 to 6 come before 7.
-        expect('desk, %d' % number, ref.desk(data, 9999, scratch),
-               (-1000000 - number, scratch))
+        for reading in (ref.desk, ref.desk_two):
+            expect('desk, %d' % number, reading(data, 9999, scratch),
+                   (-1000000 - number, scratch))
         expect('ratesheet, %d' % number, ref.ratesheet(data),
                'refused %d at %d\n' % (number, place))
 
@@ -802,6 +803,79 @@ def test_desk():
            (-1000001, bytes(780)))
     expect('desk, 0 points', ref.desk(curve_file([], 1), 0, b''),
            (-1000001, b''))
+
+
+# K1 behind a level segment, as a curve file.
+FILE_43 = bytes.fromhex('54 52 46 01 00 01 03'
+                        '90 01 00 00 10 27 00 00 00 00 00 00'
+                        'F4 01 00 00 10 27 00 00 00 00 00 00'
+                        '58 02 00 00 B0 36 00 00 10 27 00 00')
+
+
+def test_desk_two():
+    """Document 02, item 5: the number, and the records of the segment read."""
+    left, right = FILE_43[7:31], FILE_43[19:43]
+    for area, factor, records in (
+            (400, 10000, left), (401, 10000, left), (499, 10000, left),
+            (500, 10000, right), (525, 10229, right), (550, 10889, right),
+            (600, 14000, right)):
+        for length in (24, 25, 35, 36, 37, 768):
+            scratch = bytes(1 + i % 255 for i in range(length))
+            expect('two at %d' % area, ref.desk_two(FILE_43, area, scratch),
+                   (factor, records + scratch[24:]))
+    expect('31 bytes', ref.desk_two(FILE_31, 550, b'x' * 26),
+           (10800, FILE_31[7:] + b'xx'))
+    # Each rated point of five, and the last area.
+    five = curve_file(flat(5, 10), 1)
+    for area, first in ((0, 0), (9, 0), (10, 1), (11, 1), (20, 2), (29, 2),
+                        (30, 3), (39, 3), (40, 3)):
+        expect('five at %d' % area, ref.desk_two(five, area, bytes(24)),
+               (5, five[7 + 12 * first:31 + 12 * first]))
+
+
+def test_desk_two_shapes():
+    """Document 02, item 5, on each shape: the parabola x x, and those of
+    test_hyperbola_and_parabola."""
+    for shape, points, readings in (
+            (2, [(0, 0, 0), (10, 100, 2000), (30, 900, 6000)],
+             ((0, 0, 0), (9, 81, 0), (10, 100, 1), (11, 121, 1),
+              (30, 900, 1))),
+            (3, [(0, 360, -3600), (10, 180, -900), (30, 90, -225)],
+             ((0, 360, 0), (9, 189, 0), (10, 180, 1), (11, 171, 1),
+              (30, 90, 1))),
+            (4, [(0, 500, 2000), (40, 1100, 1000), (100, 1250, -500)],
+             ((0, 500, 0), (38, 1080, 0), (40, 1100, 1), (42, 1120, 1),
+              (100, 1250, 1)))):
+        data = curve_file(points, shape)
+        for area, factor, first in readings:
+            expect('shape %d at %d' % (shape, area),
+                   ref.desk_two(data, area, bytes(24)),
+                   (factor, curve_file(points[first:first + 2], 1)[7:]))
+
+
+def test_desk_two_refusals():
+    """Document 02, item 5: 11 for a scratch under 24 bytes, after 9 and 10
+    and before all else; where only the first desk reading says 11."""
+    for length in (0, 1, 11, 12, 23, 24, 25, 36):
+        scratch = bytes(range(1, 1 + length))
+        for data, area, number in (
+                (FILE_43, 399, 7), (FILE_43, 601, 7), (FILE_43, LARGEST, 7),
+                (curve_file(flat(1), 1), 0, 1), (curve_file([], 1), 0, 1),
+                (curve_file(flat(65), 1), 0, 1),
+                (curve_file(flat(255), 9), 0, 1),
+                *((data, 9999, number) for data, number, _ in bad_files())):
+            for wrong, first in ((data, number if length >= 24 else 11),
+                                 (data[:6], 9), (b'X' + data[1:], 9),
+                                 (data[:3] + b'\2' + data[4:], 9),
+                                 (data + b'x', 10)):
+                expect('%d with %d bytes' % (number, length),
+                       ref.desk_two(wrong, area, scratch),
+                       (-1000000 - first, scratch))
+    one, many = curve_file(flat(1), 1), curve_file(flat(64), 1)
+    expect('first, 12 bytes', ref.desk(one, 0, bytes(12))[0], -1000001)
+    expect('second, 12 bytes', ref.desk_two(one, 0, bytes(12))[0], -1000011)
+    expect('first, 767 bytes', ref.desk(many, 0, bytes(767))[0], -1000011)
+    expect('second, 767 bytes', ref.desk_two(many, 0, bytes(767))[0], 5)
 
 
 def test_c_answers():

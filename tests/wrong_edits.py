@@ -60,20 +60,174 @@ FILES = [
      'shapeless < count ? refused(5, shapeless)'),
 ]
 
+DESK_HEAD = '''\
+    int64_t fault = head_fault(bytes, bytes_len);
+    if (fault)
+        return desk_refused(fault);
+'''
+DESK_ROOM = '''\
+    if (two ? scratch_len < 24 : scratch_len < 12 * count)
+        return desk_refused(refused(11, 0));
+'''
+DESK_RECORDS = '    const uint8_t *records = bytes + 7;\n'
+DESK_FAULT = '''\
+    fault = file_fault(bytes);
+    if (fault)
+        return desk_refused(fault);
+'''
+DESK_ROWS = DESK_ROOM + DESK_RECORDS + DESK_FAULT
+DESK_OUTSIDE = '''\
+area < load32(records) || area > load32(records + 12 * (count - 1))'''
+DESK_FIND = 'find_record(records, count, area);'
+TWO_FACTOR = 'return segment_factor(l, r, shape, area);'
+TWO_ROOM = 'two ? scratch_len < 24 :'
+TWO_COPY = 'memcpy(scratch, left, 24);'
+TWO_SHORT = '''\
+    if (two && scratch_len < 24%s)
+        return desk_refused(refused(11, 0));
+'''
+
+
+def alone(right, wrong):
+    """The wrong expression in one desk reading, the right one in the other."""
+    return [(right, '(two ? %s : %s)' % pair)
+            for pair in ((wrong, right), (right, wrong))]
+
+
+def row_11_after(number):
+    """Row 11 after this row of rows 1 to 6 and those before it."""
+    first = DESK_FAULT.replace(
+        '(fault)\n', '(two && fault && -fault >> 32 <= %d)\n' % number)
+    return DESK_RECORDS + first + DESK_ROOM + REFUSED_FAULT.replace(
+        'fault;', 'desk_refused(fault);')
+
+
 DESK = [
     # the scratch
     ('scratch_len < 12 * count', 'scratch_len <= 12 * count'),
     ('scratch_len < 12 * count', 'scratch_len + 1 < 12 * count'),
     ('scratch, records, 12 * count', 'scratch, records, 12 * count + 1'),
     ('scratch, records, 12 * count', 'scratch, records, 12 * count - 1'),
-    ('const uint8_t *records = bytes + 7;',
-     'const uint8_t *records = memcpy(scratch, bytes + 7, 12 * count);'),
+    (DESK_RECORDS, DESK_RECORDS.replace(
+        '= bytes + 7', '= two ? bytes + 7 : memcpy(scratch, bytes + 7, 12 * count)')),
     ('return -1000000 - (int32_t)(-refusal >> 32);',
      'return -1000000 + (int32_t)(refusal >> 32);'),
     # the area read
     ('area < load32(records)', 'area + 1 < load32(records)'),
     ('area > load32(records', 'area >= load32(records'),
     ('12 * (low + half)) <= area ?', '12 * (low + half)) <= area + 1 ?'),
+    # the same by one desk reading alone, and row 7 not tried
+    *[pair for wrong in (
+        DESK_OUTSIDE.replace('area <', 'area + 1 <'),
+        DESK_OUTSIDE.replace('area >', 'area >='),
+        DESK_OUTSIDE.replace('||', '&&'), '0')
+      for pair in alone(DESK_OUTSIDE, wrong)],
+]
+
+TWO_ORDER = [
+    # row 11: the length
+    *[(TWO_ROOM, TWO_ROOM.replace('< 24', other)) for other in (
+        '< 25', '< 23', '< 12', '< 36', '!= 24', '< 12 * count',
+        '< 24 || scratch_len < 12 * count',
+        '< 24 && scratch_len < 12 * count', '< 24 && count > 1',
+        '< 24 && count != 0')],
+    (TWO_ROOM, 'two ? 0 :'),
+    (TWO_ROOM, 'two ? (uint8_t)scratch_len < 24 :'),
+    (TWO_ROOM, 'two ? (uint16_t)scratch_len < 24 :'),
+    # row 11: before row 9, before row 10, after others, another number
+    (DESK_HEAD, TWO_SHORT % '' + DESK_HEAD),
+    (DESK_HEAD, DESK_HEAD.replace(
+        '    if', TWO_SHORT % ' && -fault >> 32 != 9' + '    if')),
+    *[(DESK_ROWS, row_11_after(number)) for number in range(1, 7)],
+    (DESK_ROWS, DESK_ROWS.replace('scratch_len < 24', '0') + TWO_SHORT
+     % ' && !(%s)' % DESK_OUTSIDE),
+    (DESK_ROOM, DESK_ROOM.replace('11', 'two ? 1 : 11')),
+    (DESK_ROOM, DESK_ROOM.replace('11', 'two ? 12 : 11')),
+    # the factor of the first segment, the last, the one before, the next
+    *[(TWO_FACTOR, '    left = %s;\n    l = load_point(left), r = '
+       'load_point(left + 12);\n    ' % record + TWO_FACTOR) for record in (
+           'records', 'records + 12 * (count - 2)',
+           'left > records ? left - 12 : left',
+           'left + 24 < bytes + bytes_len ? left + 12 : left')],
+    (TWO_FACTOR, TWO_FACTOR.replace('area', 'l.area')),
+]
+
+TWO_SCRATCH = [
+    # which records: one twice, exchanged, one alone
+    *[(TWO_COPY, 'memcpy(scratch, %s, 12), memcpy(scratch + 12, %s, 12);'
+       % pair) for pair in (('left', 'left'), ('left + 12', 'left + 12'),
+                            ('left + 12', 'left'))],
+    (TWO_COPY, 'memcpy(scratch, left, 12);'),
+    (TWO_COPY, 'memcpy(scratch + 12, left + 12, 12);'),
+    # at a rated point the segment before, the next; beside it
+    (DESK_FIND, 'find_record(records, count, two ? area + 1 : area);'),
+    (DESK_FIND, 'find_record(records, count,\n'
+     '                 two && area > load32(records) ? area - 1 : area);'),
+    *[(TWO_COPY, 'memcpy(scratch, %s, 24);' % record) for record in (
+        'area == l.area && left > records ? left - 12 : left',
+        'area == l.area && left + 24 < bytes + bytes_len ? left + 12 : left',
+        'area + 1 == r.area && left + 24 < bytes + bytes_len ? left + 12 : left',
+        'area == l.area + 1 && left > records ? left - 12 : left',
+        # at the last area beyond the last record, and before
+        'area == r.area ? left + 12 : left',
+        'area == r.area && count > 2 ? left - 12 : left',
+        # the first, the last, without the head, the file from its start
+        'records', 'records + 12 * (count - 2)', 'left - 7', 'bytes')],
+    (TWO_COPY, '''\
+{
+        memcpy(scratch, left, 24);
+        if (area == r.area)
+            memcpy(scratch, left + 12, 12);
+    }'''),
+    # fewer bytes, more bytes, none
+    *[(TWO_COPY, 'memcpy(scratch, left, %s);' % size) for size in (
+        '0', '23', '25', '20', 'scratch_len < 12 * count ? 24 : 36',
+        'scratch_len < 12 * count ? 24 : bytes + bytes_len - left')],
+    (TWO_COPY, 'memcpy(scratch + 1, left + 1, 23);'),
+    # all records where there is room; those after the two; bytes cleared
+    (TWO_COPY, '''\
+memcpy(scratch, scratch_len < 12 * count ? left : records,
+               scratch_len < 12 * count ? 24 : 12 * count);'''),
+    *[(TWO_COPY, '{\n        %s\n        %s\n    }' % (TWO_COPY, more))
+      for more in (
+          'memset(scratch + 24, 0, scratch_len - 24);',
+          'if (scratch_len > 24)\n            scratch[24] = 0;',
+          'scratch[scratch_len - 1] = 0;',
+          'if (scratch_len >= 12 * count)\n'
+          '            memcpy(scratch + 24, records + 24, 12 * count - 24);',
+          # bytes of a field, a mirrored point
+          'scratch[6] = 0;', 'scratch[11] = 0;', 'scratch[23] = 0;',
+          'if (bytes[5] > 2)\n'
+          '            store32(scratch + 4, 200000 - l.value);',
+          'if (bytes[5] > 2)\n'
+          '            store32(scratch + 20, (uint32_t)-r.slope);',
+          # a byte beside the scratch
+          'scratch[scratch_len] = 0;', 'scratch[-1] = 0;')],
+    # written before a refusal: rows 1 to 6, row 7
+    (DESK_RECORDS, DESK_RECORDS + '''\
+    if (two && count > 1)
+        memcpy(scratch, records, 24);
+'''),
+    (DESK_FAULT, DESK_FAULT + '''\
+    if (two)
+        memcpy(scratch, records, 24);
+'''),
+    # cleared on a refusal: rows 9 and 10, row 11, rows 1 to 6, row 7
+    (DESK_HEAD, DESK_HEAD.replace('return', '''\
+return two && scratch_len ? scratch[0] = 0, desk_refused(fault) :''')),
+    (DESK_ROOM, DESK_ROOM.replace('return', '''\
+return two && scratch_len ? memset(scratch, 0, scratch_len) : 0,''')),
+    (DESK_FAULT, DESK_FAULT.replace('return', '''\
+return two ? memset(scratch, 0, 24) : 0,''')),
+    ('return desk_refused(refused(7, 0));', '''\
+return two ? memset(scratch, 0, scratch_len) : 0,
+               desk_refused(refused(7, 0));'''),
+    # touching a scratch without bytes, writing what is to be read
+    (DESK_HEAD, '''\
+    if (two)
+        (void)*(volatile uint8_t *)scratch;
+''' + DESK_HEAD),
+    (TWO_COPY, '*(volatile uint8_t *)bytes = bytes[0], ' + TWO_COPY),
 ]
 
 CHECK = [
@@ -630,7 +784,9 @@ after.rise > 100 * after.gap ? 10001 : 100 * after.rise /''')),
 COMPARED = [
     ('of points and segments', POINTS),
     ('of curve files', FILES),
-    ('of desk_reading', DESK),
+    ('of desk_reading, and of both', DESK),
+    ('of desk_reading_two, its numbers', TWO_ORDER),
+    ('of desk_reading_two, its scratch', TWO_SCRATCH),
     ('of curve_check', CHECK),
     ('of curve_read', READ),
     ('of curve_pair', PAIR),
@@ -655,6 +811,7 @@ FAR = [
     ('areas_len < count ||', '(uint32_t)areas_len < count ||'),
     ('slopes_len < count)', '(uint32_t)slopes_len < count)'),
     ('scratch_len < 12 * count', '(uint32_t)scratch_len < 12 * count'),
+    (TWO_ROOM, 'two ? (uint32_t)scratch_len < 24 :'),
     ('out_len < length', '(uint32_t)out_len < length'),
     ('size_t count = areas_len;', 'size_t count = (uint32_t)areas_len;'),
     ('values_len != count ||', '(uint32_t)values_len != count ||'),
@@ -667,6 +824,12 @@ SHARED = [
      '    static point l;\n    l = point_at(c, 0);\n'),
     ('    point l = load_point(records);\n',
      '    static point l;\n    l = load_point(records);\n'),
+    (TWO_COPY, '''\
+{
+        static uint8_t kept[24];
+        memcpy(kept, left, 24);
+        memcpy(scratch, kept, 24);
+    }'''),
     ('    uint64_t area = start + (uint64_t)step * i;\n',
      '    static volatile uint64_t area;\n'
      '    area = start + (uint64_t)step * i;\n'),

@@ -1,7 +1,7 @@
 """Wrong versions of bench/plain.c as wrong_edits.py has them: of the shapes'
 tests, curves and codes, those of falling and concave most of all."""
 
-from wrong_edits import CHECKED, REFUSED_FAULT
+from wrong_edits import CHECKED, REFUSED_FAULT, TWO_FACTOR
 
 # ---- when a segment has its shape ----
 
@@ -144,6 +144,7 @@ LISTS_FACTOR = '''\
 SHEET_ENTRY = 'out[i] = segment_factor(l, r, shape, (uint32_t)area);'
 PLACES = [
     (DESK_FACTOR, 'return ', 'bytes[5]', 'area'),
+    (TWO_FACTOR, 'return ', 'shape', 'area'),
     (LISTS_FACTOR, '    point l = point_at(c, low), r = point_at(c, low + 1);\n'
      '    return ', 'shape', 'area'),
     (SHEET_ENTRY, 'out[i] = ', 'shape', '(uint32_t)area'),

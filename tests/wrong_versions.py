@@ -21,8 +21,9 @@ import wrong_shapes
 HERE = os.path.dirname(os.path.abspath(__file__))
 ROOT = os.path.join(HERE, '..')
 CC = shlex.split(os.environ.get('CC', 'cc'))
-CALLS = ['desk_reading', 'curve_check', 'curve_read', 'curve_pair',
-         'curve_sheet', 'curve_open', 'curve_write', 'curve_fill_slopes']
+CALLS = ['desk_reading', 'desk_reading_two', 'curve_check', 'curve_read',
+         'curve_pair', 'curve_sheet', 'curve_open', 'curve_write',
+         'curve_fill_slopes']
 FLAGS = ['-std=c99', '-I' + os.path.join(ROOT, 'include'),
          '-I' + os.path.join(ROOT, 'bench')]
 FLAGS += ['-Dplain_%s=%s' % (call, call) for call in CALLS]

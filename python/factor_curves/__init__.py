@@ -32,26 +32,26 @@ A curve file holds one curve, and each curve has one file:
     >>> Curve.from_bytes(curve.to_bytes()) == curve
     True
 
-The functions check, read, pair, sheet, write, fill_slopes, open_bytes and desk_reading are the
-library's calls on plain lists and bytes. The library is looked for and loaded at the first call;
-importing the package does not need it. `python3 -m factor_curves --help` says what the command
-line offers.
+The functions check, read, pair, sheet, write, fill_slopes, open_bytes, desk_reading and
+desk_reading_two are the library's calls on plain lists and bytes. The library is looked for and
+loaded at the first call; importing the package does not need it. `python3 -m factor_curves --help`
+says what the command line offers.
 """
 
 from ._calls import (CONCAVE, CONVEX, COUNT_MAX, ENTRIES_MAX, FALLING, FILE_MAX, POINTS_MAX,
-                     RISING, SCRATCH_ENOUGH, SHAPE_NAMES, Lists, Pair, Refusal, Refused, check,
-                     desk_reading, fill_slopes, open_bytes, pair, read, refusal_words, sheet,
-                     write)
+                     RISING, SCRATCH_ENOUGH, SCRATCH_TWO, SHAPE_NAMES, Lists, Pair, Refusal,
+                     Refused, check, desk_reading, desk_reading_two, fill_slopes, open_bytes,
+                     pair, read, refusal_words, sheet, write)
 from ._curve import Curve, Point
 from ._library import LibraryNotFound
 
-__version__ = "0.4.0"
+__version__ = "0.5.0"
 
 __all__ = [
     'CONCAVE', 'CONVEX', 'COUNT_MAX', 'ENTRIES_MAX', 'FALLING', 'FILE_MAX', 'POINTS_MAX',
-    'RISING', 'SCRATCH_ENOUGH', 'SHAPE_NAMES', 'Curve', 'LibraryNotFound', 'Lists', 'Pair',
-    'Point', 'Refusal', 'Refused', 'check', 'desk_reading', 'fill_slopes', 'open_bytes', 'pair',
-    'read', 'refusal_words', 'sheet', 'write',
+    'RISING', 'SCRATCH_ENOUGH', 'SCRATCH_TWO', 'SHAPE_NAMES', 'Curve', 'LibraryNotFound',
+    'Lists', 'Pair', 'Point', 'Refusal', 'Refused', 'check', 'desk_reading', 'desk_reading_two',
+    'fill_slopes', 'open_bytes', 'pair', 'read', 'refusal_words', 'sheet', 'write',
 ]
 
 for _name in ('Curve', 'LibraryNotFound', 'Lists', 'Pair', 'Point', 'Refusal', 'Refused'):

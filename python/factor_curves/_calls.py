@@ -23,6 +23,7 @@ ENTRIES_MAX = 1024      #: entries of a sheet
 FILE_MAX = 775          #: bytes of an accepted curve's file
 COUNT_MAX = 255         #: points that a file's head can state
 SCRATCH_ENOUGH = 12 * COUNT_MAX     #: bytes of scratch for any file at all
+SCRATCH_TWO = 24        #: bytes of scratch for desk_reading_two, whatever the file
 
 BytesLike = Union[bytes, bytearray, memoryview]
 
@@ -248,6 +249,17 @@ def open_bytes(data: BytesLike) -> Lists:
     return Lists(tuple(areas[:count]), tuple(values[:count]), tuple(slopes[:count]), shape)
 
 
+def _desk(name: str, data: BytesLike, area: int, scratch: Union[bytearray, memoryview]) -> int:
+    """The factor that one of the two desk readings gives, unless it is a refusal."""
+    whole, at = _file(data), unsigned(area, 'area')
+    memory, length = _lent(scratch)
+    answer: int = getattr(library(), name)(whole, len(whole), at, memory, length)
+    if answer < -1000000:
+        number = -1000000 - answer
+        raise Refused(number, None, refusal_words(number))
+    return answer
+
+
 def desk_reading(data: BytesLike, area: int,
                  scratch: Union[bytearray, memoryview, None] = None) -> int:
     """The factor at an area of a curve file: one call for a quoting desk.
@@ -255,10 +267,16 @@ def desk_reading(data: BytesLike, area: int,
     A scratch of 12 bytes for each point may be lent; with a factor it then begins with the
     file's point records. Without one the function has its own.
     """
-    whole, at = _file(data), unsigned(area, 'area')
-    memory, length = _lent(bytearray(SCRATCH_ENOUGH) if scratch is None else scratch)
-    answer: int = library().desk_reading(whole, len(whole), at, memory, length)
-    if answer < -1000000:
-        number = -1000000 - answer
-        raise Refused(number, None, refusal_words(number))
-    return answer
+    own = bytearray(SCRATCH_ENOUGH) if scratch is None else scratch
+    return _desk('desk_reading', data, area, own)
+
+
+def desk_reading_two(data: BytesLike, area: int,
+                     scratch: Union[bytearray, memoryview, None] = None) -> int:
+    """The same factor, for a terminal that lends 24 bytes whatever the file.
+
+    With a factor, a lent scratch then begins with the records of the two points between which
+    it was read. Without one the function has its own.
+    """
+    own = bytearray(SCRATCH_TWO) if scratch is None else scratch
+    return _desk('desk_reading_two', data, area, own)

@@ -17,6 +17,7 @@ _UNSIGNED = ctypes.POINTER(ctypes.c_uint32)
 _SIGNED = ctypes.POINTER(ctypes.c_int32)
 _LISTS: List[Any] = [_UNSIGNED, _SIZE, _UNSIGNED, _SIZE, _SIGNED, _SIZE]
 _CURVE = _LISTS + [ctypes.c_uint32]             # three lists and the shape code
+_DESK: List[Any] = [_BYTES, _SIZE, ctypes.c_uint32, _MEMORY, _SIZE]
 
 # Name: type of the answer, types of the arguments.
 _FUNCTIONS: Dict[str, Tuple[Any, List[Any]]] = {
@@ -27,7 +28,8 @@ _FUNCTIONS: Dict[str, Tuple[Any, List[Any]]] = {
     'curve_open': (ctypes.c_int64, [_BYTES, _SIZE] + _LISTS),
     'curve_write': (ctypes.c_int64, _CURVE + [_MEMORY, _SIZE]),
     'curve_fill_slopes': (ctypes.c_int64, _LISTS),
-    'desk_reading': (ctypes.c_int32, [_BYTES, _SIZE, ctypes.c_uint32, _MEMORY, _SIZE]),
+    'desk_reading': (ctypes.c_int32, _DESK),
+    'desk_reading_two': (ctypes.c_int32, _DESK),
     'curve_refusal_words': (ctypes.c_char_p, [ctypes.c_int]),
 }
 
