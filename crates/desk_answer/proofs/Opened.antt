@@ -2,7 +2,7 @@
 --   untouched   at 0 it is a refusal, and a lent list is as found
 --   Opened      elsewhere it is a factor: the file has its length, the scratch its room, and the segment read is in the file
 -- Assumes nothing.
-use mathlib.Core.Path.{_≡_, refl, _∙_}
+use mathlib.Core.Path.{_≡_, refl}
 use mathlib.Core.List.{List}
 use Prim.Native.Nat.{ℕ, suc, _≤_, _<_}
 use native.Mathlib.Omega.{arith}

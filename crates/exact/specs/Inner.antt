@@ -2,12 +2,11 @@
 --   Rounding                what most laws ask of a rounding rule, and no more
 --   HalfUp                  the rule of document 01 at one value
 --   eqZ                     equality of integers, as a test
---   folded                  an integer, or −1 less it where it is below 0
 --   Scaled, Divided, Step   the quotient of a product by long division: what it asks, and what holds after each digit
 -- Assumes nothing.
 use mathlib.Core.Path.{_≡_}
 use mathlib.Core.Bool.{Bool, _&&_}
-use lib.IntN.{ℤ, pos, negsuc}
+use lib.IntN.{ℤ}
 use lib.Signed.{_≤ℤ_, leZ}
 use Prim.Native.Nat.{ℕ, _*_, _/_, _%_, _^_, _≤_, _<_}
 use Rattle.exact.specs.Fraction.{Fraction, Proper, whole, _+ℚ_, _-ℚ_, _≤ℚ_, _<ℚ_}
@@ -24,10 +23,6 @@ pub record HalfUp (x : Fraction) (k : ℤ) : Type 0 where
 
 abbrev pub eqZ : ℤ → ℤ → Bool
 eqZ a b = leZ a b && leZ b a
-
-unfoldable pub folded : ℤ → ℕ
-folded (pos m) = m
-folded (negsuc m) = m
 
 -- what x y / c asks
 pub record Scaled (x y c : ℕ) : Type 0 where

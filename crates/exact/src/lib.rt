@@ -1,32 +1,6 @@
-// Exact arithmetic: floor division, and quotient and remainder of a product that may pass 64 bits.
-ghost use mathlib.Core.Path.{_≡_};
+// Exact arithmetic: quotient and remainder of a product that may pass 64 bits.
 ghost use Prim.Native.Nat.{_*_, _^_, _<_};
-ghost use Rattle.exact.specs.Rounding.{floorDiv};
-ghost use Rattle.exact.specs.Inner as inner;
 ghost use Rattle.exact.specs.Inner.{Divided, Step, Scaled};
-
-// n, or -1 - n where n is below 0.
-fn folded(n: i64) -> u64
-    ensures { λ r. ⌜ r ≡ inner.folded n ⌝ }
-{
-    if n < 0 {
-        return (-1 - n) as u64;
-    }
-    n as u64
-}
-
-// n / d, rounded down. `/` truncates, so a negative n goes by -1 - (-1 - n) / d. The division stands once, so that the compiler
-// makes no branch of the sign.
-pub fn floor_div(n: i64, d: u64) -> i64
-    requires { ⌜ 0 < d ⌝ }
-    ensures { λ r. ⌜ r ≡ floorDiv n d ⌝ }
-{
-    let q = (folded(n) / d) as i64;
-    if n < 0 {
-        return -1 - q;
-    }
-    q
-}
 
 // y has two digits in this base, 2^26; a step fits 64 bits, since c * BASE is at most 2^63.
 const BASE: u64 = 0x400_0000;

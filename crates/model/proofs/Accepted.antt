@@ -7,7 +7,7 @@
 --   inside-read    an area that is not outside is inside the segment read
 --   read-is        an index that an area takes is that of the segment read; inside, reading-is, what follows
 -- Assumes nothing.
-use mathlib.Core.Path.{_≡_, _∙_, ap, subst⁻¹}
+use mathlib.Core.Path.{_≡_, ap, subst⁻¹}
 use mathlib.Core.Bool.{false, not}
 use mathlib.Core.List.{List, [], _∷_}
 use mathlib.Core.Option.{Option, none, some}

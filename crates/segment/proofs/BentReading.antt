@@ -1,20 +1,19 @@
 -- The reading of a convex and of a concave segment, in the natural numbers that the code computes with.
 --   BentEnds, bent-ends   the order of the end slopes and the chord; bent-input, what `estimate` asks
---   bent-reads            the left value and `bent-rise` are the rounded value; sum-fits, sum-read, as the code adds them
---   input-read, input-summed, summed   with the slope as the code has it, and h as t + u
+--   bent-reads            `bent-reading` is the rounded value
+--   input-read, input-summed, read-of, read-summed   with the slope as the code has it, and h as t + u
 -- Assumes nothing.
-use mathlib.Core.Path.{_≡_, refl, sym, _∙_, ap, ap₂}
+use mathlib.Core.Path.{_≡_, refl, sym, _∙_, ap}
 use mathlib.Core.Bool.{Bool, true, false, cond}
 use mathlib.Core.List.{[], _∷_}
-use Prim.Native.Nat.{ℕ, _+_, _-_, _*_, _≤_, _<_}
+use Prim.Native.Nat.{ℕ, _+_, _*_, _<_}
 use native.Mathlib.Nat.{mul-pos, zero-mul, zero-div}
 use native.Mathlib.Omega.{arith}
 use lib.Dec.{lit<}
 use lib.IntN.{ℤ, pos, negℤ, natAbs, _+ℤ_, _-ℤ_, _*ℤ_, *ℤ-comm, +ℤ-invr}
 use lib.Signed.{_≤ℤ_, _<ℤ_}
 use mir.Syntax.{w32}
-use mir.Val.{SFits, toZ, ofZ}
-use mir.Facts.{toZ-ofZ}
+use mir.Val.{toZ, ofZ}
 use Rattle.exact.specs.Fraction.{Fraction, Proper, _over_, whole, _+ℚ_, _-ℚ_, _*ℚ_, _≈ℚ_, _<ℚ_}
 use Rattle.exact.specs.Rounding.{floorDiv, half, round}
 use Rattle.exact.proofs.Ring.{ring, terms}
@@ -23,7 +22,7 @@ use Rattle.exact.proofs.Order.{signs}
 use Rattle.exact.proofs.Field.{field, ratios}
 use Rattle.exact.proofs.Fractions as Q
 use Rattle.exact.proofs.Fractions.{propers, positivity}
-use Rattle.exact.proofs.Magnitude.{size-neg, size--, sfits-of-size}
+use Rattle.exact.proofs.Magnitude.{size-neg}
 use Rattle.model.specs.Points.{value-most, gradient, Segment, convex, mirror, mirror-segment, plain}
 use Rattle.model.specs.Interpolant as I
 use Rattle.model.specs.Interpolant.{interpolant, exact-curve}
@@ -35,13 +34,12 @@ use Rattle.model.proofs.Curves.{bent, straight, bend-kind}
 use Rattle.model.proofs.Mirror.{mirror-inside}
 use Rattle.model.proofs.Segments.{gap, rise, distance, v₀, v₁, d₀, d₁, S, g, e₀, e₁, a, b}
 use Rattle.model.proofs.Segments.{segment-normal, gap-positive, distance-in}
-use Rattle.point.proofs.Figures.{slope-size, slope-read, value-read}
+use Rattle.point.proofs.Figures.{slope-size, slope-read}
 use Rattle.shape.proofs.Figures.{h, gap-is, a-size, b-size}
 use Rattle.shape.proofs.Tests.{mirrored-slope, mirrored-chord}
-use Rattle.segment.specs.Inner.{bent-rule, signed, Apart, BentAt, BentInput, above-tangent, bent-rise}
+use Rattle.segment.specs.Inner.{bent-rule, signed, Apart, BentAt, BentInput, above-tangent, hundredths-of, bent-reading}
 use Rattle.segment.specs.declared.Bent.{Bent}
 use Rattle.segment.proofs.Distances.{t, u, from-left, from-right, h-is, distances, mirror-back}
-use Rattle.segment.proofs.Distances.{factor-size, factor-fits, factor-read}
 use Rattle.segment.proofs.Rounded.{round-twice, floor-above}
 
 -- ---- a value, or 200,000 less it
@@ -62,14 +60,15 @@ taken-proper : (down : Bool) {f : Fraction} → Proper f → Proper (taken down 
 taken-proper true p = search propers
 taken-proper false p = p
 
--- l and z hundredths, and y / w hundredths
-reads-by : {v f : Fraction} (l z y : ℤ) {w : ℕ} → Closed v f → Proper f → 0 < w →
-    f +ℚ half ≈ℚ ((l *ℤ pos 100 +ℤ z) *ℤ pos w +ℤ y) over (pos w *ℤ pos 100) →
-    round v ≡ l +ℤ floorDiv (z +ℤ floorDiv y w) 100
-reads-by l z y {w} c p h e =
-    round-twice (l *ℤ pos 100 +ℤ z) y c p h (lit< tt) e
-    ∙ ap (λ n. floorDiv n 100) (ring (l ∷ z ∷ floorDiv y w ∷ []) (search terms depth 20 fits 9999) tt)
-    ∙ sym (floor-above l (z +ℤ floorDiv y w))
+-- l and d t hundredths, and y / w hundredths
+reads-by : {v f : Fraction} (l d : ℤ) (t : ℕ) (y : ℤ) {w : ℕ} → Closed v f → Proper f → 0 < w →
+    f +ℚ half ≈ℚ ((l *ℤ pos 100 +ℤ (pos 50 +ℤ d *ℤ pos t)) *ℤ pos w +ℤ y) over (pos w *ℤ pos 100) →
+    round v ≡ floorDiv (hundredths-of l d t (floorDiv y w)) 100 -ℤ pos 1000000
+reads-by l d t y {w} c p h e =
+    round-twice (l *ℤ pos 100 +ℤ (pos 50 +ℤ d *ℤ pos t)) y c p h (lit< tt) e
+    ∙ floor-above (pos 1000000) _
+    ∙ ap (λ n. floorDiv n 100 -ℤ pos 1000000)
+    (ring (l ∷ d ∷ pos t ∷ floorDiv y w ∷ []) (search terms depth 20 fits 9999) tt)
 
 -- ---- the curve and one half, as one fraction
 
@@ -107,8 +106,7 @@ record Bends (s : Segment) (x : ℕ) : Type 0 where
   pub above-is : a s ≡ pos (above s)
   pub below-is : b s ≡ pos (below s)
   pub reads : (down : Bool) → round (taken down (interpolant convex s x))
-      ≡ taken-ℤ down (v₀ s)
-      +ℤ bent-rise down (signed down (s .left .slope)) (t s x) (u s x) (h s) (above s) (below s)
+      ≡ bent-reading down (taken-ℤ down (v₀ s)) (signed down (s .left .slope)) (t s x) (u s x) (h s) (above s) (below s)
 
 module _ {s : Segment} {x : ℕ} (i : Inside (Good (plain convex)) s x) where
   module _ (low : d₀ s ≈ℚ rise s over gap s) (high : rise s over gap s ≈ℚ d₁ s) where
@@ -139,7 +137,7 @@ module _ {s : Segment} {x : ℕ} (i : Inside (Good (plain convex)) s x) where
       below-is = rw (below-zero s low);
       reads = λ down.
           rw (nothing-above down)
-          (reads-by (taken-ℤ down (v₀ s)) (pos 50 +ℤ signed down (s .left .slope) *ℤ pos (t s x)) (pos 0) {w = 1}
+          (reads-by (taken-ℤ down (v₀ s)) (signed down (s .left .slope)) (t s x) (pos 0) {w = 1}
           (taken-closed down along-slope) (taken-proper down (search positivity)) (lit< tt)
           (straight-half down (v₀ s) (s .left .slope) (pos (t s x))));
     }
@@ -191,7 +189,7 @@ module _ {s : Segment} {x : ℕ} (i : Inside (Good (plain convex)) s x) where
           above-is = above-is;
           below-is = below-is;
           reads = λ down.
-              reads-by (taken-ℤ down (v₀ s)) (pos 50 +ℤ signed down (s .left .slope) *ℤ pos (t s x)) (signed down (pos (w * w)))
+              reads-by (taken-ℤ down (v₀ s)) (signed down (s .left .slope)) (t s x) (signed down (pos (w * w)))
               {w = divisor * h s} (taken-closed down over-tangent) (taken-proper down (search (propers, signs) depth 9))
               (mul-pos divisor-positive k)
               (bent-half down (v₀ s) (s .left .slope) (pos (t s x)) (pos (h s)) (pos divisor) (pos w));
@@ -251,13 +249,14 @@ size-signed true z = size-neg z
 size-signed false z = refl
 
 pub bent-input : (down : Bool) {s : Segment} {x : ℕ} {y : Bent} → Inside (Good (bent-rule down)) s x → BentAt down s x y →
-    BentInput (s .left .slope) (y .t) (y .u) (y .h) (y .a) (y .b)
+    BentInput (s .left .value) (s .left .slope) (y .t) (y .u) (y .h) (y .a) (y .b)
 bent-input down {s} {x} {y} i k =
     let e = bent-ends down i in
     let n = e .ends in
     record {
       distances = rw (k .t, k .u) (distances i n);
       sum = rw (k .t, k .u, k .h) (h-is i);
+      value = n .left .value;
       steep = slope-size (n .left);
       above = omega (arith, ap natAbs (k .a), size-signed down (a s), a-size n);
       below = omega (arith, ap natAbs (k .b), size-signed down (b s), b-size n);
@@ -267,7 +266,7 @@ negated-twice : (z : ℤ) → negℤ (negℤ z) ≡ z
 negated-twice z = ring (z ∷ []) (search terms depth 20 fits 9999) tt
 
 pub bent-reads : (down : Bool) {s : Segment} {x : ℕ} {y : Bent} → Inside (Good (bent-rule down)) s x → BentAt down s x y →
-    pos (s .left .value) +ℤ bent-rise down (s .left .slope) (y .t) (y .u) (y .h) (y .a) (y .b)
+    bent-reading down (pos (s .left .value)) (s .left .slope) (y .t) (y .u) (y .h) (y .a) (y .b)
     ≡ round (exact-curve (bent-rule down) s x)
 unfolding exact-curve mirror
 bent-reads true {s} {x} {y} i k =
@@ -283,16 +282,10 @@ bent-reads false {s} {x} {y} i k =
     let b-is : y .b ≡ below s = Z.pos-injective (k .b ∙ f .below-is) in
     rw (k .t, k .u, k .h, a-is, b-is) (sym (f .reads false))
 
-of-sum : (l r z : ℤ) → l +ℤ r ≡ z → r ≡ z -ℤ l
-of-sum l r z e = rw (← e) (ring (l ∷ r ∷ []) (search terms depth 20 fits 9999) tt)
-
--- the left slope, and the sum of the left value and a rise, as the code has them
+-- with the left slope as the code has it
 module _ (down : Bool) {s : Segment} {x : ℕ} {y : Bent} (i : Inside (Good (bent-rule down)) s x) (k : BentAt down s x y) where
   abbrev slope : ℤ
   slope = toZ w32 (ofZ w32 (s .left .slope))
-
-  abbrev factor : ℤ
-  factor = round (exact-curve (bent-rule down) s x)
 
   slope-is : slope ≡ s .left .slope
   slope-is = slope-read (bent-ends down i .ends .left)
@@ -300,33 +293,17 @@ module _ (down : Bool) {s : Segment} {x : ℕ} {y : Bent} (i : Inside (Good (ben
   h-sum : y .h ≡ y .t + y .u
   h-sum = bent-input down i k .sum
 
-  pub input-read : BentInput slope (y .t) (y .u) (y .h) (y .a) (y .b)
+  pub input-read : BentInput (s .left .value) slope (y .t) (y .u) (y .h) (y .a) (y .b)
   input-read = rw slope-is (bent-input down i k)
 
-  pub input-summed : BentInput slope (y .t) (y .u) (y .t + y .u) (y .a) (y .b)
+  pub input-summed : BentInput (s .left .value) slope (y .t) (y .u) (y .t + y .u) (y .a) (y .b)
   input-summed = rw (← h-sum) input-read
 
-  module _ {r : ℤ} (e : r ≡ bent-rise down slope (y .t) (y .u) (y .h) (y .a) (y .b)) where
-    rise-is : r ≡ bent-rise down (s .left .slope) (y .t) (y .u) (y .h) (y .a) (y .b)
-    rise-is = e ∙ rw slope-is
-
-    rise-read : toZ w32 (ofZ w32 r) ≡ r
-    rise-read =
-        let l = pos (s .left .value) in
-        let r-is : r ≡ factor -ℤ l = rise-is ∙ of-sum l _ factor (bent-reads down i k) in
-        toZ-ofZ (sfits-of-size w32 r
-        (omega (arith, ap natAbs r-is, size-- factor l, factor-size i, bent-ends down i .ends .left .value)))
-
-    sum-is : toZ w32 (s .left .value) +ℤ toZ w32 (ofZ w32 r) ≡ factor
-    sum-is = ap₂ (λ l z. l +ℤ z) (value-read (bent-ends down i .ends .left)) (rise-read ∙ rise-is) ∙ bent-reads down i k
-
-    pub sum-fits : SFits w32 (toZ w32 (s .left .value) +ℤ toZ w32 (ofZ w32 r))
-    sum-fits = rw sum-is (factor-fits i)
-
-    pub sum-read : toZ w32 (ofZ w32 (toZ w32 (s .left .value) +ℤ toZ w32 (ofZ w32 r))) ≡ factor
-    sum-read = rw sum-is (factor-read i)
+  pub read-of : {r : ℤ} → r ≡ bent-reading down (pos (s .left .value)) slope (y .t) (y .u) (y .h) (y .a) (y .b) →
+      r ≡ round (exact-curve (bent-rule down) s x)
+  read-of e = e ∙ rw slope-is (bent-reads down i k)
 
   -- the same where h is t + u
-  pub summed : {r : ℤ} → r ≡ bent-rise down slope (y .t) (y .u) (y .t + y .u) (y .a) (y .b) →
-      r ≡ bent-rise down slope (y .t) (y .u) (y .h) (y .a) (y .b)
-  summed e = e ∙ rw h-sum
+  pub read-summed : {r : ℤ} → r ≡ bent-reading down (pos (s .left .value)) slope (y .t) (y .u) (y .t + y .u) (y .a) (y .b) →
+      r ≡ round (exact-curve (bent-rule down) s x)
+  read-summed e = read-of (e ∙ rw h-sum)

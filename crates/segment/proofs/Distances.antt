@@ -1,20 +1,17 @@
 -- An area inside a segment, in machine numbers.
 --   t, u            its distances from the two ends; h-is, their sum is the gap; u-read, as the code computes the second
 --   mirror-back     200,000 less a mirrored value is the value
---   factor-size     a factor is from −200,000 to 400,000; factor-fits, factor-read, it fits 32 bits
+--   factor-size     a factor is from −200,000 to 400,000
 -- Assumes nothing.
 use mathlib.Core.Path.{_≡_, _∙_}
 use mathlib.Core.List.{[], _∷_}
 use Prim.Native.Nat.{ℕ, _+_, _-_, _≤_}
 use native.Mathlib.Omega.{arith}
 use lib.IntN.{pos, natAbs, _-ℤ_}
-use mir.Syntax.{w32}
-use mir.Val.{SFits, toZ, ofZ}
-use mir.Facts.{toZ-ofZ}
 use Rattle.exact.specs.Rounding.{round}
 use Rattle.exact.proofs.Ring.{ring, terms}
 use Rattle.exact.proofs.Order as Z
-use Rattle.exact.proofs.Magnitude.{size-between, sfits-of-size}
+use Rattle.exact.proofs.Magnitude.{size-between}
 use Rattle.exact.proofs.Rounding.{round-rounding}
 use Rattle.model.specs.Points.{value-most, Segment, Rule}
 use Rattle.model.specs.Inner.{Neighbours, Good, Inside}
@@ -59,9 +56,3 @@ module _ {rule : Rule} {s : Segment} {x : ℕ} (i : Inside (Good rule) s x) wher
       let r = reading-range round-rounding (exact-curve rule s x) (curve-proper i) (value-range i) in
       size-between {n = 400000} _
       (Z.≤-trans (record { le = tt }) (Z.≤-trans (least-of-all rule) (r .low))) (Z.≤-trans (r .high) (most-of-all rule))
-
-  pub factor-fits : SFits w32 (round (exact-curve rule s x))
-  factor-fits = sfits-of-size w32 (round (exact-curve rule s x)) (omega (arith, factor-size))
-
-  pub factor-read : toZ w32 (ofZ w32 (round (exact-curve rule s x))) ≡ round (exact-curve rule s x)
-  factor-read = toZ-ofZ factor-fits

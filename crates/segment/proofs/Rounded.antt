@@ -1,6 +1,6 @@
 -- A rounding by two divisions, and a division of a number with its sign changed.
 --   round-twice     ⌊(x + ⌊y / w⌋) / m⌋ rounds v where v + 1/2 = (x w + y) / (w m)
---   floor-above     l and ⌊z / 100⌋ are ⌊(100 l + z) / 100⌋
+--   floor-above     ⌊z / 100⌋ is ⌊(100 l + z) / 100⌋ less l
 --   same-hundreds   ⌊(z + y) / 100⌋ where y is `next` or one less, unless 100 divides z + next
 --   floor-of-is     ⌊n / c⌋ and ⌊−n / c⌋, by quotient and remainder of n; floor-twice, by two divisions
 -- Assumes nothing.
@@ -48,8 +48,11 @@ unfolding floorDiv
 floor-by-1 (pos n) = ap pos (div-one n)
 floor-by-1 (negsuc n) = ap negsuc (div-one n)
 
-pub floor-above : (l z : ℤ) → l +ℤ floorDiv z 100 ≡ floorDiv (l *ℤ pos 100 +ℤ z) 100
-floor-above l z = sym (floor-by-1 _) ∙ floorDiv-nested l z {w = 100} {m = 1} (lit< tt) (lit< tt)
+pub floor-above : (l z : ℤ) → floorDiv z 100 ≡ floorDiv (l *ℤ pos 100 +ℤ z) 100 -ℤ l
+floor-above l z =
+    let e : l +ℤ floorDiv z 100 ≡ floorDiv (l *ℤ pos 100 +ℤ z) 100 =
+    sym (floor-by-1 _) ∙ floorDiv-nested l z {w = 100} {m = 1} (lit< tt) (lit< tt) in
+    rw (← e) (ring (l ∷ floorDiv z 100 ∷ []) (search terms depth 20 fits 9999) tt)
 
 floor-before : (z : ℤ) → (z ≡ pos 100 *ℤ floorDiv z 100 → ⊥) → floorDiv (z -ℤ pos 1) 100 ≡ floorDiv z 100
 floor-before z differ =

@@ -1,13 +1,13 @@
--- The sizes of what `part`, `rising`, `estimate`, `exact_rise` and `risen` compute.
+-- The sizes of what `part`, `rising`, `estimate`, `exact_factor` and `hundredths` compute.
 --   blend-size      a sum weighted by the distances from the two ends
 --   left-weights, right-weights   what the two calls of `part` ask
 --   whole-size, share-size, rising-size   B, A F with B / 2 for the rounding, and the factor
 --   OneLow, least-near   a quotient by leading bits: below the exact one, and at most 1 too low; next-or-before, rounded down
 --                   with its sign
---   divisor-size, denominator-size, excess-size, quotient-size   the parts of the convex curve
+--   divisor-size, denominator-size, excess-size   the parts of the convex curve
 --   w-most, w-most-size   w in the whole segment
 --   full-quotient, full-rest   the quotient by two divisions
---   risen-input     what `risen` asks; sum-fits, rise-fits and so on, that its sums fit
+--   sum-input       what `hundredths` asks; sum-natural, its sum is not negative; sum-fits and so on, its parts fit
 -- Assumes nothing.
 use mathlib.Core.Path.{_≡_, sym, _∙_, ap}
 use mathlib.Core.Bool.{Bool, true, false}
@@ -17,22 +17,23 @@ use Prim.Native.Nat.{ℕ, zero, suc, _+_, _-_, _*_, _/_, _%_, _^_, _≤_, _<_}
 use native.Mathlib.Nat.{mul-le-mul, mul-le-mul-left, mul-le-mul-right, le-mul-of-pos-right, div-le-self, add-div-right}
 use native.Mathlib.Nat.{mod-lt, div-div-eq-div-mul, div-add-mod', div-mul-le-self, le-trans, mul-pos}
 use native.Mathlib.Omega.{arith}
-use borrow.Author.Tests.{eqb-true}
+use borrow.Author.Tests.{eqb-true, le-ltb}
 use lib.Dec.{eqb}
 use lib.IntN.{ℤ, pos, negsuc, natAbs, _+ℤ_, _-ℤ_, _*ℤ_}
-use mir.Syntax.{w32, w64}
+use lib.Signed.{_≤ℤ_}
+use mir.Syntax.{w64}
 use mir.Val.{SFits, toZ}
 use mir.Facts.{toZ-pos}
 use Rattle.exact.specs.Inner.{Divided}
-use Rattle.exact.specs.Rounding.{floorDiv}
 use lib.Ieee.Nearest.{div-mono}
-use Rattle.exact.proofs.Ring.{ring, terms}
+use Rattle.exact.proofs.Ring.{ring, ring-ℕ, terms}
+use Rattle.exact.proofs.Order as Z
 use Rattle.exact.proofs.Tests.{compare, true-or-false}
-use Rattle.exact.proofs.Magnitude.{scaled-size, size-neg, size-+, size--, size-*, sfits-of-size}
+use Rattle.exact.proofs.Magnitude.{scaled-size, size-neg, size-+, size-*, sfits-of-size}
 use Rattle.model.specs.Points.{gap-most, value-most, slope-most}
 use Rattle.shape.specs.Inner.{over-most}
 use Rattle.segment.specs.Inner.{part, Weights, whole-part, rising-reading, RisingInput}
-use Rattle.segment.specs.Inner.{BentInput, floor-of, RisenInput, hundredths-of}
+use Rattle.segment.specs.Inner.{BentInput, floor-of, SumInput, hundredths-of}
 
 blend-size : (t u : ℕ) {g e m : ℕ} → t + u ≤ gap-most → g ≤ m → e ≤ m → g * t + e * u ≤ gap-most * m
 blend-size t u {m = m} near k l =
@@ -166,7 +167,7 @@ positive-right : (m n : ℕ) → 0 < m * n → 0 < n
 positive-right m zero k = omega (arith, k)
 positive-right m (suc n) k = omega arith
 
-module _ {slope : ℤ} {t u h a b : ℕ} (k : BentInput slope t u h a b) where
+module _ {left : ℕ} {slope : ℤ} {t u h a b : ℕ} (k : BentInput left slope t u h a b) where
   abbrev w : ℕ
   w = b * t
 
@@ -185,8 +186,11 @@ module _ {slope : ℤ} {t u h a b : ℕ} (k : BentInput slope t u h a b) where
   pub denominator-size : divisor * h ≤ gap-most * (2 * over-most) * gap-most
   denominator-size = mul-le-mul divisor-size h-size
 
-  pub excess-size : w * w / (divisor * h) ≤ w
-  excess-size = scaled-size {x = w} {c = divisor * h} w (omega (arith, le-mul-of-pos-right divisor h-positive))
+  pub excess-size : w * w / (divisor * h) ≤ 2 * over-most
+  excess-size =
+      let near : w * t ≤ divisor * h = mul-le-mul (omega arith) (omega (arith, k .sum)) in
+      let e : w * w ≡ w * t * b = ring-ℕ (b ∷ t ∷ []) (search terms depth 20 fits 9999) tt in
+      rw e (le-trans (scaled-size {x = w * t} {c = divisor * h} b near) (k .below))
 
   -- w in the whole segment
   pub w-most : w ≤ b * h
@@ -204,14 +208,10 @@ module _ {slope : ℤ} {t u h a b : ℕ} (k : BentInput slope t u h a b) where
       (omega arith) (omega arith) (omega arith) (omega arith) (omega arith)
       (mul-le-mul {n₁ = w} {m₁ = 100} {n₂ = divisor} {m₂ = h} (omega arith) (omega arith))
 
-  -- what is above the tangent is small
-  pub quotient-size : w * w / (divisor * h) < 2 ^ 37
-  quotient-size = omega (arith, excess-size, divisor-size)
-
   -- by the divisor, and then by h
   module _ {q r : ℕ} (s : Divided (w * w) divisor q r) (some : 0 < divisor) where
-    pub full-quotient : q / h < 2 ^ 37
-    full-quotient = rw (s .quotient, div-div-eq-div-mul) quotient-size
+    pub full-quotient : q / h ≤ 2 * over-most
+    full-quotient = rw (s .quotient, div-div-eq-div-mul) excess-size
 
     pub full-rest : r + q % h ≤ divisor + gap-most
     full-rest =
@@ -219,30 +219,33 @@ module _ {slope : ℤ} {t u h a b : ℕ} (k : BentInput slope t u h a b) where
         let n = mod-lt q h-positive in
         omega (arith, s .remainder, h-size)
 
-  pub risen-input : (down : Bool) (q r : ℕ) → q < 2 ^ 37 → RisenInput slope t (floor-of down q r)
-  risen-input down q r few =
+  pub sum-input : (down : Bool) (q r : ℕ) → q ≤ 2 * over-most + 1 → SumInput left slope t (floor-of down q r)
+  sum-input down q r few =
       record {
+        value = k .value;
         steep = k .steep;
         near = omega (arith, k .distances .most);
         size = omega (arith, floor-of-size down q r);
       }
 
--- ---- the rise in hundredths
+-- ---- the sum in hundredths
 
-floor-size : (z : ℤ) → natAbs (floorDiv z 100) ≤ natAbs z / 100 + 1
-unfolding floorDiv
-floor-size (pos n) = omega arith
-floor-size (negsuc n) = omega arith
+nonneg-above : (n : ℕ) (z : ℤ) → natAbs z ≤ n → pos 0 ≤ℤ (pos n +ℤ z)
+nonneg-above n (pos m) h = Z.nonneg-pos (n + m)
+nonneg-above n (negsuc m) h = rw (le-ltb n (suc m) h) (Z.nonneg-pos (n - suc m))
 
-module _ {slope : ℤ} {t : ℕ} {above : ℤ} (k : RisenInput slope t above) where
+module _ {left : ℕ} {slope : ℤ} {t : ℕ} {above : ℤ} (k : SumInput left slope t above) where
   abbrev product : ℤ
   product = slope *ℤ pos t
 
   product-most : natAbs product ≤ slope-most * gap-most
   product-most = omega (arith, size-* slope (pos t), mul-le-mul (k .steep) (k .near))
 
-  sum-size : natAbs (hundredths-of slope t above) ≤ 2 ^ 37 + 20001000
-  sum-size = omega (arith, size-+ (pos 50 +ℤ product) above, size-+ (pos 50) product, product-most, k .size)
+  abbrev from : ℕ
+  from = 100000050 + 100 * left
+
+  rest-size : natAbs (product +ℤ above) ≤ slope-most * gap-most + (2 * over-most + 2)
+  rest-size = omega (arith, size-+ product above, product-most, k .size)
 
   pub slope-fits : SFits w64 slope
   slope-fits = sfits-of-size w64 slope (omega (arith, k .steep))
@@ -250,32 +253,24 @@ module _ {slope : ℤ} {t : ℕ} {above : ℤ} (k : RisenInput slope t above) wh
   pub product-fits : SFits w64 product
   product-fits = sfits-of-size w64 product (omega (arith, product-most))
 
-  pub half-fits : SFits w64 (pos 50 +ℤ product)
-  half-fits = sfits-of-size w64 (pos 50 +ℤ product) (omega (arith, size-+ (pos 50) product, product-most))
+  pub from-read : toZ w64 from ≡ pos from
+  from-read = toZ-pos w64 (omega (arith, k .value))
 
-  pub sum-fits : SFits w64 (hundredths-of slope t above)
-  sum-fits = sfits-of-size w64 (hundredths-of slope t above) (omega (arith, sum-size))
+  pub from-fits : SFits w64 (pos from +ℤ product)
+  from-fits = sfits-of-size w64 (pos from +ℤ product) (omega (arith, size-+ (pos from) product, product-most, k .value))
 
-  pub rise-size : natAbs (floorDiv (hundredths-of slope t above) 100) ≤ 2 ^ 31 - 1
-  rise-size = omega (arith, floor-size (hundredths-of slope t above), sum-size)
+  pub sum-size : natAbs (hundredths-of (pos left) slope t above) ≤ 200000000
+  sum-size =
+      omega (arith, size-+ (pos from +ℤ product) above, size-+ (pos from) product, product-most, k .size, k .value)
 
-  pub rise-fits : SFits w32 (floorDiv (hundredths-of slope t above) 100)
-  rise-fits = sfits-of-size w32 (floorDiv (hundredths-of slope t above) 100) (omega (arith, rise-size))
+  pub sum-fits : SFits w64 (hundredths-of (pos left) slope t above)
+  sum-fits = sfits-of-size w64 (hundredths-of (pos left) slope t above) (omega (arith, sum-size))
 
-  -- the hundreds, and the last two digits
-  abbrev hundreds : ℤ
-  hundreds = pos 100 *ℤ floorDiv (hundredths-of slope t above) 100
-
-  hundreds-size : natAbs hundreds ≤ 100 * (2 ^ 31 - 1)
-  hundreds-size = omega (arith, size-* (pos 100) (floorDiv (hundredths-of slope t above) 100), rise-size)
-
-  pub hundreds-fits : SFits w64 hundreds
-  hundreds-fits = sfits-of-size w64 hundreds (omega (arith, hundreds-size))
-
-  pub digits-fits : SFits w64 (hundredths-of slope t above -ℤ hundreds)
-  digits-fits =
-      let z : ℤ = hundredths-of slope t above in
-      sfits-of-size w64 (z -ℤ hundreds) (omega (arith, size-- z hundreds, sum-size, hundreds-size))
+  pub sum-natural : hundredths-of (pos left) slope t above ≡ pos (natAbs (hundredths-of (pos left) slope t above))
+  sum-natural =
+      let e : hundredths-of (pos left) slope t above ≡ pos from +ℤ (product +ℤ above) =
+      ring (pos left ∷ product ∷ above ∷ []) (search terms depth 20 fits 9999) tt in
+      Z.natural-of-nonneg (rw e (nonneg-above from (product +ℤ above) (omega (arith, rest-size))))
 
   pub distance-read : toZ w64 t ≡ pos t
   distance-read = toZ-pos w64 (omega (arith, k .near))

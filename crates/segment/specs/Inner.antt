@@ -8,9 +8,9 @@
 --   BentAt           the figures of an area of a convex or concave segment; bent-rule, the rule of the one or the other
 --   above-tangent    how far the curve is above its left tangent, in hundredths, rounded down; ceil-of and floor-of, by a
 --                    quotient and a remainder
---   bent-rise        how far it is above its left value, rounded; hundredths-of, that before the division by 100
---   Weights, RisingInput, Climb (Rising), Apart, BentInput, RisenInput   what `part`, `rising`, `climb`, `apart`, `estimate` and
---                    `risen` ask
+--   bent-reading     the rounded value; hundredths-of, the sum that is divided by 100 for it
+--   Weights, RisingInput, Climb (Rising), Apart, BentInput, SumInput   what `part`, `rising`, `climb`, `apart`, `estimate` and
+--                    `hundredths` ask
 -- Assumes nothing.
 use mathlib.Core.Path.{_≡_}
 use mathlib.Core.Bool.{Bool, cond}
@@ -112,21 +112,24 @@ floor-of down q r = cond down (negℤ (pos (ceil-of q r))) (pos q)
 abbrev pub above-tangent : Bool → (t u h a b : ℕ) → ℤ
 above-tangent down t u h a b = floorDiv (signed down (pos (b * t * (b * t)))) ((a * u + b * t) * h)
 
--- with the left tangent and one half for the rounding
-abbrev pub hundredths-of : ℤ → ℕ → ℤ → ℤ
-hundredths-of slope t above = pos 50 +ℤ slope *ℤ pos t +ℤ above
+-- the left value, the left tangent and what is above it, from one million units below 0 on, with one half for the rounding
+abbrev pub hundredths-of : (left slope : ℤ) (t : ℕ) (above : ℤ) → ℤ
+hundredths-of left slope t above = pos 100000050 +ℤ pos 100 *ℤ left +ℤ slope *ℤ pos t +ℤ above
 
-abbrev pub bent-rise : Bool → ℤ → (t u h a b : ℕ) → ℤ
-bent-rise down slope t u h a b = floorDiv (hundredths-of slope t (above-tangent down t u h a b)) 100
+abbrev pub bent-reading : Bool → (left slope : ℤ) (t u h a b : ℕ) → ℤ
+bent-reading down left slope t u h a b =
+    floorDiv (hundredths-of left slope t (above-tangent down t u h a b)) 100 -ℤ pos 1000000
 
-pub record BentInput (slope : ℤ) (t u h a b : ℕ) : Type 0 where
+pub record BentInput (left : ℕ) (slope : ℤ) (t u h a b : ℕ) : Type 0 where
   pub distances : Distances t u
   pub sum : h ≡ t + u
+  pub value : left ≤ value-most
   pub steep : natAbs slope ≤ slope-most
   pub above : a ≤ 2 * over-most
   pub below : b ≤ 2 * over-most
 
-pub record RisenInput (slope : ℤ) (t : ℕ) (above : ℤ) : Type 0 where
+pub record SumInput (left : ℕ) (slope : ℤ) (t : ℕ) (above : ℤ) : Type 0 where
+  pub value : left ≤ value-most
   pub steep : natAbs slope ≤ slope-most
   pub near : t ≤ gap-most
-  pub size : natAbs above ≤ 2 ^ 37 + 100
+  pub size : natAbs above ≤ 2 * over-most + 2

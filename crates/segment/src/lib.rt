@@ -2,11 +2,11 @@
 ghost use mathlib.Core.Path.{_≡_};
 ghost use mathlib.Core.Bool.{true, false};
 ghost use lib.IntN.{pos, _-ℤ_};
-ghost use Prim.Native.Nat.{_+_, _*_, _<_, _^_};
+ghost use Prim.Native.Nat.{_+_, _*_, _/_, _<_, _^_};
 ghost use Rattle.segment.specs.Inner as inner;
 ghost use Rattle.segment.specs.Inner.{Weights, RisingInput, rising-reading, Climb, climbed};
-ghost use Rattle.segment.specs.Inner.{signed, Apart, BentAt, BentInput, bent-rise, floor-of, RisenInput, hundredths-of};
-ghost use Rattle.exact.specs.Rounding.{floorDiv, round};
+ghost use Rattle.segment.specs.Inner.{signed, Apart, BentAt, BentInput, bent-reading, floor-of, SumInput, hundredths-of};
+ghost use Rattle.exact.specs.Rounding.{round};
 ghost use Rattle.model.specs.Points.{Shape, Rule, rule-of};
 ghost use Rattle.model.specs.Interpolant.{exact-curve};
 ghost use Rattle.model.specs.Inner.{Good, Inside, Limits};
@@ -142,39 +142,40 @@ fn floor_of(down: bool, q: u64, r: u64) -> i64
     q as i64
 }
 
-// The left tangent above the left value in hundredths, one half for the rounding, and what is above the tangent.
-fn hundredths(slope: i32, t: u64, above: i64) -> i64
-    requires { ⌜ RisenInput slope t above ⌝ }
-    ensures { λ r. ⌜ r ≡ hundredths-of slope t above ⌝ }
+// The sum of the left value, the left tangent and what is above it, in hundredths. It begins one million units below 0, so that it
+// is not negative, with one half for the rounding.
+fn hundredths(left: u32, slope: i32, t: u64, above: i64) -> u32
+    requires { ⌜ SumInput left slope t above ⌝ }
+    ensures { λ r. ⌜ pos r ≡ hundredths-of (pos left) slope t above ⌝ }
 {
-    50 + (slope as i64) * (t as i64) + above
+    let from = 100000050 + 100 * left;
+    ((from as i64) + (slope as i64) * (t as i64) + above) as u32
 }
 
-// How far the curve is above the left value, rounded.
-fn risen(slope: i32, t: u64, above: i64) -> i32
-    requires { ⌜ RisenInput slope t above ⌝ }
-    ensures { λ r. ⌜ r ≡ floorDiv (hundredths-of slope t above) 100 ⌝ }
+// The factor of such a sum: its hundreds, the million taken off.
+fn factor_of(sum: u32) -> i32
+    ensures { λ r. ⌜ r ≡ pos (sum / 100) -ℤ pos 1000000 ⌝ }
 {
-    exact::floor_div(hundredths(slope, t, above), 100) as i32
+    (sum / 100) as i32 - 1000000
 }
 
-// How far a curve is above its left value, rounded. `sure` is false where one division does not tell it.
+// A factor. `sure` is false where one division does not tell it.
 struct Estimated {
-    rise: i32,
+    factor: i32,
     sure: bool,
 }
 
-// How far the curve is above its left value, rounded. With w = b t and W = a u + w it is w w / (W h) hundredths off its left
-// tangent. Where h divides it is t + u: the compiler would test at each area whether an h that is the same for all of them is 0.
-fn estimate(down: bool, slope: i32, t: u64, u: u64, h: u64, a: u64, b: u64) -> Estimated
-    requires { ⌜ BentInput slope t u h a b ⌝ }
-    ensures sure { λ e. ⌜ (e .sure ≡ true → e .rise ≡ bent-rise down slope t u h a b) ⌝ }
+// The factor. With w = b t and W = a u + w the curve is w w / (W h) hundredths off its left tangent. Where h divides it is t + u:
+// the compiler would test at each area whether an h that is the same for all of them is 0.
+fn estimate(down: bool, left: u32, slope: i32, t: u64, u: u64, h: u64, a: u64, b: u64) -> Estimated
+    requires { ⌜ BentInput left slope t u h a b ⌝ }
+    ensures sure { λ e. ⌜ (e .sure ≡ true → e .factor ≡ bent-reading down (pos left) slope t u h a b) ⌝ }
     ensures bent { λ e. ⌜ (e .sure ≡ false → 0 < b * t) ⌝ }
 {
     let w = b * t;
     if w == 0 {
         return Estimated {
-            rise: risen(slope, t, 0),
+            factor: factor_of(hundredths(left, slope, t, 0)),
             sure: true,
         };
     }
@@ -183,7 +184,7 @@ fn estimate(down: bool, slope: i32, t: u64, u: u64, h: u64, a: u64, b: u64) -> E
     if b * h < 0x1_0000_0000 {
         let c = divisor * (t + u);
         return Estimated {
-            rise: risen(slope, t, floor_of(down, w * w / c, w * w % c)),
+            factor: factor_of(hundredths(left, slope, t, floor_of(down, w * w / c, w * w % c))),
             sure: true,
         };
     }
@@ -191,23 +192,22 @@ fn estimate(down: bool, slope: i32, t: u64, u: u64, h: u64, a: u64, b: u64) -> E
     // this one or one less: the same hundreds, unless it ends in 00.
     let v = w / 32;
     let least = v * v / (divisor * h / 1024 + 1);
-    let n = hundredths(slope, t, floor_of(down, least + 1, 0));
-    let k = exact::floor_div(n, 100);
+    let sum = hundredths(left, slope, t, floor_of(down, least + 1, 0));
     Estimated {
-        rise: k as i32,
-        sure: n - 100 * k != 0,
+        factor: factor_of(sum),
+        sure: sum % 100 != 0,
     }
 }
 
 // The same where w is not 0, by three divisions.
-fn exact_rise(down: bool, slope: i32, t: u64, u: u64, a: u64, b: u64) -> i32
-    requires { ⌜ BentInput slope t u (t + u) a b × (0 < b * t) ⌝ }
-    ensures { λ r. ⌜ r ≡ bent-rise down slope t u (t + u) a b ⌝ }
+fn exact_factor(down: bool, left: u32, slope: i32, t: u64, u: u64, a: u64, b: u64) -> i32
+    requires { ⌜ BentInput left slope t u (t + u) a b × (0 < b * t) ⌝ }
+    ensures { λ r. ⌜ r ≡ bent-reading down (pos left) slope t u (t + u) a b ⌝ }
 {
     let w = b * t;
     let s = exact::mul_div(w, w, a * u + w);
     let h = t + u;
-    risen(slope, t, floor_of(down, s.q / h, s.r + s.q % h))
+    factor_of(hundredths(left, slope, t, floor_of(down, s.q / h, s.r + s.q % h)))
 }
 
 // ---- the factor. `estimate` is called for convex and for concave curves apart, so that the compiler makes two of it.
@@ -217,12 +217,11 @@ fn convex_factor(p: Point, q: Point, area: u32) -> i32
     ensures { λ r. ⌜ r ≡ round (exact-curve (Rule.plain Shape.convex) (segment-of p q) area) ⌝ }
 {
     let x = bent_at(false, p, q, area);
-    let left = p.value as i32;
-    let e = estimate(false, p.slope, x.t, x.u, x.h, x.a, x.b);
+    let e = estimate(false, p.value, p.slope, x.t, x.u, x.h, x.a, x.b);
     if e.sure {
-        return left + e.rise;
+        return e.factor;
     }
-    left + exact_rise(false, p.slope, x.t, x.u, x.a, x.b)
+    exact_factor(false, p.value, p.slope, x.t, x.u, x.a, x.b)
 }
 
 fn concave_factor(p: Point, q: Point, area: u32) -> i32
@@ -230,12 +229,11 @@ fn concave_factor(p: Point, q: Point, area: u32) -> i32
     ensures { λ r. ⌜ r ≡ round (exact-curve (Rule.mirrored Shape.convex) (segment-of p q) area) ⌝ }
 {
     let x = bent_at(true, p, q, area);
-    let left = p.value as i32;
-    let e = estimate(true, p.slope, x.t, x.u, x.h, x.a, x.b);
+    let e = estimate(true, p.value, p.slope, x.t, x.u, x.h, x.a, x.b);
     if e.sure {
-        return left + e.rise;
+        return e.factor;
     }
-    left + exact_rise(true, p.slope, x.t, x.u, x.a, x.b)
+    exact_factor(true, p.value, p.slope, x.t, x.u, x.a, x.b)
 }
 
 // The factor at an area of a segment that has its shape.

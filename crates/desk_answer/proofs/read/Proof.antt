@@ -1,7 +1,7 @@
 -- `desk_answer::read` meets its contract: rows 9 and 10, row 11, rows 1 to 7 of the points, or the factor and where the records
 -- begin.
 -- Assumes nothing.
-use mathlib.Core.Path.{_≡_, refl, sym, _∙_, subst}
+use mathlib.Core.Path.{_≡_, sym, _∙_, subst}
 use mathlib.Core.List.{List}
 use Prim.Native.Nat.{ℕ, suc, _≤_}
 use native.Mathlib.Omega.{arith}
@@ -12,11 +12,11 @@ use lib.ListN.{length}
 use mir.Facts.{toZ-ofZ}
 use Rattle.model.specs.Answer.{Answer, gives, refused, row, _then_}
 use Rattle.model.specs.Read.{read-answer}
-use Rattle.model.specs.Inner.{read-rows, segment-answer}
+use Rattle.model.specs.Inner.{segment-answer}
 use Rattle.model.proofs.Answers.{reading-given, read-refused, refused-first}
 use Rattle.model.proofs.Numbered.{Numbered, in-reading}
 use Rattle.rows.proofs.Faults.{a-fault, no-fault}
-use Rattle.layout.specs.Layout.{record-size, point-offset, shape-code, count, points-of}
+use Rattle.layout.specs.Layout.{point-offset, shape-code, count, points-of}
 use Rattle.layout.specs.Head.{head-rows}
 use Rattle.layout.proofs.Heads.{size-of-passed, in-head}
 use Rattle.file_lookup.proofs.Placed.{ReadAt, read-at-of}

@@ -1,40 +1,60 @@
 -- `segment::hundredths` meets its contract.
 -- Assumes nothing.
-use mathlib.Core.Path.{_≡_}
+use mathlib.Core.Path.{_≡_, sym}
+use Prim.Native.Nat.{_+_, _*_}
+use native.Mathlib.Omega.{arith}
 use borrow.Author.Needs.{needs}
-use lib.IntN.{pos, _+ℤ_, _*ℤ_}
+use lib.IntN.{ℤ, pos, _+ℤ_, _*ℤ_}
 use mir.Syntax.{w32, w64}
 use mir.Val.{toZ, ofZ}
 use mir.Facts.{toZ-ofZ}
-use Rattle.segment.proofs.Sizes.{slope-fits, product-fits, half-fits, sum-fits, distance-read}
+use Rattle.segment.specs.Inner.{hundredths-of}
+use Rattle.segment.proofs.Sizes.{slope-fits, product-fits, from-fits, from-read, sum-fits, sum-size, sum-natural}
+use Rattle.segment.proofs.Sizes.{distance-read}
 use Rattle.segment.proofs.hundredths.Statement.{statement}
 use Rattle.segment.proofs.hundredths.Tie as tie
 
-cast-result : tie.Need-cast-result
-cast-result c = rw (toZ-ofZ (c .fits .slope)) (slope-fits (c .pre))
+-- the slope's product, the sum so far, and the sum, as the code has them
+module _ (c : tie.Start) where
+  abbrev slope : ℤ
+  slope = toZ w64 (ofZ w64 (toZ w32 (ofZ w32 (c .args .slope))))
+
+  abbrev first : ℤ
+  first = toZ w64 (ofZ w64 (toZ w64 (100000050 + 100 * c .args .left) +ℤ toZ w64 (ofZ w64 (slope *ℤ toZ w64 (c .args .t)))))
+
+  slope-read : slope ≡ c .args .slope
+  slope-read = rw (toZ-ofZ (c .fits .slope)) (toZ-ofZ (slope-fits (c .pre)))
+
+  first-read : first ≡ pos (100000050 + 100 * c .args .left) +ℤ c .args .slope *ℤ pos (c .args .t)
+  first-read =
+      rw (slope-read, distance-read (c .pre), toZ-ofZ (product-fits (c .pre)), from-read (c .pre)) (toZ-ofZ (from-fits (c .pre)))
+
+  sum-read : first +ℤ toZ w64 (ofZ w64 (c .args .above)) ≡ hundredths-of (pos (c .args .left)) (c .args .slope) (c .args .t) (c .args .above)
+  sum-read = rw (first-read, toZ-ofZ (c .fits .above))
+
+cast-result-2 : tie.Need-cast-result-2
+cast-result-2 c = rw (toZ-ofZ (c .fits .slope)) (slope-fits (c .pre))
 
 mul-result : tie.Need-mul-result
-mul-result c = rw (toZ-ofZ (c .fits .slope), toZ-ofZ (slope-fits (c .pre)), distance-read (c .pre)) (product-fits (c .pre))
+mul-result c = rw (slope-read c, distance-read (c .pre)) (product-fits (c .pre))
 
 add-result : tie.Need-add-result
 add-result c =
-    let k = c .pre in
-    rw (toZ-ofZ (c .fits .slope), toZ-ofZ (slope-fits k), distance-read k, toZ-ofZ (product-fits k)) (half-fits k)
-
--- the sum, as the code has it
-sum-read : (c : tie.Start) → (let a = c .args in
-    toZ w64 (ofZ w64 (pos 50 +ℤ toZ w64 (ofZ w64 (toZ w64 (ofZ w64 (toZ w32 (ofZ w32 (a .slope)))) *ℤ toZ w64 (a .t)))))
-    +ℤ toZ w64 (ofZ w64 (a .above)) ≡ pos 50 +ℤ a .slope *ℤ pos (a .t) +ℤ a .above)
-sum-read c =
-    let k = c .pre in
-    rw (toZ-ofZ (c .fits .slope), toZ-ofZ (slope-fits k), distance-read k, toZ-ofZ (product-fits k), toZ-ofZ (half-fits k))
-    (rw (toZ-ofZ (c .fits .above)))
+    rw (slope-read c, distance-read (c .pre), toZ-ofZ (product-fits (c .pre)), from-read (c .pre)) (from-fits (c .pre))
 
 add-result-2 : tie.Need-add-result-2
 add-result-2 c = rw (sum-read c) (sum-fits (c .pre))
 
+cast-result-4 : tie.Need-cast-result-4
+cast-result-4 c =
+    rw (sum-read c, toZ-ofZ (sum-fits (c .pre)))
+    (rw (sum-natural (c .pre)) tt, record { fits = omega (arith, sum-size (c .pre)) })
+
 returns : tie.Need-returns
-returns c = rw (sum-read c) (toZ-ofZ (sum-fits (c .pre)))
+returns c = rw (sum-read c, toZ-ofZ (sum-fits (c .pre))) (sym (sum-natural (c .pre)))
 
 pub hundredths-spec : {M : Type 1} → statement M
-hundredths-spec = tie.close (tie.spec cast-result (search needs) mul-result add-result add-result-2 returns)
+hundredths-spec =
+    tie.close
+    (tie.spec (λ c. omega (arith, c .pre)) (λ c. omega (arith, c .pre)) (λ c. omega (arith, c .pre)) cast-result-2 (search needs)
+    mul-result add-result add-result-2 cast-result-4 returns)
