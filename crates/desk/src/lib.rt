@@ -70,10 +70,10 @@ pub extern "C" fn desk_reading(bytes: &[u8], area: u32, scratch: &mut [u8]) -> i
         ≡ filled (desk-answer (now (bytes .entry)) area (length (now (scratch .entry))))
         (point-records (now (bytes .entry))) (now (scratch .entry)) ⌝ }
 {
-    let read = desk_answer::read(bytes, area, scratch.len(), false);
-    if read.at == 0 {
-        return read.number;
+    let found = desk_answer::find(bytes, area, scratch.len(), false);
+    if found.number != 0 {
+        return found.number;
     }
     copy(&bytes[HEAD_SIZE..], scratch);
-    read.number
+    desk_answer::factor(bytes, found.shape, found.index, area)
 }

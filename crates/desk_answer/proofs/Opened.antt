@@ -1,17 +1,17 @@
--- What an answer of a desk reading says, by where the records of the segment read begin.
---   untouched   at 0 it is a refusal, and a lent list is as found
---   Opened      elsewhere it is a factor: the file has its length, the scratch its room, and the segment read is in the file
+-- What an answer of a desk reading says, by what is found.
+--   untouched   where a number is found the answer is a refusal: a lent list is as found, and that number is given
+--   Opened      elsewhere it is a factor: the file has its length, the scratch its room, and the segment found is the one read
 -- Assumes nothing.
-use mathlib.Core.Path.{_≡_, refl}
+use mathlib.Core.Path.{_≡_, refl, sym, _∙_}
 use mathlib.Core.List.{List}
 use Prim.Native.Nat.{ℕ, suc, _≤_, _<_}
-use native.Mathlib.Omega.{arith}
 use borrow.Author.Tests.{ltb-false}
 use lib.Dec.{ltb}
-use lib.IntN.{ℤ}
+use lib.IntN.{ℤ, pos}
 use lib.ListN.{length}
-use Rattle.model.specs.Answer.{Answer, gives, refused, row, filled}
-use Rattle.model.specs.Read.{segment-read}
+use Rattle.model.specs.Answer.{Answer, gives, refused, row, _then_, filled}
+use Rattle.model.specs.Read.{segment-read, reading}
+use Rattle.model.specs.Inner.{segment-answer}
 use Rattle.model.proofs.Rows.{then-first, then-rest, row-passed}
 use Rattle.model.proofs.Indexed.{read-inner}
 use Rattle.model.proofs.Accepted.{count-of}
@@ -20,40 +20,59 @@ use Rattle.layout.specs.Layout.{point-offset, shape-code, count, points-of}
 use Rattle.layout.specs.Head.{head-rows}
 use Rattle.layout.proofs.Heads.{size-of-passed}
 use Rattle.layout.proofs.Points.{size-of-first}
-use Rattle.desk_answer.specs.Desk.{answer-with}
-use Rattle.desk_answer.specs.Inner.{read-at}
+use Rattle.desk_answer.specs.Desk.{answer-with, desk-number}
+use Rattle.desk_answer.specs.Laws.{Apart}
+use Rattle.desk_answer.specs.Inner.{FoundBy}
+use Rattle.desk_answer.specs.declared.Found.{Found}
+use Rattle.desk_answer.proofs.Apart.{apart}
 
-pub untouched : (a : Answer ℤ) (bytes : List ℕ) (area : ℕ) (written found : List ℕ) → read-at a bytes area ≡ 0 →
-    filled a written found ≡ found
-unfolding read-at filled
-untouched (gives factor) bytes area written found e = absurd (omega arith)
-untouched (refused number place) bytes area written found e = refl
+pub record Untouched (a : Answer ℤ) (r : Found) : Type 0 where
+  pub number : r .number ≡ desk-number a
+  pub list : (written found : List ℕ) → filled a written found ≡ found
 
-module _ (room : ℕ) (bytes : List ℕ) (area scratch : ℕ) where
+pub untouched : (a : Answer ℤ) (bytes : List ℕ) (area : ℕ) {r : Found} → FoundBy a bytes area r → (r .number ≡ pos 0 → ⊥) →
+    Untouched a r
+unfolding FoundBy filled
+untouched (gives factor) bytes area f some = absurd (some (f .0))
+untouched (refused number place) bytes area f some = record { number = f; list = λ written found. refl }
+
+module _ (room : ℕ) (bytes : List ℕ) (area scratch : ℕ) (r : Found) where
   pub record Opened : Type 0 where
     pub factor : ℤ
     pub is : answer-with room bytes area scratch ≡ gives factor
+    pub head : head-rows bytes ≡ gives tt
     pub size : length bytes ≡ point-offset (count bytes)
     pub enough : room ≤ scratch
-    pub inner : suc (segment-read (points-of bytes) area) < count bytes
+    pub index : r .index ≡ segment-read (points-of bytes) area
+    pub inner : suc (r .index) < count bytes
+    pub located : segment-answer (points-of bytes) (r .shape) area ≡ gives (r .index)
+    pub reads : reading (points-of bytes) (r .shape) area ≡ factor
 
-  opened-of : (factor : ℤ) → answer-with room bytes area scratch ≡ gives factor → Opened
-  unfolding answer-with
-  opened-of factor e =
+  opened-of : (factor : ℤ) → answer-with room bytes area scratch ≡ gives factor → r .shape ≡ shape-code bytes →
+      r .index ≡ segment-read (points-of bytes) area → Opened
+  unfolding answer-with row _then_
+  opened-of factor e code index =
       let rest = then-rest (head-rows bytes) _ e in
       let g = given (points-of bytes) (shape-code bytes) area (then-rest (row (ltb scratch room) 11 0) _ rest) in
+      let head = then-first (head-rows bytes) _ e in
+      let inner = read-inner (points-of bytes) area (count-of (g .accepted) .0) in
       record {
         factor = factor;
         is = e;
-        size = size-of-passed bytes (then-first (head-rows bytes) _ e);
+        head = head;
+        size = size-of-passed bytes head;
         enough = ltb-false scratch room (row-passed (ltb scratch room) 11 0 _ rest);
-        inner = rw (size-of-first bytes (count bytes)) at (read-inner (points-of bytes) area (count-of (g .accepted) .0));
+        index = index;
+        inner = rw index (rw (size-of-first bytes (count bytes)) at inner);
+        located = rw (code, index, g .accepted .none-applies, g .within);
+        reads = rw code (g .factor);
       }
 
-  by-cases : (a : Answer ℤ) → answer-with room bytes area scratch ≡ a → (read-at a bytes area ≡ 0 → ⊥) → Opened
-  unfolding read-at
-  by-cases (gives factor) e k = opened-of factor e
-  by-cases (refused number place) e k = absurd (k refl)
+  by-cases : (a : Answer ℤ) → answer-with room bytes area scratch ≡ a → Apart a → FoundBy a bytes area r → r .number ≡ pos 0 →
+      Opened
+  unfolding FoundBy Apart
+  by-cases (gives factor) e k f none = opened-of factor e (f .1) (f .2)
+  by-cases (refused number place) e k f none = absurd ((rw (sym f ∙ none) at k) .le)
 
-  pub opened : (read-at (answer-with room bytes area scratch) bytes area ≡ 0 → ⊥) → Opened
-  opened = by-cases (answer-with room bytes area scratch) refl
+  pub opened : FoundBy (answer-with room bytes area scratch) bytes area r → r .number ≡ pos 0 → Opened
+  opened = by-cases (answer-with room bytes area scratch) refl (apart room bytes area scratch)

@@ -11,8 +11,8 @@ use Rattle.model.specs.Read.{segment-read, read-answer}
 use Rattle.layout.specs.Layout.{head-size, record-size, point-offset, shape-code, count, points-of}
 use Rattle.layout.specs.Head.{head-rows}
 
--- of the bytes that the scratch must have, the file, the area and the scratch's length: rows 9 and 10; 11, scratch too short; then
--- 1 to 6, and 7
+-- of how many bytes the scratch must have, the file, the area and the scratch's length: rows 9 and 10; 11, scratch too short;
+-- then 1 to 6, and 7
 unfoldable pub answer-with : ℕ → List ℕ → ℕ → ℕ → Answer ℤ
 answer-with room bytes area scratch =
     head-rows bytes then row (ltb scratch room) 11 0 then read-answer (points-of bytes) (shape-code bytes) area

@@ -1,19 +1,21 @@
 -- What contracts of inner functions cite. Nothing here need be believed: the calls' contracts cite document 01's and item 5's
 -- definitions.
 --   room        the bytes that a scratch must have, for two records or for all; answer-for, the answer with that room
---   read-at     where the records of the segment read begin in the file; 0 after a refusal
+--   FoundBy     what is found, by the answer: the file's code and the index of the segment read, or a refusal's number
 --   Fits        n bytes from an index on are in a list of so many bytes, and from another on in a second one
 --   copied      those of the second list are those of the first
 -- Assumes nothing.
+use mathlib.Core.Path.{_≡_}
 use mathlib.Core.Bool.{Bool, true, false}
 use mathlib.Core.List.{List, _++_}
 use Prim.Native.Nat.{ℕ, _+_, _*_, _≤_}
-use lib.IntN.{ℤ}
+use lib.IntN.{ℤ, pos}
 use lib.ListN.{take, drop}
 use Rattle.model.specs.Answer.{Answer, gives, refused}
 use Rattle.model.specs.Read.{segment-read}
-use Rattle.layout.specs.Layout.{record-size, point-offset, count, points-of}
-use Rattle.desk_answer.specs.Desk.{answer-with}
+use Rattle.layout.specs.Layout.{record-size, shape-code, count, points-of}
+use Rattle.desk_answer.specs.Desk.{answer-with, desk-number}
+use Rattle.desk_answer.specs.declared.Found.{Found}
 
 unfoldable pub room : Bool → ℕ → ℕ
 room true count = 2 * record-size
@@ -22,9 +24,10 @@ room false count = record-size * count
 abbrev pub answer-for : Bool → List ℕ → ℕ → ℕ → Answer ℤ
 answer-for two bytes = answer-with (room two (count bytes)) bytes
 
-unfoldable pub read-at : Answer ℤ → List ℕ → ℕ → ℕ
-read-at (gives factor) bytes area = point-offset (segment-read (points-of bytes) area)
-read-at (refused number place) bytes area = 0
+unfoldable pub FoundBy : Answer ℤ → List ℕ → ℕ → Found → Type 0
+FoundBy (gives factor) bytes area r =
+    (r .number ≡ pos 0) × (r .shape ≡ shape-code bytes) × (r .index ≡ segment-read (points-of bytes) area)
+FoundBy (refused number place) bytes area r = r .number ≡ desk-number (refused number place)
 
 pub record Fits (from to n src dst : ℕ) : Type 0 where
   pub in-src : from + n ≤ src

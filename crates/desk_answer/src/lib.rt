@@ -3,26 +3,30 @@ ghost use mathlib.Core.Path.{_≡_};
 ghost use Prim.Native.Nat.{_≤_};
 ghost use lib.IntN.{pos, negℤ, _-ℤ_};
 ghost use lib.ListN.{length};
-ghost use Rattle.model.specs.Inner.{number-most};
-ghost use Rattle.desk_answer.specs.Desk.{desk-number};
-ghost use Rattle.desk_answer.specs.Inner.{Fits, copied, room as room-of, answer-for, read-at};
-use layout::HEAD_SIZE;
+ghost use Rattle.model.specs.Answer.{gives};
+ghost use Rattle.model.specs.Read.{reading};
+ghost use Rattle.model.specs.Inner.{number-most, segment-answer};
+ghost use Rattle.layout.specs.Layout.{points-of};
+ghost use Rattle.layout.specs.Head.{head-rows};
+ghost use Rattle.desk_answer.specs.Inner.{Fits, copied, room as room-of, answer-for, FoundBy};
 use layout::RECORD_SIZE;
 
-// The number that the desk gives, and where the records of the segment read begin in the file: 0 after a refusal.
-pub struct Reading {
+// A refusal's number as the desk gives it; or 0, the file's shape code and the index of the segment read.
+pub struct Found {
     pub number: i32,
-    pub at: usize,
+    pub shape: u32,
+    pub index: usize,
 }
 
-fn refused(number: u32) -> Reading
+fn refused(number: u32) -> Found
     requires { ⌜ number ≤ number-most ⌝ }
-    ensures { λ r. ⌜ (r .number ≡ negℤ (pos 1000000) -ℤ pos number) × (r .at ≡ 0) ⌝ }
+    ensures { λ r. ⌜ r .number ≡ negℤ (pos 1000000) -ℤ pos number ⌝ }
 {
     let below = -1000000 - (number as i32);
-    Reading {
+    Found {
         number: below,
-        at: 0,
+        shape: 0,
+        index: 0,
     }
 }
 
@@ -37,10 +41,9 @@ fn room(two: bool, n: usize) -> usize
     RECORD_SIZE * n
 }
 
-// Rows 9 and 10, row 11 by the scratch's length, rows 1 to 7; then the factor.
-pub fn read(bytes: &[u8], area: u32, scratch: usize, two: bool) -> Reading
-    ensures number { λ r. ⌜ r .number ≡ desk-number (answer-for two (now (bytes .entry)) area scratch) ⌝ }
-    ensures at { λ r. ⌜ r .at ≡ read-at (answer-for two (now (bytes .entry)) area scratch) (now (bytes .entry)) area ⌝ }
+// Rows 9 and 10, row 11 by the scratch's length, rows 1 to 7; then the segment read.
+pub fn find(bytes: &[u8], area: u32, scratch: usize, two: bool) -> Found
+    ensures { λ r. ⌜ FoundBy (answer-for two (now (bytes .entry)) area scratch) (now (bytes .entry)) area r ⌝ }
 {
     let fault = layout::head_fault(bytes);
     if fault != 0 {
@@ -55,9 +58,19 @@ pub fn read(bytes: &[u8], area: u32, scratch: usize, two: bool) -> Reading
     if found.number != 0 {
         return refused(found.number);
     }
-    let number = file_lookup::factor_at(bytes, n, shape, found.index, area);
-    let at = HEAD_SIZE + RECORD_SIZE * found.index;
-    Reading { number, at }
+    Found {
+        number: 0,
+        shape,
+        index: found.index,
+    }
+}
+
+// The factor in the segment read.
+pub fn factor(bytes: &[u8], shape: u32, index: usize, area: u32) -> i32
+    requires { ⌜ (head-rows (now bytes) ≡ gives tt) × (segment-answer (points-of (now bytes)) shape area ≡ gives index) ⌝ }
+    ensures { λ r. ⌜ r ≡ reading (points-of (now (bytes .entry))) shape area ⌝ }
+{
+    file_lookup::factor_at(bytes, bytes[6] as usize, shape, index, area)
 }
 
 // Copies two records from an index of src on to one of dst. Their size is known, so the compiler moves them at once and not byte

@@ -1,13 +1,15 @@
 -- Floor division, and the floor of a fraction.
 --   Quotient n d q      q·d ≤ n < (q + 1)·d: q is n / d rounded down, and nothing else is (`quotient-unique`)
 --   floorDiv-quotient   `floorDiv` gives the quotient, and nothing else does (`floorDiv-unique`)
---   floorDiv-nested     ⌊(x + ⌊y / w⌋) / m⌋ = ⌊(x w + y) / (w m)⌋: one rounding by two divisions
+--   floorDiv-nested     ⌊(x + ⌊y / w⌋) / m⌋ = ⌊(x w + y) / (w m)⌋: one rounding by two divisions; floorDiv-above, ⌊z / d⌋ is
+--                       ⌊(l d + z) / d⌋ less l
 --   floor-greatest      the floor is the greatest whole number not above x, so the next one is (`floor-next`); floor-keeps-order
 -- Assumes nothing.
-use mathlib.Core.Path.{_≡_, sym, subst₂}
+use mathlib.Core.Path.{_≡_, sym, _∙_, ap, subst₂}
 use mathlib.Core.List.{[], _∷_}
 use Prim.Native.Nat.{ℕ, _*_, _/_, _<_}
-use native.Mathlib.Nat.{div-mul-le-self, lt-mul-div-succ, mul-comm, mul-pos}
+use native.Mathlib.Nat.{div-mul-le-self, div-one, lt-mul-div-succ, mul-comm, mul-one, mul-pos}
+use lib.Dec.{lit<}
 use lib.IntN.{ℤ, pos, negsuc, natAbs, _+ℤ_, _-ℤ_, _*ℤ_}
 use lib.Signed.{_≤ℤ_, _<ℤ_}
 use Rattle.exact.specs.Fraction.{Fraction, Proper, whole, _≤ℚ_, _<ℚ_}
@@ -83,6 +85,17 @@ pub floorDiv-nested : (x y : ℤ) {w m : ℕ} →
     floorDiv (x +ℤ floorDiv y w) m ≡ floorDiv (x *ℤ pos w +ℤ y) (w * m)
 floorDiv-nested x y hw hm =
     sym (floorDiv-unique (mul-pos hw hm) (quotient-nested x (floorDiv-quotient y hw) (floorDiv-quotient (x +ℤ floorDiv y _) hm)))
+
+floor-by-1 : (z : ℤ) → floorDiv z 1 ≡ z
+unfolding floorDiv
+floor-by-1 (pos n) = ap pos (div-one n)
+floor-by-1 (negsuc n) = ap negsuc (div-one n)
+
+pub floorDiv-above : (l z : ℤ) {d : ℕ} → 0 < d → floorDiv z d ≡ floorDiv (l *ℤ pos d +ℤ z) d -ℤ l
+floorDiv-above l z {d} h =
+    let e : l +ℤ floorDiv z d ≡ floorDiv (l *ℤ pos d +ℤ z) d =
+    sym (floor-by-1 _) ∙ floorDiv-nested l z h (lit< tt) ∙ ap (λ k. floorDiv (l *ℤ pos d +ℤ z) k) (mul-one d) in
+    rw (← e) (ring (l ∷ floorDiv z d ∷ []) (search terms depth 20 fits 9999) tt)
 
 -- ---- the floor of a fraction
 

@@ -2,11 +2,12 @@
 --   Rounding                what most laws ask of a rounding rule, and no more
 --   HalfUp                  the rule of document 01 at one value
 --   eqZ                     equality of integers, as a test
+--   Shiftable               what a floor division asks: a million times the divisor is not less than the number
 --   Scaled, Divided, Step   the quotient of a product by long division: what it asks, and what holds after each digit
 -- Assumes nothing.
 use mathlib.Core.Path.{_≡_}
 use mathlib.Core.Bool.{Bool, _&&_}
-use lib.IntN.{ℤ}
+use lib.IntN.{ℤ, natAbs}
 use lib.Signed.{_≤ℤ_, leZ}
 use Prim.Native.Nat.{ℕ, _*_, _/_, _%_, _^_, _≤_, _<_}
 use Rattle.exact.specs.Fraction.{Fraction, Proper, whole, _+ℚ_, _-ℚ_, _≤ℚ_, _<ℚ_}
@@ -23,6 +24,11 @@ pub record HalfUp (x : Fraction) (k : ℤ) : Type 0 where
 
 abbrev pub eqZ : ℤ → ℤ → Bool
 eqZ a b = leZ a b && leZ b a
+
+pub record Shiftable (n : ℤ) (d : ℕ) : Type 0 where
+  pub above-0 : 0 < d
+  pub small : d ≤ 1000
+  pub size : natAbs n ≤ 1000000 * d
 
 -- what x y / c asks
 pub record Scaled (x y c : ℕ) : Type 0 where

@@ -1,6 +1,18 @@
-// Exact arithmetic: quotient and remainder of a product that may pass 64 bits.
+// Exact arithmetic: floor division, and quotient and remainder of a product that may pass 64 bits.
+ghost use mathlib.Core.Path.{_≡_};
 ghost use Prim.Native.Nat.{_*_, _^_, _<_};
-ghost use Rattle.exact.specs.Inner.{Divided, Step, Scaled};
+ghost use Rattle.exact.specs.Rounding.{floorDiv};
+ghost use Rattle.exact.specs.Inner.{Shiftable, Divided, Step, Scaled};
+
+// n / d, rounded down, also below 0. `/` truncates, so a million times d is added to n first, and a million taken off the
+// quotient.
+pub fn floor_div(n: i32, d: u32) -> i32
+    requires { ⌜ Shiftable n d ⌝ }
+    ensures { λ r. ⌜ r ≡ floorDiv n d ⌝ }
+{
+    let above = n + (1000000 * d) as i32;
+    (above as u32 / d) as i32 - 1000000
+}
 
 // y has two digits in this base, 2^26; a step fits 64 bits, since c * BASE is at most 2^63.
 const BASE: u64 = 0x400_0000;

@@ -20,7 +20,8 @@ use Rattle.model.specs.Points.{Point, Segment, segments}
 use Rattle.model.specs.Read.{last-from, segment-read, last-area, outside}
 use Rattle.model.specs.Inner.{between, origin, point-at, segment-at, areas-of, Inside, Taken}
 use Rattle.exact.proofs.Tests.{compare, or-left, or-right}
-use Rattle.model.proofs.Walk.{Chain, end, link, stop, stop-index, stop-index-is, last-is-stop, stop-inside, Spreads, across}
+use Rattle.model.proofs.Walk.{Chain, end, link, stop, stop-index, stop-index-is, last-is-stop}
+use Rattle.model.proofs.Walk.{stop-inside, Spreads, across}
 
 abbrev pub stop-in : List Point → ℕ → Segment
 stop-in [] x = between origin origin

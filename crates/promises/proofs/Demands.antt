@@ -35,7 +35,8 @@ use Rattle.desk_answer.specs.Desk.{answer-with, desk-number}
 use Rattle.desk_answer.specs.Laws.{Apart}
 use Rattle.desk_answer.proofs.Apart.{apart}
 use Rattle.pair.specs.Pair.{Factors, factors, pair-answer}
-use Rattle.promises.specs.FactorRead.{FileOf, FactorRead, by-read, by-pair-form, by-pair-plan, by-sheet, by-desk, by-desk-two}
+use Rattle.promises.specs.FactorRead.{FileOf, FactorRead, by-read, by-pair-form, by-pair-plan, by-sheet}
+use Rattle.promises.specs.FactorRead.{by-desk, by-desk-two}
 use Rattle.promises.specs.Demands.{CheckAccepts, ThirdDemand}
 
 -- f is the reading at the area x of the curve

@@ -23,7 +23,8 @@ use Rattle.encoding.specs.File.{in-bytes, in-twos-complement, record-bytes, hea
 use Rattle.file.specs.Open.{short-list, open-answer}
 use Rattle.file.specs.Write.{short-buffer, write-answer}
 use Rattle.desk_answer.specs.Desk.{answer-with, desk-number, point-records, segment-records}
-use Rattle.promises.specs.FactorRead.{FileOf, FactorRead, by-read, by-pair-form, by-pair-plan, by-sheet, by-desk, by-desk-two}
+use Rattle.promises.specs.FactorRead.{FileOf, FactorRead, by-read, by-pair-form, by-pair-plan, by-sheet}
+use Rattle.promises.specs.FactorRead.{by-desk, by-desk-two}
 use Rattle.promises.specs.Example.{records, file, one-point, third, three, later, shapeless}
 use Rattle.promises.specs.Example.{FileExample, WriteExample, DeskTwoExample}
 

@@ -40,7 +40,7 @@ use Rattle.shape.proofs.Tests.{mirrored-slope, mirrored-chord}
 use Rattle.segment.specs.Inner.{bent-rule, signed, Apart, BentAt, BentInput, above-tangent, hundredths-of, bent-reading}
 use Rattle.segment.specs.declared.Bent.{Bent}
 use Rattle.segment.proofs.Distances.{t, u, from-left, from-right, h-is, distances, mirror-back}
-use Rattle.segment.proofs.Rounded.{round-twice, floor-above}
+use Rattle.segment.proofs.Rounded.{round-twice}
 
 -- ---- a value, or 200,000 less it
 
@@ -63,12 +63,10 @@ taken-proper false p = p
 -- l and d t hundredths, and y / w hundredths
 reads-by : {v f : Fraction} (l d : ℤ) (t : ℕ) (y : ℤ) {w : ℕ} → Closed v f → Proper f → 0 < w →
     f +ℚ half ≈ℚ ((l *ℤ pos 100 +ℤ (pos 50 +ℤ d *ℤ pos t)) *ℤ pos w +ℤ y) over (pos w *ℤ pos 100) →
-    round v ≡ floorDiv (hundredths-of l d t (floorDiv y w)) 100 -ℤ pos 1000000
+    round v ≡ floorDiv (hundredths-of l d t (floorDiv y w)) 100
 reads-by l d t y {w} c p h e =
     round-twice (l *ℤ pos 100 +ℤ (pos 50 +ℤ d *ℤ pos t)) y c p h (lit< tt) e
-    ∙ floor-above (pos 1000000) _
-    ∙ ap (λ n. floorDiv n 100 -ℤ pos 1000000)
-    (ring (l ∷ d ∷ pos t ∷ floorDiv y w ∷ []) (search terms depth 20 fits 9999) tt)
+    ∙ ap (λ n. floorDiv n 100) (ring (l ∷ d ∷ pos t ∷ floorDiv y w ∷ []) (search terms depth 20 fits 9999) tt)
 
 -- ---- the curve and one half, as one fraction
 

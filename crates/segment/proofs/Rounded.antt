@@ -1,6 +1,5 @@
 -- A rounding by two divisions, and a division of a number with its sign changed.
 --   round-twice     ⌊(x + ⌊y / w⌋) / m⌋ rounds v where v + 1/2 = (x w + y) / (w m)
---   floor-above     ⌊z / 100⌋ is ⌊(100 l + z) / 100⌋ less l
 --   same-hundreds   ⌊(z + y) / 100⌋ where y is `next` or one less, unless 100 divides z + next
 --   floor-of-is     ⌊n / c⌋ and ⌊−n / c⌋, by quotient and remainder of n; floor-twice, by two divisions
 -- Assumes nothing.
@@ -9,13 +8,13 @@ use mathlib.Core.Bool.{Bool, true, false, _&&_, and-true, and-false}
 use mathlib.Core.List.{[], _∷_}
 use mathlib.Core.Logic.{_⊎_, inl, inr}
 use Prim.Native.Nat.{ℕ, zero, suc, _+_, _*_, _/_, _%_, _<_}
-use native.Mathlib.Nat.{mul-pos, div-one, div-add-mod', div-div-eq-div-mul, mod-lt}
+use native.Mathlib.Nat.{mul-pos, div-add-mod', div-div-eq-div-mul, mod-lt}
 use native.Mathlib.Nat.{add-comm, mul-comm, mul-one, zero-add, zero-mul}
 use native.Mathlib.Omega.{arith}
 use borrow.Author.Tests.{ne-eqb, eqb-true, eqb-false}
 use lib.Arith.{mod-mul}
 use lib.Dec.{eqb, lit<}
-use lib.IntN.{ℤ, pos, negsuc, negℤ, _+ℤ_, _-ℤ_, _*ℤ_, *ℤ-comm}
+use lib.IntN.{ℤ, pos, negℤ, _+ℤ_, _-ℤ_, _*ℤ_, *ℤ-comm}
 use lib.Signed.{_≤ℤ_, _<ℤ_}
 use Rattle.exact.specs.Fraction.{Fraction, Proper, _over_, _+ℚ_, _≈ℚ_}
 use Rattle.exact.specs.Rounding.{floorDiv, floor, half, round}
@@ -42,17 +41,6 @@ round-twice {v} {f} x y {w} {m} k pf hw hm e =
     Q.≡-of-keeps-order floor-keeps-order (Q.proper-+ (k .proper) proper-half) pq
     (Q.≈-trans (Q.proper-+ pf proper-half) (Q.≈-+ (k .same) (Q.≈-refl half)) e)
     ∙ sym (floorDiv-nested x y hw hm)
-
-floor-by-1 : (z : ℤ) → floorDiv z 1 ≡ z
-unfolding floorDiv
-floor-by-1 (pos n) = ap pos (div-one n)
-floor-by-1 (negsuc n) = ap negsuc (div-one n)
-
-pub floor-above : (l z : ℤ) → floorDiv z 100 ≡ floorDiv (l *ℤ pos 100 +ℤ z) 100 -ℤ l
-floor-above l z =
-    let e : l +ℤ floorDiv z 100 ≡ floorDiv (l *ℤ pos 100 +ℤ z) 100 =
-    sym (floor-by-1 _) ∙ floorDiv-nested l z {w = 100} {m = 1} (lit< tt) (lit< tt) in
-    rw (← e) (ring (l ∷ floorDiv z 100 ∷ []) (search terms depth 20 fits 9999) tt)
 
 floor-before : (z : ℤ) → (z ≡ pos 100 *ℤ floorDiv z 100 → ⊥) → floorDiv (z -ℤ pos 1) 100 ≡ floorDiv z 100
 floor-before z differ =

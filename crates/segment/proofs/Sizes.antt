@@ -7,7 +7,7 @@
 --   divisor-size, denominator-size, excess-size   the parts of the convex curve
 --   w-most, w-most-size   w in the whole segment
 --   full-quotient, full-rest   the quotient by two divisions
---   sum-input       what `hundredths` asks; sum-natural, its sum is not negative; sum-fits and so on, its parts fit
+--   sum-input       what `hundredths` asks; sum-fits and so on, its sum and its parts fit; shiftable, what its division asks
 -- Assumes nothing.
 use mathlib.Core.Path.{_≡_, sym, _∙_, ap}
 use mathlib.Core.Bool.{Bool, true, false}
@@ -17,19 +17,18 @@ use Prim.Native.Nat.{ℕ, zero, suc, _+_, _-_, _*_, _/_, _%_, _^_, _≤_, _<_}
 use native.Mathlib.Nat.{mul-le-mul, mul-le-mul-left, mul-le-mul-right, le-mul-of-pos-right, div-le-self, add-div-right}
 use native.Mathlib.Nat.{mod-lt, div-div-eq-div-mul, div-add-mod', div-mul-le-self, le-trans, mul-pos}
 use native.Mathlib.Omega.{arith}
-use borrow.Author.Tests.{eqb-true, le-ltb}
-use lib.Dec.{eqb}
+use borrow.Author.Tests.{eqb-true}
+use lib.Dec.{eqb, lit<}
 use lib.IntN.{ℤ, pos, negsuc, natAbs, _+ℤ_, _-ℤ_, _*ℤ_}
-use lib.Signed.{_≤ℤ_}
-use mir.Syntax.{w64}
+use mir.Syntax.{w32, w64}
 use mir.Val.{SFits, toZ}
 use mir.Facts.{toZ-pos}
-use Rattle.exact.specs.Inner.{Divided}
+use Rattle.exact.specs.Rounding.{floorDiv}
+use Rattle.exact.specs.Inner.{Shiftable, Divided}
 use lib.Ieee.Nearest.{div-mono}
 use Rattle.exact.proofs.Ring.{ring, ring-ℕ, terms}
-use Rattle.exact.proofs.Order as Z
 use Rattle.exact.proofs.Tests.{compare, true-or-false}
-use Rattle.exact.proofs.Magnitude.{scaled-size, size-neg, size-+, size-*, sfits-of-size}
+use Rattle.exact.proofs.Magnitude.{scaled-size, size-neg, size-+, size--, size-*, sfits-of-size}
 use Rattle.model.specs.Points.{gap-most, value-most, slope-most}
 use Rattle.shape.specs.Inner.{over-most}
 use Rattle.segment.specs.Inner.{part, Weights, whole-part, rising-reading, RisingInput}
@@ -230,9 +229,10 @@ module _ {left : ℕ} {slope : ℤ} {t u h a b : ℕ} (k : BentInput left slope 
 
 -- ---- the sum in hundredths
 
-nonneg-above : (n : ℕ) (z : ℤ) → natAbs z ≤ n → pos 0 ≤ℤ (pos n +ℤ z)
-nonneg-above n (pos m) h = Z.nonneg-pos (n + m)
-nonneg-above n (negsuc m) h = rw (le-ltb n (suc m) h) (Z.nonneg-pos (n - suc m))
+floor-size : (z : ℤ) → natAbs (floorDiv z 100) ≤ natAbs z / 100 + 1
+unfolding floorDiv
+floor-size (pos n) = omega arith
+floor-size (negsuc n) = omega arith
 
 module _ {left : ℕ} {slope : ℤ} {t : ℕ} {above : ℤ} (k : SumInput left slope t above) where
   abbrev product : ℤ
@@ -242,10 +242,7 @@ module _ {left : ℕ} {slope : ℤ} {t : ℕ} {above : ℤ} (k : SumInput left s
   product-most = omega (arith, size-* slope (pos t), mul-le-mul (k .steep) (k .near))
 
   abbrev from : ℕ
-  from = 100000050 + 100 * left
-
-  rest-size : natAbs (product +ℤ above) ≤ slope-most * gap-most + (2 * over-most + 2)
-  rest-size = omega (arith, size-+ product above, product-most, k .size)
+  from = 50 + 100 * left
 
   pub slope-fits : SFits w64 slope
   slope-fits = sfits-of-size w64 slope (omega (arith, k .steep))
@@ -259,18 +256,34 @@ module _ {left : ℕ} {slope : ℤ} {t : ℕ} {above : ℤ} (k : SumInput left s
   pub from-fits : SFits w64 (pos from +ℤ product)
   from-fits = sfits-of-size w64 (pos from +ℤ product) (omega (arith, size-+ (pos from) product, product-most, k .value))
 
-  pub sum-size : natAbs (hundredths-of (pos left) slope t above) ≤ 200000000
+  abbrev sum : ℤ
+  sum = hundredths-of (pos left) slope t above
+
+  sum-size : natAbs sum ≤ 100000000
   sum-size =
       omega (arith, size-+ (pos from +ℤ product) above, size-+ (pos from) product, product-most, k .size, k .value)
 
-  pub sum-fits : SFits w64 (hundredths-of (pos left) slope t above)
-  sum-fits = sfits-of-size w64 (hundredths-of (pos left) slope t above) (omega (arith, sum-size))
+  pub sum-fits : SFits w64 sum
+  sum-fits = sfits-of-size w64 sum (omega (arith, sum-size))
 
-  pub sum-natural : hundredths-of (pos left) slope t above ≡ pos (natAbs (hundredths-of (pos left) slope t above))
-  sum-natural =
-      let e : hundredths-of (pos left) slope t above ≡ pos from +ℤ (product +ℤ above) =
-      ring (pos left ∷ product ∷ above ∷ []) (search terms depth 20 fits 9999) tt in
-      Z.natural-of-nonneg (rw e (nonneg-above from (product +ℤ above) (omega (arith, rest-size))))
+  pub sum-fits-32 : SFits w32 sum
+  sum-fits-32 = sfits-of-size w32 sum (omega (arith, sum-size))
+
+  pub shiftable : Shiftable sum 100
+  shiftable = record { above-0 = lit< tt; small = omega arith; size = omega (arith, sum-size) }
+
+  -- the hundreds, and the last two digits
+  abbrev hundreds : ℤ
+  hundreds = pos 100 *ℤ floorDiv sum 100
+
+  hundreds-size : natAbs hundreds ≤ 100000200
+  hundreds-size = omega (arith, size-* (pos 100) (floorDiv sum 100), floor-size sum, sum-size)
+
+  pub hundreds-fits : SFits w32 hundreds
+  hundreds-fits = sfits-of-size w32 hundreds (omega (arith, hundreds-size))
+
+  pub digits-fits : SFits w32 (sum -ℤ hundreds)
+  digits-fits = sfits-of-size w32 (sum -ℤ hundreds) (omega (arith, size-- sum hundreds, sum-size, hundreds-size))
 
   pub distance-read : toZ w64 t ≡ pos t
   distance-read = toZ-pos w64 (omega (arith, k .near))

@@ -112,13 +112,12 @@ floor-of down q r = cond down (negℤ (pos (ceil-of q r))) (pos q)
 abbrev pub above-tangent : Bool → (t u h a b : ℕ) → ℤ
 above-tangent down t u h a b = floorDiv (signed down (pos (b * t * (b * t)))) ((a * u + b * t) * h)
 
--- the left value, the left tangent and what is above it, from one million units below 0 on, with one half for the rounding
+-- the left value, the left tangent and what is above it, with one half for the rounding
 abbrev pub hundredths-of : (left slope : ℤ) (t : ℕ) (above : ℤ) → ℤ
-hundredths-of left slope t above = pos 100000050 +ℤ pos 100 *ℤ left +ℤ slope *ℤ pos t +ℤ above
+hundredths-of left slope t above = pos 50 +ℤ pos 100 *ℤ left +ℤ slope *ℤ pos t +ℤ above
 
 abbrev pub bent-reading : Bool → (left slope : ℤ) (t u h a b : ℕ) → ℤ
-bent-reading down left slope t u h a b =
-    floorDiv (hundredths-of left slope t (above-tangent down t u h a b)) 100 -ℤ pos 1000000
+bent-reading down left slope t u h a b = floorDiv (hundredths-of left slope t (above-tangent down t u h a b)) 100
 
 pub record BentInput (left : ℕ) (slope : ℤ) (t u h a b : ℕ) : Type 0 where
   pub distances : Distances t u

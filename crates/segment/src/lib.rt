@@ -2,11 +2,11 @@
 ghost use mathlib.Core.Path.{_≡_};
 ghost use mathlib.Core.Bool.{true, false};
 ghost use lib.IntN.{pos, _-ℤ_};
-ghost use Prim.Native.Nat.{_+_, _*_, _/_, _<_, _^_};
+ghost use Prim.Native.Nat.{_+_, _*_, _<_, _^_};
 ghost use Rattle.segment.specs.Inner as inner;
 ghost use Rattle.segment.specs.Inner.{Weights, RisingInput, rising-reading, Climb, climbed};
 ghost use Rattle.segment.specs.Inner.{signed, Apart, BentAt, BentInput, bent-reading, floor-of, SumInput, hundredths-of};
-ghost use Rattle.exact.specs.Rounding.{round};
+ghost use Rattle.exact.specs.Rounding.{floorDiv, round};
 ghost use Rattle.model.specs.Points.{Shape, Rule, rule-of};
 ghost use Rattle.model.specs.Interpolant.{exact-curve};
 ghost use Rattle.model.specs.Inner.{Good, Inside, Limits};
@@ -142,21 +142,21 @@ fn floor_of(down: bool, q: u64, r: u64) -> i64
     q as i64
 }
 
-// The sum of the left value, the left tangent and what is above it, in hundredths. It begins one million units below 0, so that it
-// is not negative, with one half for the rounding.
-fn hundredths(left: u32, slope: i32, t: u64, above: i64) -> u32
+// The left value, the left tangent and what is above it in hundredths, with one half for the rounding.
+fn hundredths(left: u32, slope: i32, t: u64, above: i64) -> i32
     requires { ⌜ SumInput left slope t above ⌝ }
-    ensures { λ r. ⌜ pos r ≡ hundredths-of (pos left) slope t above ⌝ }
+    ensures { λ r. ⌜ r ≡ hundredths-of (pos left) slope t above ⌝ }
 {
-    let from = 100000050 + 100 * left;
-    ((from as i64) + (slope as i64) * (t as i64) + above) as u32
+    let from = 50 + 100 * left;
+    ((from as i64) + (slope as i64) * (t as i64) + above) as i32
 }
 
-// The factor of such a sum: its hundreds, the million taken off.
-fn factor_of(sum: u32) -> i32
-    ensures { λ r. ⌜ r ≡ pos (sum / 100) -ℤ pos 1000000 ⌝ }
+// The factor: that sum in units, rounded down.
+fn factor_of(left: u32, slope: i32, t: u64, above: i64) -> i32
+    requires { ⌜ SumInput left slope t above ⌝ }
+    ensures { λ r. ⌜ r ≡ floorDiv (hundredths-of (pos left) slope t above) 100 ⌝ }
 {
-    (sum / 100) as i32 - 1000000
+    exact::floor_div(hundredths(left, slope, t, above), 100)
 }
 
 // A factor. `sure` is false where one division does not tell it.
@@ -175,7 +175,7 @@ fn estimate(down: bool, left: u32, slope: i32, t: u64, u: u64, h: u64, a: u64, b
     let w = b * t;
     if w == 0 {
         return Estimated {
-            factor: factor_of(hundredths(left, slope, t, 0)),
+            factor: factor_of(left, slope, t, 0),
             sure: true,
         };
     }
@@ -184,7 +184,7 @@ fn estimate(down: bool, left: u32, slope: i32, t: u64, u: u64, h: u64, a: u64, b
     if b * h < 0x1_0000_0000 {
         let c = divisor * (t + u);
         return Estimated {
-            factor: factor_of(hundredths(left, slope, t, floor_of(down, w * w / c, w * w % c))),
+            factor: factor_of(left, slope, t, floor_of(down, w * w / c, w * w % c)),
             sure: true,
         };
     }
@@ -193,9 +193,10 @@ fn estimate(down: bool, left: u32, slope: i32, t: u64, u: u64, h: u64, a: u64, b
     let v = w / 32;
     let least = v * v / (divisor * h / 1024 + 1);
     let sum = hundredths(left, slope, t, floor_of(down, least + 1, 0));
+    let factor = exact::floor_div(sum, 100);
     Estimated {
-        factor: factor_of(sum),
-        sure: sum % 100 != 0,
+        factor,
+        sure: sum - 100 * factor != 0,
     }
 }
 
@@ -207,7 +208,7 @@ fn exact_factor(down: bool, left: u32, slope: i32, t: u64, u: u64, a: u64, b: u6
     let w = b * t;
     let s = exact::mul_div(w, w, a * u + w);
     let h = t + u;
-    factor_of(hundredths(left, slope, t, floor_of(down, s.q / h, s.r + s.q % h)))
+    factor_of(left, slope, t, floor_of(down, s.q / h, s.r + s.q % h))
 }
 
 // ---- the factor. `estimate` is called for convex and for concave curves apart, so that the compiler makes two of it.

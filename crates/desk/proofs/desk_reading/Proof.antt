@@ -1,16 +1,19 @@
--- `desk::desk_reading` meets its contract: a refusal leaves the scratch as it was; after a factor it begins with the records.
+-- `desk::desk_reading` meets its contract: a refusal leaves the scratch as it was; before a factor the records are copied.
 -- Assumes nothing.
-use mathlib.Core.Path.{_≡_, sym, _∙_}
+use mathlib.Core.Path.{_≡_, sym, _∙_, ap}
 use mathlib.Core.List.{List, _++_}
 use Prim.Native.Nat.{ℕ, _*_}
 use native.Mathlib.Omega.{arith}
 use borrow.Author.Needs.{needs}
+use lib.IntN.{pos}
 use lib.ListN.{length, take, drop}
 use lib.Seq.{take-length}
+use mir.Syntax.{w32}
+use mir.Val.{toZ, ofZ}
 use mir.Facts.{toZ-ofZ}
 use Rattle.model.specs.Answer.{filled}
 use Rattle.layout.specs.Layout.{record-size, count}
-use Rattle.desk_answer.specs.Desk.{desk-answer, point-records}
+use Rattle.desk_answer.specs.Desk.{desk-answer, desk-number, point-records}
 use Rattle.desk_answer.specs.Inner.{room}
 use Rattle.desk_answer.proofs.Opened.{untouched, Opened, opened}
 use Rattle.desk.proofs.Records.{body, body-is, body-fits}
@@ -20,22 +23,28 @@ use Rattle.desk.proofs.desk_reading.Tie as tie
 returns : tie.Need-returns
 unfolding room
 returns c =
-    let e = c .before .before .before .read .ensures in (
-      toZ-ofZ (record { sfits = c .struct-told .given .0 .1 }) ∙ e .0,
-      sym (untouched _ _ _ _ _ (sym (e .1) ∙ c .before .if1 .taken)),
-    )
+    let t = c .before in
+    let u = untouched _ _ _ (t .before .before .before .find .ensures) (λ e. t .if1 .taken (ap (λ z. ofZ w32 z) e)) in
+    (toZ-ofZ (record { sfits = c .struct-told2 .given .0 .1 }) ∙ u .number, sym (u .list _ _))
 
 -- the answer is a factor
 module _ (c : tie.Else1) where
   abbrev start : tie.Start
-  start = c .before .before .before .before .before
+  start = c .before .before .before .before .before .before
 
   abbrev bytes : List ℕ
   bytes = start .args .bytes .now
 
+  abbrev found : tie.After-find
+  found = c .before .before .before
+
+  none : found .find .result .number ≡ pos 0
+  none = sym (toZ-ofZ (record { sfits = c .before .struct-told .given .0 .1 })) ∙ ap (λ n. toZ w32 n) (c .if1 .left)
+
   factor : Opened (record-size * count bytes) bytes (start .args .area) (length (start .args .scratch .now))
+      (found .find .result)
   unfolding room
-  factor = opened _ _ _ _ (λ e. c .if1 .left (c .before .before .read .ensures .1 ∙ e))
+  factor = opened _ _ _ _ _ (found .find .ensures) none
 
   written : filled (desk-answer bytes (start .args .area) (length (start .args .scratch .now))) (point-records bytes)
       (start .args .scratch .now)
@@ -48,17 +57,21 @@ copy-requires c κs =
     let f = factor (c .before .before) in
     body-fits (bytes (c .before .before)) (f .size) (f .enough)
 
+factor-requires : tie.Need-factor-requires
+factor-requires c κs = let f = factor (c .before .before .before .before .before) in (f .head, f .located)
+
 returns-2 : tie.Need-returns-2
-unfolding room
+unfolding desk-number
 returns-2 c =
-    let after = c .before .before .before in
-    let passed = after .before .before .before in (
-      toZ-ofZ (record { sfits = c .struct-told2 .given .0 .1 }) ∙ passed .before .before .read .ensures .0,
-      after .copy .ensures ∙ sym (written passed),
+    let copied = c .before .before .before in
+    let e = copied .before .before .before in
+    let f = factor e in (
+      toZ-ofZ (record { sfits = c .factor .ok }) ∙ c .factor .ensures ∙ f .reads ∙ sym (rw (f .is)),
+      copied .copy .ensures ∙ sym (written e),
     )
 
 pub desk-reading-spec : {M : Type 1} → statement M
 desk-reading-spec =
     tie.close
     (tie.spec (search needs) returns (λ c. omega (arith, factor c .size)) (λ c. omega (arith, factor c .size)) (search needs)
-    copy-requires (search needs) returns-2)
+    copy-requires factor-requires (search needs) returns-2)

@@ -1,6 +1,6 @@
 -- `desk_answer::refused` meets its contract.
 -- Assumes nothing.
-use mathlib.Core.Path.{_≡_, refl}
+use mathlib.Core.Path.{_≡_}
 use native.Mathlib.Omega.{arith}
 use borrow.Author.Needs.{needs}
 use lib.IntN.{ℤ, pos, negℤ, _-ℤ_}
@@ -25,7 +25,7 @@ sub-below : tie.Need-sub-below
 sub-below c = rw (number-is c) (result-fits c)
 
 returns : tie.Need-returns
-returns c = (rw (number-is c, toZ-ofZ (result-fits c)), refl)
+returns c = rw (number-is c, toZ-ofZ (result-fits c))
 
 pub refused-spec : {M : Type 1} → statement M
 refused-spec = tie.close (tie.spec (search needs) sub-below returns)

@@ -42,5 +42,6 @@ returns c = rw (toZ-ofZ (record { sfits = c .factor .ok }), c .factor .ensures, 
 pub factor-at-spec : {M : Type 1} → statement M
 factor-at-spec =
     tie.close
-    (tie.spec (λ c κs. record { file = omega (arith, read (c .before) .inner) }) (λ c. omega (arith, read (c .before .before) .inner))
+    (tie.spec (λ c κs. record { file = omega (arith, read (c .before) .inner) })
+    (λ c. omega (arith, read (c .before .before) .inner))
     (λ c κs. record { file = omega (arith, read (c .before .before) .inner) }) factor-requires returns)

@@ -8,18 +8,17 @@ use native.Mathlib.Omega.{arith}
 use borrow.Author.Needs.{needs}
 use borrow.Author.Tests.{eq-eqb}
 use lib.Dec.{eqb}
-use lib.IntN.{ℤ, pos, _+ℤ_, _-ℤ_, _*ℤ_}
-use mir.Syntax.{w64}
+use lib.IntN.{ℤ, pos, _+ℤ_, _-ℤ_, _*ℤ_, +ℤ-invr}
+use mir.Syntax.{w32, w64}
 use mir.Val.{toZ, ofZ}
 use mir.Facts.{toZ-ofZ}
 use Rattle.exact.specs.Rounding.{floorDiv}
-use Rattle.exact.proofs.Order as Z
 use Rattle.exact.proofs.Magnitude.{product-size}
 use Rattle.shape.specs.Inner.{over-most}
-use Rattle.segment.specs.Inner.{signed, floor-of, hundredths-of}
+use Rattle.segment.specs.Inner.{signed, floor-of, hundredths-of, SumInput}
 use Rattle.segment.proofs.Rounded.{floor-of-is, same-hundreds}
 use Rattle.segment.proofs.Sizes.{OneLow, h-positive, divisor-size, denominator-size, w-most, w-most-size, excess-size}
-use Rattle.segment.proofs.Sizes.{sum-input, least-near, next-or-before}
+use Rattle.segment.proofs.Sizes.{sum-input, shiftable, hundreds-fits, digits-fits, least-near, next-or-before}
 use Rattle.segment.proofs.estimate.Statement.{statement}
 use Rattle.segment.proofs.estimate.Tie as tie
 
@@ -34,15 +33,10 @@ module _ (c : tie.Start) where
   abbrev least : ℕ
   least = w / 32 * (w / 32) / (denominator / 1024 + 1)
 
--- the factor of a sum is that of what it is
-factor-is : {sum : ℕ} {r z : ℤ} → r ≡ pos (sum / 100) -ℤ pos 1000000 → pos sum ≡ z → r ≡ floorDiv z 100 -ℤ pos 1000000
-unfolding floorDiv
-factor-is e s = e ∙ ap (λ z. floorDiv z 100 -ℤ pos 1000000) s
-
 -- ---- on the tangent
 
-hundredths-requires : tie.Need-hundredths-requires
-hundredths-requires c κs = rw (toZ-ofZ (c .before .fits .slope)) (sum-input (c .before .pre) false 0 0 (omega arith))
+factor-of-requires : tie.Need-factor-of-requires
+factor-of-requires c κs = rw (toZ-ofZ (c .before .fits .slope)) (sum-input (c .before .pre) false 0 0 (omega arith))
 
 nothing-above : (down : Bool) {n : ℕ} (d : ℕ) → n ≡ 0 → floorDiv (signed down (pos (n * n))) d ≡ pos 0
 unfolding floorDiv
@@ -51,14 +45,11 @@ nothing-above false d e = rw e (simp zero-div)
 
 returns : tie.Need-returns
 returns c =
-    let f = c .before .hundredths in
-    let s = c .before .before .before in
-    let sum = rw (toZ-ofZ (s .fits .slope)) at (f .ensures) in (
+    let s = c .before .before in (
       λ _.
-          toZ-ofZ (record { sfits = c .factor-of .ok })
-          ∙ factor-is (c .factor-of .ensures) (sum
-          ∙ ap (λ z. hundredths-of (pos (s .args .left)) (s .args .slope) (s .args .t) z)
-          (sym (nothing-above (s .args .down) (denominator s) (c .before .before .if1 .taken)))),
+          toZ-ofZ (record { sfits = c .factor-of .ok }) ∙ (rw (toZ-ofZ (s .fits .slope)) at (c .factor-of .ensures))
+          ∙ ap (λ z. floorDiv (hundredths-of (pos (s .args .left)) (s .args .slope) (s .args .t) z) 100)
+          (sym (nothing-above (s .args .down) (denominator s) (c .before .if1 .taken))),
       λ e. absurd (true≢false e),
     )
 
@@ -85,23 +76,21 @@ above-read : (c : tie.After-floor-of) → (let s = c .before .before .before in
 above-read c =
     toZ-ofZ (record { sfits = c .floor-of .ok }) ∙ (rw (← c .before .before .before .pre .sum) at (c .floor-of .ensures))
 
-hundredths-requires-2 : tie.Need-hundredths-requires-2
-hundredths-requires-2 c κs =
+factor-of-requires-2 : tie.Need-factor-of-requires-2
+factor-of-requires-2 c κs =
     let s = c .before .before .before in
     rw (toZ-ofZ (s .fits .slope), above-read c)
     (sum-input (s .pre) (s .args .down) _ (w s * w s % denominator s) (omega (arith, excess-size (s .pre))))
 
 returns-2 : tie.Need-returns-2
 returns-2 c =
-    let f = c .before .hundredths2 in
-    let s = c .before .before .before .before .before in
-    let some : 0 < denominator s = mul-pos (omega arith) (h-positive (s .pre)) in
-    let sum = rw (toZ-ofZ (s .fits .slope), above-read (c .before .before)) at (f .ensures) in (
+    let s = c .before .before .before .before in
+    let some : 0 < denominator s = mul-pos (omega arith) (h-positive (s .pre)) in (
       λ _.
           toZ-ofZ (record { sfits = c .factor-of2 .ok })
-          ∙ factor-is (c .factor-of2 .ensures) (sum
-          ∙ ap (λ z. hundredths-of (pos (s .args .left)) (s .args .slope) (s .args .t) z)
-          (floor-of-is (s .args .down) (w s * w s) some)),
+          ∙ (rw (toZ-ofZ (s .fits .slope), above-read (c .before)) at (c .factor-of2 .ensures))
+          ∙ ap (λ z. floorDiv (hundredths-of (pos (s .args .left)) (s .args .slope) (s .args .t) z) 100)
+          (floor-of-is (s .args .down) (w s * w s) some),
       λ e. absurd (true≢false e),
     )
 
@@ -128,57 +117,73 @@ next-read : (c : tie.After-floor-of2) → (let s = c .before .before .before in
     toZ w64 (ofZ w64 (c .floor-of2 .result)) ≡ floor-of (s .args .down) (least s + 1) 0)
 next-read c = toZ-ofZ (record { sfits = c .floor-of2 .ok }) ∙ c .floor-of2 .ensures
 
-hundredths-requires-3 : tie.Need-hundredths-requires-3
-hundredths-requires-3 c κs =
-    let s = c .before .before .before in
-    rw (toZ-ofZ (s .fits .slope), next-read c)
-    (sum-input (s .pre) (s .args .down) (least s + 1) 0 (omega (arith, least-size (c .before))))
+next-input : (c : tie.Else2) → (let s = c .before .before in
+    SumInput (s .args .left) (s .args .slope) (s .args .t) (floor-of (s .args .down) (least s + 1) 0))
+next-input c =
+    let s = c .before .before in
+    sum-input (s .pre) (s .args .down) (least s + 1) 0 (omega (arith, least-size c))
 
--- the sum
-module _ (c : tie.After-hundredths3) where
-  abbrev start : tie.Start
-  start = c .before .before .before .before
+hundredths-requires : tie.Need-hundredths-requires
+hundredths-requires c κs = rw (toZ-ofZ (c .before .before .before .fits .slope), next-read c) (next-input (c .before))
 
-  abbrev sum : ℤ
-  sum =
-      let a = start .args in
-      hundredths-of (pos (a .left)) (a .slope) (a .t) (floor-of (a .down) (least start + 1) 0)
+-- the sum, and its hundreds
+abbrev sum : tie.Else2 → ℤ
+sum c =
+    let s = c .before .before in
+    hundredths-of (pos (s .args .left)) (s .args .slope) (s .args .t) (floor-of (s .args .down) (least s + 1) 0)
 
-  sum-is : pos (c .hundredths3 .result) ≡ sum
-  sum-is = rw (toZ-ofZ (start .fits .slope), next-read (c .before)) at (c .hundredths3 .ensures)
+sum-read : (c : tie.After-hundredths) → toZ w32 (ofZ w32 (c .hundredths .result)) ≡ sum (c .before .before)
+sum-read c =
+    toZ-ofZ (record { sfits = c .hundredths .ok })
+    ∙ (rw (toZ-ofZ (c .before .before .before .before .fits .slope), next-read (c .before)) at (c .hundredths .ensures))
 
-  -- it does not end in 00
-  not-00 : not (eqb (c .hundredths3 .result % 100) 0) ≡ true → sum ≡ pos 100 *ℤ floorDiv sum 100 → ⊥
-  unfolding floorDiv
+floor-div-requires : tie.Need-floor-div-requires
+floor-div-requires c κs = rw (sum-read c) (shiftable (next-input (c .before .before)))
+
+module _ (c : tie.After-floor-div) where
+  abbrev e : tie.Else2
+  e = c .before .before .before
+
+  factor-read : toZ w32 (ofZ w32 (c .floor-div .result)) ≡ floorDiv (sum e) 100
+  factor-read = toZ-ofZ (record { sfits = c .floor-div .ok }) ∙ (rw (sum-read (c .before)) at (c .floor-div .ensures))
+
+  hundreds-read : toZ w32 (ofZ w32 (pos 100 *ℤ toZ w32 (ofZ w32 (c .floor-div .result)))) ≡ pos 100 *ℤ floorDiv (sum e) 100
+  hundreds-read = rw factor-read (toZ-ofZ (hundreds-fits (next-input e)))
+
+  abbrev digits : ℤ
+  digits =
+      toZ w32 (ofZ w32 (c .before .hundredths .result))
+      -ℤ toZ w32 (ofZ w32 (pos 100 *ℤ toZ w32 (ofZ w32 (c .floor-div .result))))
+
+  -- the sum does not end in 00
+  not-00 : not (eqb (ofZ w32 digits) 0) ≡ true → sum e ≡ pos 100 *ℤ floorDiv (sum e) 100 → ⊥
   not-00 sure same =
-      let n : ℕ = c .hundredths3 .result in
-      let whole : n ≡ 100 * (n / 100) = Z.pos-injective (rw (← sum-is) at same) in
-      true≢false (sym sure ∙ ap not (eq-eqb (n % 100) 0 (omega arith)))
+      let none : digits ≡ pos 0 = rw (sum-read (c .before), hundreds-read, ← same) (+ℤ-invr (sum e)) in
+      true≢false (sym sure ∙ ap not (eq-eqb _ 0 (ap (λ z. ofZ w32 z) none)))
 
 returns-3 : tie.Need-returns-3
 returns-3 c =
-    let g = c .before in
-    let s = start g in
+    let s = e c .before .before in
     let slope = s .args .slope in
     let down = s .args .down in
-    let left = pos 100000050 +ℤ pos 100 *ℤ pos (s .args .left) +ℤ slope *ℤ pos (s .args .t) in
+    let left = pos 50 +ℤ pos 100 *ℤ pos (s .args .left) +ℤ slope *ℤ pos (s .args .t) in
     let some : 0 < denominator s = mul-pos (omega arith) (h-positive (s .pre)) in (
       λ sure.
-          toZ-ofZ (record { sfits = c .factor-of3 .ok })
-          ∙ factor-is (c .factor-of3 .ensures) (sum-is g)
-          ∙ ap (λ z. z -ℤ pos 1000000)
-          (same-hundreds left (floor-of down (least s + 1) 0) (next-or-before (near (g .before .before)) down) (not-00 g sure)
-          ∙ ap (λ z. floorDiv (left +ℤ z) 100) (floor-of-is down (w s * w s) some)),
+          factor-read c
+          ∙ same-hundreds left (floor-of down (least s + 1) 0) (next-or-before (near (e c)) down) (not-00 c sure)
+          ∙ ap (λ z. floorDiv (left +ℤ z) 100) (floor-of-is down (w s * w s) some),
       λ _. omega arith,
     )
 
 pub estimate-spec : {M : Type 1} → statement M
 estimate-spec =
     tie.close
-    (tie.spec (λ c. omega (arith, w-most (c .pre), w-most-size (c .pre))) hundredths-requires (search needs) returns
+    (tie.spec (λ c. omega (arith, w-most (c .pre), w-most-size (c .pre))) factor-of-requires returns
     (λ c. omega (arith, divisor-size (c .before .pre))) (λ c. omega (arith, divisor-size (c .before .pre)))
     (λ c. omega (arith, w-most-size (c .before .pre))) (search needs) mul-c mul-floor-of div-floor-of mul-floor-of div-floor-of
-    floor-of-requires hundredths-requires-2 (search needs) returns-2 mul-least
+    floor-of-requires factor-of-requires-2 returns-2 mul-least
     (λ c. omega (arith, denominator-size (c .before .before .pre)))
     (λ c. omega (arith, denominator-size (c .before .before .pre)))
-    (search needs) add-floor-of floor-of-requires-2 hundredths-requires-3 (search needs) returns-3)
+    (search needs) add-floor-of floor-of-requires-2 hundredths-requires floor-div-requires
+    (λ c. rw (factor-read c) (hundreds-fits (next-input (e c))))
+    (λ c. rw (sum-read (c .before), hundreds-read c) (digits-fits (next-input (e c)))) returns-3)

@@ -5,7 +5,7 @@ use Prim.Native.Nat.{_+_, _*_, _/_, _%_, _<_}
 use native.Mathlib.Nat.{mul-pos}
 use native.Mathlib.Omega.{arith}
 use borrow.Author.Needs.{needs}
-use lib.IntN.{pos, _-ℤ_}
+use lib.IntN.{pos}
 use mir.Syntax.{w64}
 use mir.Val.{toZ, ofZ}
 use mir.Facts.{toZ-ofZ}
@@ -43,8 +43,8 @@ above-read : (c : tie.After-floor-of) → (let e = c .before .before .before .be
     toZ w64 (ofZ w64 (c .floor-of .result)) ≡ floor-of (e .before .args .down) (s .q / h) (s .r + s .q % h))
 above-read c = toZ-ofZ (record { sfits = c .floor-of .ok }) ∙ c .floor-of .ensures
 
-hundredths-requires : tie.Need-hundredths-requires
-hundredths-requires c κs =
+factor-of-requires : tie.Need-factor-of-requires
+factor-of-requires c κs =
     let e = c .before .before .before .before in
     let k = e .before .pre .0 in
     let s = e .mul-div .result in
@@ -54,17 +54,13 @@ hundredths-requires c κs =
     (omega (arith, full-quotient k (e .mul-div .ensures) (some (e .before)))))
 
 returns : tie.Need-returns
-unfolding floorDiv
 returns c =
-    let g = c .before in
-    let e = g .before .before .before .before .before in
+    let e = c .before .before .before .before .before in
     let x = e .before .args in
     let h = h-positive (e .before .pre .0) in
-    let sum = rw (toZ-ofZ (e .before .fits .slope), above-read (g .before)) at (g .hundredths .ensures) in
     toZ-ofZ (record { sfits = c .factor-of .ok })
-    ∙ c .factor-of .ensures
-    ∙ ap (λ z. floorDiv z 100 -ℤ pos 1000000) sum
-    ∙ ap (λ z. floorDiv (hundredths-of (pos (x .left)) (x .slope) (x .t) z) 100 -ℤ pos 1000000)
+    ∙ (rw (toZ-ofZ (e .before .fits .slope), above-read (c .before)) at (c .factor-of .ensures))
+    ∙ ap (λ z. floorDiv (hundredths-of (pos (x .left)) (x .slope) (x .t) z) 100)
     (floor-twice (x .down) (x .b * x .t * (x .b * x .t)) (some (e .before)) h (e .mul-div .ensures)
     ∙ floor-of-is (x .down) (x .b * x .t * (x .b * x .t)) (mul-pos (some (e .before)) h))
 
@@ -75,4 +71,4 @@ exact-factor-spec =
     (λ c. omega (arith, divisor-size (c .pre .0))) mul-div-requires (search needs)
     (λ c. omega (arith, h-positive (c .before .before .pre .0)))
     (λ c. omega (arith, h-positive (c .before .before .before .pre .0)))
-    add-floor-of floor-of-requires hundredths-requires (search needs) returns)
+    add-floor-of floor-of-requires factor-of-requires returns)

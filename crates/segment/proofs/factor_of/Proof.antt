@@ -1,25 +1,30 @@
 -- `segment::factor_of` meets its contract.
 -- Assumes nothing.
-use mathlib.Core.Path.{_≡_}
-use Prim.Native.Nat.{_/_}
-use native.Mathlib.Omega.{arith}
-use borrow.Author.Needs.{needs}
-use lib.IntN.{pos, _-ℤ_}
+use mathlib.Core.Path.{_≡_, _∙_}
 use mir.Syntax.{w32}
-use mir.Val.{SFits, toZ}
-use mir.Facts.{toZ-ofZ, toZ-pos}
-use Rattle.exact.proofs.Magnitude.{size--, sfits-of-size}
+use mir.Val.{toZ, ofZ}
+use mir.Facts.{toZ-ofZ}
+use lib.IntN.{pos}
+use Rattle.segment.specs.Inner.{hundredths-of}
+use Rattle.segment.proofs.Sizes.{shiftable}
 use Rattle.segment.proofs.factor_of.Statement.{statement}
 use Rattle.segment.proofs.factor_of.Tie as tie
 
-module _ (c : tie.Start) where
-  hundreds-read : toZ w32 (c .args .sum / 100) ≡ pos (c .args .sum / 100)
-  hundreds-read = toZ-pos w32 (omega arith)
+hundredths-requires : tie.Need-hundredths-requires
+hundredths-requires c κs = rw (toZ-ofZ (c .fits .slope), toZ-ofZ (c .fits .above)) (c .pre)
 
-  result-fits : SFits w32 (pos (c .args .sum / 100) -ℤ pos 1000000)
-  result-fits = sfits-of-size w32 _ (omega (arith, size-- (pos (c .args .sum / 100)) (pos 1000000)))
+sum-read : (c : tie.After-hundredths) → (let a = c .before .args in
+    toZ w32 (ofZ w32 (c .hundredths .result)) ≡ hundredths-of (pos (a .left)) (a .slope) (a .t) (a .above))
+sum-read c =
+    let f = c .before .fits in
+    toZ-ofZ (record { sfits = c .hundredths .ok })
+    ∙ (rw (toZ-ofZ (f .slope), toZ-ofZ (f .above)) at (c .hundredths .ensures))
+
+floor-div-requires : tie.Need-floor-div-requires
+floor-div-requires c κs = rw (sum-read c) (shiftable (c .before .pre))
+
+returns : tie.Need-returns
+returns c = toZ-ofZ (record { sfits = c .floor-div .ok }) ∙ (rw (sum-read (c .before)) at (c .floor-div .ensures))
 
 pub factor-of-spec : {M : Type 1} → statement M
-factor-of-spec =
-    tie.close
-    (tie.spec (search needs) (λ c. rw (hundreds-read c) (result-fits c)) (λ c. rw (hundreds-read c, toZ-ofZ (result-fits c))))
+factor-of-spec = tie.close (tie.spec hundredths-requires floor-div-requires returns)

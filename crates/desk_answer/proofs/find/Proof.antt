@@ -1,15 +1,13 @@
--- `desk_answer::read` meets its contract: rows 9 and 10, row 11, rows 1 to 7 of the points, or the factor and where the records
--- begin.
+-- `desk_answer::find` meets its contract: rows 9 and 10, row 11, rows 1 to 7 of the points, or the segment read.
 -- Assumes nothing.
-use mathlib.Core.Path.{_≡_, sym, _∙_, subst}
+use mathlib.Core.Path.{_≡_, refl, sym, _∙_, subst}
 use mathlib.Core.List.{List}
-use Prim.Native.Nat.{ℕ, suc, _≤_}
+use Prim.Native.Nat.{ℕ}
 use native.Mathlib.Omega.{arith}
 use borrow.Author.Needs.{needs}
 use borrow.Author.Tests.{lt-ltb, le-ltb}
 use lib.IntN.{ℤ}
 use lib.ListN.{length}
-use mir.Facts.{toZ-ofZ}
 use Rattle.model.specs.Answer.{Answer, gives, refused, row, _then_}
 use Rattle.model.specs.Read.{read-answer}
 use Rattle.model.specs.Inner.{segment-answer}
@@ -21,19 +19,17 @@ use Rattle.layout.specs.Head.{head-rows}
 use Rattle.layout.proofs.Heads.{size-of-passed, in-head}
 use Rattle.file_lookup.proofs.Placed.{ReadAt, read-at-of}
 use Rattle.desk_answer.specs.Desk.{answer-with, desk-number}
-use Rattle.desk_answer.specs.Inner.{room, answer-for, read-at}
-use Rattle.desk_answer.proofs.read.Statement.{statement}
-use Rattle.desk_answer.proofs.read.Tie as tie
+use Rattle.desk_answer.specs.Inner.{room, answer-for, FoundBy}
+use Rattle.desk_answer.proofs.find.Statement.{statement}
+use Rattle.desk_answer.proofs.find.Tie as tie
 
 head-refused : (c : tie.Then1) →
     head-rows (c .before .before .before .args .bytes .now) ≡ refused (c .before .head-fault .result) 0
 head-refused c = sym (c .before .head-fault .ensures) ∙ a-fault 0 (c .if1 .taken)
 
 returns : tie.Need-returns
-unfolding answer-with desk-number read-at _then_
-returns c =
-    let e = head-refused (c .before) in
-    (rw e (c .refused .ensures .0), rw e (c .refused .ensures .1))
+unfolding answer-with FoundBy desk-number _then_
+returns c = rw (head-refused (c .before)) (c .refused .ensures)
 
 module _ (c : tie.Else1) where
   abbrev start : tie.Start
@@ -57,11 +53,11 @@ abbrev tried : tie.After-struct-known → tie.Else2
 tried c = c .before .before .before
 
 returns-2 : tie.Need-returns-2
-unfolding answer-with desk-number read-at row _then_
+unfolding answer-with FoundBy desk-number row _then_
 returns-2 c =
     let e = head-passed (c .before .before .before .before) in
     let short = rw (c .before .before .room .ensures) at (lt-ltb _ _ (c .before .if2 .taken)) in
-    (rw (e, short) (c .refused2 .ensures .0), rw (e, short) (c .refused2 .ensures .1))
+    rw (e, short) (c .refused2 .ensures)
 
 module _ (c : tie.After-struct-known) where
   abbrev begin : tie.Start
@@ -79,7 +75,8 @@ module _ (c : tie.After-struct-known) where
   points-decide =
       let k = begin .args in
       let e = tried c .before .room .ensures in
-      rw (head-passed (headed (tried c)), le-ltb (k .scratch) (room (k .two) (count input)) (omega (arith, e, tried c .if2 .left)))
+      let enough = le-ltb (k .scratch) (room (k .two) (count input)) (omega (arith, e, tried c .if2 .left)) in
+      rw (head-passed (headed (tried c)), enough)
 
 points-refused : (c : tie.Then3) → (let r = c .before .before .locate .result in
     answer (c .before) ≡ refused (r .number) (r .place))
@@ -92,10 +89,8 @@ refused-requires-3 : tie.Need-refused-requires-3
 refused-requires-3 c κs = subst Numbered (points-refused c) (in-reading _ _ _) .most
 
 returns-3 : tie.Need-returns-3
-unfolding desk-number read-at
-returns-3 c =
-    let e = points-decide (c .before .before) ∙ points-refused (c .before) in
-    (rw e (c .refused3 .ensures .0), rw e (c .refused3 .ensures .1))
+unfolding FoundBy desk-number
+returns-3 c = rw (points-decide (c .before .before) ∙ points-refused (c .before)) (c .refused3 .ensures)
 
 module _ (c : tie.Else3) where
   located : segment-answer (points-of (input (c .before))) (shape-code (input (c .before))) (begin (c .before) .args .area)
@@ -107,27 +102,18 @@ module _ (c : tie.Else3) where
       (c .before .before .locate .result .index)
   read = read-at-of _ _ _ _ located
 
-  index-small : point-offset (suc (c .before .before .locate .result .index)) ≤ length (input (c .before))
-  index-small = omega (arith, read .inner, size (headed (tried (c .before))))
-
-factor-at-requires : tie.Need-factor-at-requires
-factor-at-requires c κs = (record { file = omega (arith, size (headed (tried (c .before)))) }, located c)
-
 returns-4 : tie.Need-returns-4
-unfolding desk-number read-at
+unfolding FoundBy
 returns-4 c =
-    let f = c .before .factor-at in
-    let passed = c .before .before in
-    let r = read passed in
-    let e = points-decide (passed .before) ∙ reading-given _ _ _ (r .given .accepted) (r .given .within) in
-    (rw (toZ-ofZ (record { sfits = f .ok }), f .ensures, e), rw (e, r .index))
+    let r = read c in
+    rw (points-decide (c .before) ∙ reading-given _ _ _ (r .given .accepted) (r .given .within))
+    (refl, refl, sym (r .index))
 
-pub read-spec : {M : Type 1} → statement M
-read-spec =
+pub find-spec : {M : Type 1} → statement M
+find-spec =
     tie.close
     (tie.spec (search needs) (λ c κs. subst Numbered (head-refused c) (in-head _) .most) returns
     (λ c. omega (arith, size (c .before))) (λ c. omega (arith, c .shared-slice-known2 .given 6))
     (λ c κs. omega (arith, c .shared-slice-known2 .given 6)) (search needs) returns-2
     (λ c. omega (arith, size (headed (c .before)))) (λ c. omega (arith, c .shared-slice-known3 .given 5))
-    (λ c κs. record { file = omega (arith, size (headed (c .before))) }) refused-requires-3 returns-3 factor-at-requires
-    (λ c. omega (arith, index-small (c .before .before))) (λ c. omega (arith, index-small (c .before .before))) returns-4)
+    (λ c κs. record { file = omega (arith, size (headed (c .before))) }) refused-requires-3 returns-3 returns-4)
