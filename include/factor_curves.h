@@ -2,8 +2,8 @@
  * factor_curves.h: price factors between a tariff's rated points.
  *
  * Link with libfactor_curves (cc ... $(pkg-config --cflags --libs
- * factor_curves)). C99 or later, and C++. The desk reading has a header of
- * its own, desk.h, and is in the same library.
+ * factor_curves)). C99 or later, and C++. The desk readings have a header of
+ * their own, desk.h, and is in the same library.
  *
  *     #include <stdio.h>
  *     #include "factor_curves.h"
