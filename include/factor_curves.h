@@ -3,7 +3,7 @@
  *
  * Link with libfactor_curves (cc ... $(pkg-config --cflags --libs
  * factor_curves)). C99 or later, and C++. The desk readings have a header of
- * their own, desk.h, and is in the same library.
+ * their own, desk.h, and are in the same library.
  *
  *     #include <stdio.h>
  *     #include "factor_curves.h"
