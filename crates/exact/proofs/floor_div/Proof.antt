@@ -63,6 +63,10 @@ module _ (c : tie.Start) where
   unfolding floorDiv
   floor-is = ap (λ z. floorDiv z d -ℤ pos 1000000) (sym natural) ∙ sym (floorDiv-above (pos 1000000) n (c .pre .above-0))
 
+  -- as the code takes the million off
+  result-read : toZ w32 (ofZ w32 (toZ w32 quotient -ℤ pos 1000000)) ≡ floorDiv n d
+  result-read = rw quotient-read (toZ-ofZ result-fits ∙ floor-is)
+
 pub floor-div-spec : {M : Type 1} → statement M
 floor-div-spec =
     tie.close
@@ -70,4 +74,4 @@ floor-div-spec =
     (λ c. rw (added c, toZ-ofZ (above-fits c)) (cast-of-natural tt (above-fits c) (natural c))) (λ c. c .pre .above-0)
     (λ c. rw (added c, toZ-ofZ (above-fits c)) (sfits-of-size w32 (pos (quotient c)) (omega (arith, quotient-size c))))
     (λ c. rw (added c, toZ-ofZ (above-fits c), quotient-read c) (result-fits c))
-    (λ c. rw (added c, toZ-ofZ (above-fits c), quotient-read c, toZ-ofZ (result-fits c)) (floor-is c)))
+    (λ c. rw (added c, toZ-ofZ (above-fits c)) (result-read c)))
