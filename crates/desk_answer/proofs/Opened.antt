@@ -1,14 +1,17 @@
--- What an answer of a desk reading says, by what is found.
+-- What an answer of a desk reading says, by what is found: a number other than 0, or 0, as the code compares it.
 --   untouched   where a number is found the answer is a refusal: a lent list is as found, and that number is given
 --   Opened      elsewhere it is a factor: the file has its length, the scratch its room, and the segment found is the one read
 -- Assumes nothing.
-use mathlib.Core.Path.{_≡_, refl, sym, _∙_}
+use mathlib.Core.Path.{_≡_, refl, sym, _∙_, ap}
 use mathlib.Core.List.{List}
 use Prim.Native.Nat.{ℕ, suc, _≤_, _<_}
 use borrow.Author.Tests.{ltb-false}
 use lib.Dec.{ltb}
 use lib.IntN.{ℤ, pos}
 use lib.ListN.{length}
+use mir.Syntax.{w32}
+use mir.Val.{SFits, toZ, ofZ}
+use mir.Facts.{toZ-ofZ}
 use Rattle.model.specs.Answer.{Answer, gives, refused, row, _then_, filled}
 use Rattle.model.specs.Read.{segment-read, reading}
 use Rattle.model.specs.Inner.{segment-answer}
@@ -27,14 +30,14 @@ use Rattle.desk_answer.specs.declared.Found.{Found}
 use Rattle.desk_answer.proofs.Apart.{apart}
 
 pub record Untouched (a : Answer ℤ) (r : Found) : Type 0 where
-  pub number : r .number ≡ desk-number a
+  pub number : toZ w32 (ofZ w32 (r .number)) ≡ desk-number a
   pub list : (written found : List ℕ) → filled a written found ≡ found
 
-pub untouched : (a : Answer ℤ) (bytes : List ℕ) (area : ℕ) {r : Found} → FoundBy a bytes area r → (r .number ≡ pos 0 → ⊥) →
-    Untouched a r
+pub untouched : (a : Answer ℤ) (bytes : List ℕ) (area : ℕ) {r : Found} → FoundBy a bytes area r → SFits w32 (r .number) →
+    (ofZ w32 (r .number) ≡ 0 → ⊥) → Untouched a r
 unfolding FoundBy filled
-untouched (gives factor) bytes area f some = absurd (some (f .0))
-untouched (refused number place) bytes area f some = record { number = f; list = λ written found. refl }
+untouched (gives factor) bytes area f fits some = absurd (some (ap (λ z. ofZ w32 z) (f .0)))
+untouched (refused number place) bytes area f fits some = record { number = toZ-ofZ fits ∙ f; list = λ written found. refl }
 
 module _ (room : ℕ) (bytes : List ℕ) (area scratch : ℕ) (r : Found) where
   pub record Opened : Type 0 where
@@ -74,5 +77,8 @@ module _ (room : ℕ) (bytes : List ℕ) (area scratch : ℕ) (r : Found) where
   by-cases (gives factor) e k f none = opened-of factor e (f .1) (f .2)
   by-cases (refused number place) e k f none = absurd ((rw (sym f ∙ none) at k) .le)
 
-  pub opened : FoundBy (answer-with room bytes area scratch) bytes area r → r .number ≡ pos 0 → Opened
-  opened = by-cases (answer-with room bytes area scratch) refl (apart room bytes area scratch)
+  pub opened : FoundBy (answer-with room bytes area scratch) bytes area r → SFits w32 (r .number) → ofZ w32 (r .number) ≡ 0 →
+      Opened
+  opened f fits none =
+      by-cases (answer-with room bytes area scratch) refl (apart room bytes area scratch) f
+      (sym (toZ-ofZ fits) ∙ ap (λ n. toZ w32 n) none)

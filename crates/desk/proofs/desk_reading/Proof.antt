@@ -1,15 +1,12 @@
 -- `desk::desk_reading` meets its contract: a refusal leaves the scratch as it was; before a factor the records are copied.
 -- Assumes nothing.
-use mathlib.Core.Path.{_≡_, sym, _∙_, ap}
+use mathlib.Core.Path.{_≡_, sym, _∙_}
 use mathlib.Core.List.{List, _++_}
 use Prim.Native.Nat.{ℕ, _*_}
 use native.Mathlib.Omega.{arith}
 use borrow.Author.Needs.{needs}
-use lib.IntN.{pos}
 use lib.ListN.{length, take, drop}
 use lib.Seq.{take-length}
-use mir.Syntax.{w32}
-use mir.Val.{toZ, ofZ}
 use mir.Facts.{toZ-ofZ}
 use Rattle.model.specs.Answer.{filled}
 use Rattle.layout.specs.Layout.{record-size, count}
@@ -23,9 +20,9 @@ use Rattle.desk.proofs.desk_reading.Tie as tie
 returns : tie.Need-returns
 unfolding room
 returns c =
-    let t = c .before in
-    let u = untouched _ _ _ (t .before .before .before .find .ensures) (λ e. t .if1 .taken (ap (λ z. ofZ w32 z) e)) in
-    (toZ-ofZ (record { sfits = c .struct-told2 .given .0 .1 }) ∙ u .number, sym (u .list _ _))
+    let f = c .before .before .before .before .find .ensures in
+    let u = untouched _ _ _ f (record { sfits = c .struct-told2 .given .0 .1 }) (c .before .if1 .taken) in
+    (u .number, sym (u .list _ _))
 
 -- the answer is a factor
 module _ (c : tie.Else1) where
@@ -38,13 +35,10 @@ module _ (c : tie.Else1) where
   abbrev found : tie.After-find
   found = c .before .before .before
 
-  none : found .find .result .number ≡ pos 0
-  none = sym (toZ-ofZ (record { sfits = c .before .struct-told .given .0 .1 })) ∙ ap (λ n. toZ w32 n) (c .if1 .left)
-
   factor : Opened (record-size * count bytes) bytes (start .args .area) (length (start .args .scratch .now))
       (found .find .result)
   unfolding room
-  factor = opened _ _ _ _ _ (found .find .ensures) none
+  factor = opened _ _ _ _ _ (found .find .ensures) (record { sfits = c .before .struct-told .given .0 .1 }) (c .if1 .left)
 
   written : filled (desk-answer bytes (start .args .area) (length (start .args .scratch .now))) (point-records bytes)
       (start .args .scratch .now)

@@ -6,11 +6,8 @@ use mathlib.Core.List.{List}
 use Prim.Native.Nat.{ℕ, _*_}
 use native.Mathlib.Omega.{arith}
 use borrow.Author.Needs.{needs}
-use lib.IntN.{pos}
 use lib.ListN.{length, drop, length-drop}
 use lib.Seq.{length-take-le}
-use mir.Syntax.{w32}
-use mir.Val.{toZ, ofZ}
 use mir.Facts.{toZ-ofZ}
 use Rattle.model.specs.Answer.{filled}
 use Rattle.layout.specs.Layout.{record-size, point-offset}
@@ -23,9 +20,9 @@ use Rattle.desk_two.proofs.desk_reading_two.Tie as tie
 returns : tie.Need-returns
 unfolding room
 returns c =
-    let t = c .before in
-    let u = untouched _ _ _ (t .before .before .before .find .ensures) (λ e. t .if1 .taken (ap (λ z. ofZ w32 z) e)) in
-    (toZ-ofZ (record { sfits = c .struct-told2 .given .0 .1 }) ∙ u .number, sym (u .list _ _))
+    let f = c .before .before .before .before .find .ensures in
+    let u = untouched _ _ _ f (record { sfits = c .struct-told2 .given .0 .1 }) (c .before .if1 .taken) in
+    (u .number, sym (u .list _ _))
 
 -- the answer is a factor
 module _ (c : tie.Else1) where
@@ -38,12 +35,9 @@ module _ (c : tie.Else1) where
   abbrev found : tie.After-find
   found = c .before .before .before
 
-  none : found .find .result .number ≡ pos 0
-  none = sym (toZ-ofZ (record { sfits = c .before .struct-told .given .0 .1 })) ∙ ap (λ n. toZ w32 n) (c .if1 .left)
-
   factor : Opened (2 * record-size) bytes (start .args .area) (length (start .args .scratch .now)) (found .find .result)
   unfolding room
-  factor = opened _ _ _ _ _ (found .find .ensures) none
+  factor = opened _ _ _ _ _ (found .find .ensures) (record { sfits = c .before .struct-told .given .0 .1 }) (c .if1 .left)
 
   records-size : length (segment-records bytes (start .args .area)) ≡ 2 * record-size
   unfolding segment-records
