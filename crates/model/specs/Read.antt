@@ -12,7 +12,7 @@ use Rattle.model.specs.Points.{Point, Segment, segments, segment-at, rul
 use Rattle.model.specs.Interpolant.{exact-curve}
 use Rattle.model.specs.Check.{curve-rows}
 
--- the index of the last segment whose left area is not above the area read; `last` is that so far, and i the first one's here
+-- the index of the last segment whose left area is not above the area read: `last` so far, in a list that begins with segment i
 unfoldable pub last-from : (area last i : ℕ) → List Segment → ℕ
 last-from area last i [] = last
 last-from area last i (s ∷ ss) = last-from area (cond (leb (s .left .area) area) i last) (suc i) ss
