@@ -13,7 +13,7 @@ use mathlib.Core.Logic.{_⊎_, inl, inr}
 use lib.Dec.{T}
 use lib.IntN.{ℤ, pos, _-ℤ_, _*ℤ_, zero-*ℤ}
 use lib.Signed.{_≤ℤ_, _<ℤ_, clashℤ}
-use mir.Facts.{and-yes}
+use mir.Facts.{and-yes, yes-and}
 use Rattle.exact.specs.Fraction.{Fraction, Proper, _over_, whole, _+ℚ_, _-ℚ_, _*ℚ_, _/ℚ_, _≈ℚ_, _≤ℚ_, _<ℚ_}
 use Rattle.exact.specs.Fraction.{leℚ, ltℚ, eqℚ}
 use Rattle.exact.proofs.Tests.{true-or-false, T-true}
@@ -233,6 +233,10 @@ pub whole-≤-of-≤ : (a b : ℤ) → a ≤ℤ b → whole a ≤ℚ whole b
 unfolding whole
 whole-≤-of-≤ a b h = record { cross = Z.≤-* (Z.nonneg-pos 1) h }
 
+pub ≤-of-whole-≤ : (a b : ℤ) → whole a ≤ℚ whole b → a ≤ℤ b
+unfolding whole
+≤-of-whole-≤ a b h = Z.≤-cancel (Z.positive-lit tt) (h .cross)
+
 pub <-of-whole-< : (a b : ℤ) → whole a <ℚ whole b → a <ℤ b
 unfolding whole
 <-of-whole-< a b h = Z.<-cancel (Z.nonneg-pos 1) (h .cross)
@@ -261,3 +265,7 @@ module _ {x y : Fraction} where
 pub ≈-of-eqℚ : {x y : Fraction} → T (eqℚ x y) → x ≈ℚ y
 unfolding eqℚ
 ≈-of-eqℚ {x} {y} t = let (h, k) = and-yes (leℚ x y) (leℚ y x) t in ≤-antisym (≤-of-leℚ h) (≤-of-leℚ k)
+
+pub eqℚ-of-≈ : {x y : Fraction} → x ≈ℚ y → T (eqℚ x y)
+unfolding eqℚ leℚ
+eqℚ-of-≈ {x} {y} e = yes-and (leℚ x y) (leℚ y x) (≤-of-≈ e .cross .le) (≤-of-≈ (≈-sym e) .cross .le)

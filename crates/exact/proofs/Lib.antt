@@ -8,6 +8,7 @@ pub mod Field
 pub mod Fractions
 pub mod Floor
 pub mod Rounding
+pub mod Mixed
 pub mod Identities
 pub mod Signed
 pub mod Magnitude

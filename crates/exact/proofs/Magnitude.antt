@@ -2,14 +2,15 @@
 --   product-size, scaled-size   a product in bits; x / c parts of y, for x ≤ c
 --   size-..                     the size of a signed number, `natAbs`: of a sum, a product, between bounds
 --   sfits-of-size               a signed number fits where its size does
+--   nonneg-above                z and a number that is no smaller than its size are not negative
 -- Assumes nothing.
 use mathlib.Core.Path.{_≡_, refl}
 use mathlib.Core.List.{[], _∷_}
 use mathlib.Core.Logic.{inl, inr}
-use Prim.Native.Nat.{ℕ, zero, suc, _+_, _*_, _/_, _^_, _≤_, _<_, suc-le-suc}
+use Prim.Native.Nat.{ℕ, zero, suc, _+_, _-_, _*_, _/_, _^_, _≤_, _<_, suc-le-suc}
 use native.Mathlib.Nat.{le-refl, le-of-lt, lt-of-le-of-lt, mul-le-mul-left, mul-le-mul-right, div-le-of-le-mul}
 use native.Mathlib.Omega.{arith}
-use borrow.Author.Tests.{ltb-true}
+use borrow.Author.Tests.{ltb-true, le-ltb}
 use lib.Dec.{ltb, leb→le}
 use lib.IntN.{ℤ, pos, negsuc, negℤ, natAbs, subℕ, _+ℤ_, _-ℤ_, _*ℤ_}
 use lib.Pow.{shl-lt}
@@ -80,3 +81,8 @@ size-difference {a} {b} {n} h k =
 
     from-above : pos n -ℤ (pos a -ℤ pos b) ≡ (pos n -ℤ pos a) +ℤ pos b
     from-above = ring (pos a ∷ pos b ∷ pos n ∷ []) (search terms depth 20 fits 9999) tt
+
+-- a number no larger than m, and m
+pub nonneg-above : (m : ℕ) (z : ℤ) → natAbs z ≤ m → pos 0 ≤ℤ (pos m +ℤ z)
+nonneg-above m (pos n) h = Z.nonneg-pos _
+nonneg-above m (negsuc n) h = rw (le-ltb m (suc n) h) (Z.nonneg-pos (m - suc n))

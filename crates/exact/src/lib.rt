@@ -1,8 +1,10 @@
-// Exact arithmetic: floor division, and quotient and remainder of a product that may pass 64 bits.
+// Exact arithmetic: floor division, the rounding of k + r / d, and quotient and remainder of a product that may pass 64 bits.
 ghost use mathlib.Core.Path.{_≡_};
-ghost use Prim.Native.Nat.{_*_, _^_, _<_};
-ghost use Rattle.exact.specs.Rounding.{floorDiv};
-ghost use Rattle.exact.specs.Inner.{Shiftable, Divided, Step, Scaled};
+ghost use lib.IntN.{pos, _+ℤ_, _*ℤ_};
+ghost use Prim.Native.Nat.{_*_};
+ghost use Rattle.exact.specs.Fraction.{_over_};
+ghost use Rattle.exact.specs.Rounding.{floorDiv, round};
+ghost use Rattle.exact.specs.Inner.{Shiftable, Mixed, Divided, Shared};
 
 // n / d, rounded down, also below 0. `/` truncates, so a million times d is added to n first, and a million taken off the
 // quotient.
@@ -14,8 +16,18 @@ pub fn floor_div(n: i32, d: u32) -> i32
     (above as u32 / d) as i32 - 1000000
 }
 
-// y has two digits in this base, 2^26; a step fits 64 bits, since c * BASE is at most 2^63.
-const BASE: u64 = 0x400_0000;
+// k + r / d, rounded. Nowhere else is a tie decided: 2 r is d there, and k goes to k + 1 if it is odd. A million is added to k, so
+// that the remainder by 2 is that of a number that is not negative.
+pub fn nearest(k: i32, r: u64, d: u64) -> i32
+    requires { ⌜ Mixed k r d ⌝ }
+    ensures { λ n. ⌜ n ≡ round ((k *ℤ pos d +ℤ pos r) over pos d) ⌝ }
+{
+    let odd = (k + 1000000) as u64 % 2;
+    if d < 2 * r + odd {
+        return k + 1;
+    }
+    k
+}
 
 // Quotient and remainder of a division.
 pub struct Quotient {
@@ -23,32 +35,20 @@ pub struct Quotient {
     pub r: u64,
 }
 
-// The digits so far in one division.
-fn start(x: u64, y: u64, c: u64) -> Quotient
-    requires { ⌜ (x * y < 2 ^ 64) × (0 < c) ⌝ }
+// Quotient and remainder of x * y by c, by one division though x * y may pass 64 bits. In base k the product is n and a digit, and
+// c is d * k less g; n / d is the quotient or one less.
+pub fn share_by(x: u64, y: u64, c: u64, k: u64) -> Quotient
+    requires { ⌜ Shared x y c k ⌝ }
     ensures { λ s. ⌜ Divided (x * y) c (s .q) (s .r) ⌝ }
 {
-    let n = x * y;
-    Quotient { q: n / c, r: n % c }
-}
-
-// One digit more: to y, from y / base.
-fn step(p: Quotient, x: u64, y: u64, c: u64, base: u64) -> Quotient
-    requires { ⌜ Step x y c base (p .q) (p .r) ⌝ }
-    ensures { λ s. ⌜ Divided (x * y) c (s .q) (s .r) ⌝ }
-{
-    let n = p.r * base + x * (y % base);
-    Quotient {
-        q: p.q * base + n / c,
-        r: n % c,
+    let d = c / k + 1;
+    let g = k - c % k;
+    let p = x % k * y;
+    let n = x / k * y + p / k;
+    let q = n / d;
+    let r = n % d * k + q * g + p % k;
+    if r < c {
+        return Quotient { q, r };
     }
-}
-
-// Quotient and remainder of x * y by c, by the two digits of y.
-pub fn mul_div(x: u64, y: u64, c: u64) -> Quotient
-    requires { ⌜ Scaled x y c ⌝ }
-    ensures { λ s. ⌜ Divided (x * y) c (s .q) (s .r) ⌝ }
-{
-    let high = start(x, y / BASE, c);
-    step(high, x, y, c, BASE)
+    Quotient { q: q + 1, r: r - c }
 }

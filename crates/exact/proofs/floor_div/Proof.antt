@@ -1,26 +1,20 @@
 -- `exact::floor_div` meets its contract.
 -- Assumes nothing.
 use mathlib.Core.Path.{_≡_, sym, _∙_, ap}
-use Prim.Native.Nat.{ℕ, suc, _*_, _-_, _/_, _≤_}
+use Prim.Native.Nat.{ℕ, _*_, _/_, _≤_}
 use native.Mathlib.Nat.{div-le-self}
 use native.Mathlib.Omega.{arith}
-use borrow.Author.Tests.{le-ltb}
-use lib.IntN.{ℤ, pos, negsuc, natAbs, _+ℤ_, _-ℤ_, +ℤ-comm}
-use lib.Signed.{_≤ℤ_}
+use lib.IntN.{ℤ, pos, natAbs, _+ℤ_, _-ℤ_, +ℤ-comm}
 use mir.Syntax.{w32}
 use mir.Val.{SFits, toZ, ofZ}
 use mir.Facts.{toZ-ofZ, toZ-pos}
 use Rattle.exact.specs.Rounding.{floorDiv}
 use Rattle.exact.proofs.Order as Z
 use Rattle.exact.proofs.Floor.{floorDiv-above}
-use Rattle.exact.proofs.Magnitude.{size-+, size--, sfits-of-size}
+use Rattle.exact.proofs.Magnitude.{size-+, size--, sfits-of-size, nonneg-above}
 use Rattle.exact.proofs.Signed.{cast-of-natural}
 use Rattle.exact.proofs.floor_div.Statement.{statement}
 use Rattle.exact.proofs.floor_div.Tie as tie
-
-nonneg-above : (m : ℕ) (z : ℤ) → natAbs z ≤ m → pos 0 ≤ℤ (pos m +ℤ z)
-nonneg-above m (pos n) h = Z.nonneg-pos _
-nonneg-above m (negsuc n) h = rw (le-ltb m (suc n) h) (Z.nonneg-pos (m - suc n))
 
 module _ (c : tie.Start) where
   abbrev n : ℤ
