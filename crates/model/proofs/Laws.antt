@@ -1,11 +1,12 @@
 -- The laws of an accepted curve, from the relations across it. Those that documents 01 and 02 (item 4) state of exact values:
 -- segments-meet, convex-chords, concave-chords (specs/Laws.antt). Of factors, for the demands over every call:
---   factors-are-near      at most half a unit off; where it is exactly half a unit, upwards
+--   factors-are-near      at most half a unit off; where it is exactly half a unit, even
 --   factors-are-ranged    from least-factor to most-factor of the curve's rule; factors-are-bounded, from −200,000 to 400,000
 --   rated-points-read     at a rated point the factor is the point's value
 --   rising-factors        a larger area never reads less, on a rising curve
---   convex-steps          of three areas equally far apart, the second step is at most one unit smaller, on a convex curve
---   falling-factors, concave-steps    the same of falling and concave curves, by the mirror: never more, at most one unit larger
+--   convex-steps          of three areas equally far apart, the second step is at most two units smaller, on a convex curve
+--   factor-from-mirror    a falling or concave factor is 200,000 less the mirror's
+--   falling-factors, concave-steps    so never more, at most two units larger
 -- Assumes nothing.
 use mathlib.Core.Path.{_≡_, sym, _∙_, ap, subst, subst₂}
 use mathlib.Core.List.{List, [], _∷_, _++_}
@@ -17,13 +18,13 @@ use lib.IntN.{ℤ, pos, negℤ, _+ℤ_, _-ℤ_, _*ℤ_}
 use lib.ListN.{length, getD, length-map, length-append, List·getD-map}
 use lib.Signed.{_≤ℤ_}
 use Rattle.exact.specs.Fraction.{Fraction, Proper, whole, _+ℚ_, _-ℚ_, _*ℚ_, _≈ℚ_, _≤ℚ_}
-use Rattle.exact.specs.Rounding.{half}
-use Rattle.exact.specs.Inner.{HalfUp}
+use Rattle.exact.specs.Rounding.{half, round, HalfEven}
+use Rattle.exact.proofs.Ring.{ring, terms}
 use Rattle.exact.proofs.Order as Z
 use Rattle.exact.proofs.Field.{field, ratios, _∷ℚ_}
 use Rattle.exact.proofs.Fractions as Q
-use Rattle.exact.proofs.Fractions.{Positive, NonNeg, propers, positivity, <-of-whole-<}
-use Rattle.exact.proofs.Rounding.{round-rounding, round-is-half-up, rounding-at-whole}
+use Rattle.exact.proofs.Fractions.{propers, positivity}
+use Rattle.exact.proofs.Rounding.{round-rounding, rounding-at-whole}
 use Rattle.model.specs.Points.{value-most, Point, Segment, Shape, rising, convex, Rule, plain, rule-of}
 use Rattle.model.specs.Interpolant.{interpolant, exact-curve}
 use Rattle.model.specs.Read.{reading}
@@ -35,7 +36,7 @@ use Rattle.model.proofs.Curves.{≤-of-closed}
 use Rattle.model.proofs.Codes.{rule-of-1, rule-of-2}
 use Rattle.exact.proofs.Tests.{compare}
 use Rattle.model.proofs.Walk.{good-ordered}
-use Rattle.model.proofs.Mirror.{curve-proper, curve-left, curve-right}
+use Rattle.model.proofs.Mirror.{value-most-even, curve-proper, curve-left, curve-right}
 use Rattle.model.proofs.Range.{value-range, Within, reading-range, least-of-all, most-of-all}
 use Rattle.model.proofs.Relations.{rising-spreads, curve-slope, curve-slope-proper, Supports, convex-spreads}
 use Rattle.model.proofs.Relations.{Line, _under_, chord-proper, chord-≤-slope, slope-≤-chord}
@@ -68,9 +69,9 @@ module _ (c : Curve) where
 pub values-are-proper : (c : Curve) (x : ℕ) → Area c x → Proper (exact c x)
 values-are-proper c x k = rw (value-is (curve-accepted c) x) (curve-proper (segment-inside c x k))
 
-pub factors-are-near : (c : Curve) (x : ℕ) → Area c x → HalfUp (exact c x) (factor c x)
+pub factors-are-near : (c : Curve) (x : ℕ) → Area c x → HalfEven (exact c x) (factor c x)
 unfolding reading
-factors-are-near c x k = round-is-half-up (exact c x) (values-are-proper c x k)
+factors-are-near c x k = round-rounding .nearest (exact c x) (values-are-proper c x k)
 
 factors-keep-order : (c : Curve) (x y : ℕ) → Area c x → Area c y → exact c x ≤ℚ exact c y → factor c x ≤ℤ factor c y
 unfolding reading
@@ -233,34 +234,21 @@ module _ (v₀ v₁ v₂ s : Fraction) (x k : ℤ) (p₀ : Proper v₀) (p₁ : 
       (search ratios depth 30 fits 9999) tt)
       (Q.nonneg-+ (search propers) (search propers) (Q.nonneg-difference h) (Q.nonneg-difference m))
 
--- a whole number that is less than the next after y by what is above 0
-steps-≤ : {x y : ℤ} (p q n m : Fraction) → Proper p → Proper q → Proper n → Proper m →
-    Positive p → NonNeg q → NonNeg n → NonNeg m →
-    whole (y +ℤ pos 1) -ℚ whole x ≈ℚ p +ℚ (q +ℚ (n +ℚ m)) → x ≤ℤ y
-steps-≤ p q n m pp pq pn pm kp kq kn km e =
-    Z.≤-of-<-next (<-of-whole-< _ _ (Q.<-by (search propers) (search propers) _ (search propers) e
-    (Q.positive-+ pp (search propers) kp (Q.nonneg-+ pq (search propers) kq (Q.nonneg-+ pn pm kn km)))))
-
--- three roundings: each is at most half a unit above its value and less than half a unit below
-module _ {v₀ v₁ v₂ : Fraction} {r₀ r₁ r₂ : ℤ} (p₀ : Proper v₀) (p₁ : Proper v₁) (p₂ : Proper v₂)
-    (k₀ : HalfUp v₀ r₀) (k₁ : HalfUp v₁ r₁) (k₂ : HalfUp v₂ r₂) where
-  convex-rounded : whole (pos 2) *ℚ v₁ ≤ℚ v₀ +ℚ v₂ → (r₁ -ℤ r₀ -ℤ pos 1) ≤ℤ (r₂ -ℤ r₁)
-  convex-rounded m =
-      let q : Proper half = search positivity in
-      steps-≤ (whole r₀ -ℚ (v₀ -ℚ half)) (whole r₂ -ℚ (v₂ -ℚ half)) (whole (pos 2) *ℚ (v₁ +ℚ half -ℚ whole r₁))
-      (v₀ +ℚ v₂ -ℚ whole (pos 2) *ℚ v₁) (search propers) (search propers) (search propers) (search propers)
-      (Q.positive-difference (k₀ .above)) (Q.nonneg-of-positive (Q.positive-difference (k₂ .above)))
-      (Q.nonneg-* (search positivity) (Q.nonneg-difference (k₁ .below))) (Q.nonneg-difference m)
-      (field (v₀ ∷ℚ v₁ ∷ℚ v₂ ∷ℚ r₀ ∷ r₁ ∷ r₂ ∷ []) (search ratios depth 30 fits 9999) tt)
-
-  concave-rounded : v₀ +ℚ v₂ ≤ℚ whole (pos 2) *ℚ v₁ → (r₂ -ℤ r₁) ≤ℤ (r₁ -ℤ r₀ +ℤ pos 1)
-  concave-rounded m =
-      let q : Proper half = search positivity in
-      steps-≤ (whole (pos 2) *ℚ (whole r₁ -ℚ (v₁ -ℚ half))) (v₀ +ℚ half -ℚ whole r₀) (v₂ +ℚ half -ℚ whole r₂)
-      (whole (pos 2) *ℚ v₁ -ℚ (v₀ +ℚ v₂)) (search propers) (search propers) (search propers) (search propers)
-      (Q.positive-* (search positivity) (Q.positive-difference (k₁ .above)))
-      (Q.nonneg-difference (k₀ .below)) (Q.nonneg-difference (k₂ .below)) (Q.nonneg-difference m)
-      (field (v₀ ∷ℚ v₁ ∷ℚ v₂ ∷ℚ r₀ ∷ r₁ ∷ r₂ ∷ []) (search ratios depth 30 fits 9999) tt)
+-- three roundings, each at most half a unit off
+convex-rounded : {v₀ v₁ v₂ : Fraction} {r₀ r₁ r₂ : ℤ} → Proper v₀ → Proper v₁ → Proper v₂ →
+    HalfEven v₀ r₀ → HalfEven v₁ r₁ → HalfEven v₂ r₂ →
+    whole (pos 2) *ℚ v₁ ≤ℚ v₀ +ℚ v₂ → (r₁ -ℤ r₀ -ℤ pos 2) ≤ℤ (r₂ -ℤ r₁)
+convex-rounded {v₀} {v₁} {v₂} {r₀} {r₁} {r₂} p₀ p₁ p₂ k₀ k₁ k₂ m =
+    let q : Proper half = search positivity in
+    let l₀ = k₀ .low in
+    let h₁ = k₁ .high in
+    let l₂ = k₂ .low in
+    Q.≤-of-whole-≤ _ _
+    (Q.≤-by (search propers) (search propers)
+    ((whole r₀ -ℚ (v₀ -ℚ half)) +ℚ ((whole r₂ -ℚ (v₂ -ℚ half)) +ℚ (whole (pos 2) *ℚ (v₁ +ℚ half -ℚ whole r₁)
+    +ℚ (v₀ +ℚ v₂ -ℚ whole (pos 2) *ℚ v₁)))) (search propers depth 9)
+    (field (v₀ ∷ℚ v₁ ∷ℚ v₂ ∷ℚ r₀ ∷ r₁ ∷ r₂ ∷ []) (search ratios depth 30 fits 9999) tt)
+    (search positivity depth 9))
 
 -- three areas equally far apart
 module _ (c : Curve) (x k : ℕ) (k₀ : Area c x) (k₁ : Area c (x + k)) (k₂ : Area c (x + 2 * k)) where
@@ -279,7 +267,7 @@ module _ (c : Curve) (x k : ℕ) (k₀ : Area c x) (k₁ : Area c (x + k)) (k₂
       (tangent-under c e (x + k) x k₁ k₀) (tangent-under c e (x + k) (x + 2 * k) k₁ k₂)
 
 pub convex-steps : (c : Curve) → c .code ≡ 2 → (x k : ℕ) → Area c x → Area c (x + k) → Area c (x + 2 * k) →
-    (factor c (x + k) -ℤ factor c x -ℤ pos 1) ≤ℤ (factor c (x + 2 * k) -ℤ factor c (x + k))
+    (factor c (x + k) -ℤ factor c x -ℤ pos 2) ≤ℤ (factor c (x + 2 * k) -ℤ factor c (x + k))
 convex-steps c e x k k₀ k₁ k₂ =
     let p = values-are-proper c in
     let near = factors-are-near c in
@@ -304,15 +292,20 @@ module _ (c : Curve) (m : 2 < c .code) where
       rw (exact-is x, exact-is y)
       (field (exact mirror x ∷ℚ exact mirror y ∷ℚ pos x ∷ pos y ∷ []) (search ratios depth 30 fits 9999) tt)
 
-falling-values : (c : Curve) → c .code ≡ 3 → (x y : ℕ) → Area c x → Area c y → x ≤ y → exact c y ≤ℚ exact c x
-falling-values c e x y kx ky h =
-    let m : 2 < c .code = omega arith in
-    rw (exact-is c m x, exact-is c m y)
-    (Q.≤-from (mirror-proper c m x kx) (mirror-proper c m y ky) (search propers)
-    (rising-values (mirror c m) (omega arith) x y (mirror-area c m x kx) (mirror-area c m y ky) h))
+pub factor-from-mirror : (c : Curve) (m : 2 < c .code) (x : ℕ) → Area c x →
+    factor c x ≡ pos value-most -ℤ factor (mirror c m) x
+unfolding reading
+factor-from-mirror c m x k = ap round (exact-is c m x) ∙ round-rounding .from-even (pos value-most) value-most-even _ (mirror-proper c m x k)
+
+-- what is taken off stands on the other side
+≤-from : {a b : ℤ} (m : ℤ) → a ≤ℤ b → (m -ℤ b) ≤ℤ (m -ℤ a)
+≤-from {a} {b} m h = Z.≤-by (b -ℤ a) (ring (a ∷ b ∷ m ∷ []) (search terms depth 20 fits 9999) tt) (Z.nonneg-difference h)
 
 pub falling-factors : (c : Curve) → c .code ≡ 3 → (x y : ℕ) → Area c x → Area c y → x ≤ y → factor c y ≤ℤ factor c x
-falling-factors c e x y kx ky h = factors-keep-order c y x ky kx (falling-values c e x y kx ky h)
+falling-factors c e x y kx ky h =
+    let m : 2 < c .code = omega arith in
+    rw (factor-from-mirror c m x kx, factor-from-mirror c m y ky)
+    (≤-from (pos value-most) (rising-factors (mirror c m) (omega arith) x y (mirror-area c m x kx) (mirror-area c m y ky) h))
 
 pub concave-chords : (c : Curve) → ConcaveChords c
 concave-chords c e x₁ x₂ x₃ x₄ k₁ k₂ k₃ k₄ h m h' =
@@ -327,27 +320,17 @@ concave-chords c e x₁ x₂ x₃ x₄ k₁ k₂ k₃ k₄ h m h' =
           (search propers) (search propers) (Q.≤-from q q' (search propers) o),
     )
 
--- of three areas equally far apart, twice the middle value is at least the sum of the outer ones
-concave-middle : (c : Curve) (x k : ℕ) → Area c x → Area c (x + k) → Area c (x + 2 * k) → c .code ≡ 4 →
-    exact c x +ℚ exact c (x + 2 * k) ≤ℚ whole (pos 2) *ℚ exact c (x + k)
-concave-middle c x k k₀ k₁ k₂ e =
-    let l : 2 < c .code = omega arith in
-    let a = mirror-area c l in
-    let p₀ = mirror-proper c l x k₀ in
-    let p₁ = mirror-proper c l (x + k) k₁ in
-    let p₂ = mirror-proper c l (x + 2 * k) k₂ in
-    let v₀ = exact (mirror c l) x in
-    let v₁ = exact (mirror c l) (x + k) in
-    let v₂ = exact (mirror c l) (x + 2 * k) in
-    rw (exact-is c l x, exact-is c l (x + k), exact-is c l (x + 2 * k))
-    (Q.≤-by (search propers) (search propers) (v₀ +ℚ v₂ -ℚ whole (pos 2) *ℚ v₁) (search propers)
-    (field (v₀ ∷ℚ v₁ ∷ℚ v₂ ∷ℚ []) (search ratios depth 30 fits 9999) tt)
-    (Q.nonneg-difference (convex-middle (mirror c l) x k (a x k₀) (a (x + k) k₁) (a (x + 2 * k) k₂) (omega arith))))
+steps-from : (f₀ f₁ f₂ m : ℤ) → (f₁ -ℤ f₀ -ℤ pos 2) ≤ℤ (f₂ -ℤ f₁) →
+    ((m -ℤ f₂) -ℤ (m -ℤ f₁)) ≤ℤ ((m -ℤ f₁) -ℤ (m -ℤ f₀) +ℤ pos 2)
+steps-from f₀ f₁ f₂ m h =
+    Z.≤-by ((f₂ -ℤ f₁) -ℤ (f₁ -ℤ f₀ -ℤ pos 2)) (ring (f₀ ∷ f₁ ∷ f₂ ∷ m ∷ []) (search terms depth 20 fits 9999) tt)
+    (Z.nonneg-difference h)
 
 pub concave-steps : (c : Curve) → c .code ≡ 4 → (x k : ℕ) → Area c x → Area c (x + k) → Area c (x + 2 * k) →
-    (factor c (x + 2 * k) -ℤ factor c (x + k)) ≤ℤ (factor c (x + k) -ℤ factor c x +ℤ pos 1)
+    (factor c (x + 2 * k) -ℤ factor c (x + k)) ≤ℤ (factor c (x + k) -ℤ factor c x +ℤ pos 2)
 concave-steps c e x k k₀ k₁ k₂ =
-    let p = values-are-proper c in
-    let near = factors-are-near c in
-    concave-rounded (p x k₀) (p (x + k) k₁) (p (x + 2 * k) k₂) (near x k₀) (near (x + k) k₁) (near (x + 2 * k) k₂)
-    (concave-middle c x k k₀ k₁ k₂ e)
+    let m : 2 < c .code = omega arith in
+    let a = mirror-area c m in
+    let f = factor (mirror c m) in
+    rw (factor-from-mirror c m x k₀, factor-from-mirror c m (x + k) k₁, factor-from-mirror c m (x + 2 * k) k₂)
+    (steps-from (f x) (f (x + k)) (f (x + 2 * k)) (pos value-most) (convex-steps (mirror c m) (omega arith) x k (a x k₀) (a (x + k) k₁) (a (x + 2 * k) k₂)))

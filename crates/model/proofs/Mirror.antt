@@ -1,4 +1,5 @@
 -- A segment and its mirror: what holds of a shape's curve on mirrored points holds of the rule, taken from 200,000.
+--   value-most-even                  200,000 is even, so that the rounding of 200,000 less a value is 200,000 less the value's
 --   mirror-limits, mirror-neighbours, mirror-good   mirrored points keep their limits; mirrored, a segment of a mirrored rule has
 --                                                   the rule's shape (mirror-inside)
 --   curve-proper                     the exact value of a rule has a denominator above 0
@@ -10,7 +11,9 @@ use mathlib.Core.List.{[], _∷_}
 use Prim.Native.Nat.{ℕ}
 use native.Mathlib.Nat.{sub-le}
 use lib.IntN.{pos, _-ℤ_}
+use lib.Dec.{T}
 use Rattle.exact.specs.Fraction.{Fraction, Proper, whole, _-ℚ_, _≈ℚ_}
+use Rattle.exact.specs.Rounding.{even}
 use Rattle.exact.proofs.Order as Z
 use Rattle.exact.proofs.Field.{field, ratios}
 use Rattle.exact.proofs.Fractions as Q
@@ -21,6 +24,10 @@ use Rattle.model.specs.Shape.{segment-test}
 use Rattle.model.specs.Inner.{Limits, Neighbours, Good, Inside}
 use Rattle.model.proofs.ClosedForm.{Closed}
 use Rattle.model.proofs.Segments.{v₀, v₁, interpolant-proper, interpolant-left, interpolant-right}
+
+pub value-most-even : T (even (pos value-most))
+unfolding even
+value-most-even = tt
 
 -- ---- points and segments
 

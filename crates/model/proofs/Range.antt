@@ -12,7 +12,7 @@ use Prim.Native.Nat.{ℕ}
 use lib.IntN.{ℤ, pos, negℤ, _+ℤ_, _-ℤ_, _*ℤ_}
 use lib.Signed.{_≤ℤ_}
 use Rattle.exact.specs.Fraction.{Fraction, Proper, _over_, whole, _+ℚ_, _-ℚ_, _*ℚ_, _≈ℚ_, _≤ℚ_}
-use Rattle.exact.specs.Inner.{Rounding}
+use Rattle.exact.specs.Rounding.{Rounding}
 use Rattle.exact.proofs.Ring.{ring, terms}
 use Rattle.exact.proofs.Order as Z
 use Rattle.exact.proofs.Field.{field, ratios, _∷ℚ_}

@@ -1,8 +1,8 @@
--- K1 to K10, further readings and those of document 02, item 4, by computation.
+-- K1 to K10, further readings and those of document 02, items 4 and 6, by computation.
 -- Assumes nothing.
 use mathlib.Core.Path.{refl}
 use Rattle.exact.specs.Fraction.{_over_, whole, _+ℚ_, _-ℚ_, _*ℚ_, _/ℚ_, leℚ, ltℚ, eqℚ}
-use Rattle.exact.specs.Rounding.{floorDiv, floor, round}
+use Rattle.exact.specs.Rounding.{floorDiv, floor, even, even-from, round}
 use Rattle.model.specs.Answer.{row, _then_, row-at-each}
 use Rattle.model.specs.Points.{gradient, points, segments, shape-of, mirror, rule-of}
 use Rattle.model.specs.Interpolant.{chord, p, q, P, Q, rational, r-rising, r-convex}
@@ -14,18 +14,20 @@ use Rattle.model.specs.Read.{last-from, segment-read, outside, exact-val
 use Rattle.model.specs.Sheet.{bad-sheet, tabulate, sheet-answer, sheet-list}
 use Rattle.model.specs.Readings.{bow, ten, TenReadings, kink, FurtherReadings}
 use Rattle.model.specs.Readings.{mirrored-bow, ten-mirrored, fall, arch, MirroredReadings}
+use Rattle.model.specs.Readings.{slow-line, mirrored-line, HalfReadings}
 
-computed : TenReadings × FurtherReadings × MirroredReadings
-unfolding _over_ whole _+ℚ_ _-ℚ_ _*ℚ_ _/ℚ_ leℚ ltℚ eqℚ floorDiv floor round row _then_ row-at-each
+computed : TenReadings × FurtherReadings × MirroredReadings × HalfReadings
+unfolding _over_ whole _+ℚ_ _-ℚ_ _*ℚ_ _/ℚ_ leℚ ltℚ eqℚ floorDiv floor even even-from round row _then_ row-at-each
     gradient points segments shape-of rule-of mirror chord p q P Q rational r-rising r-convex rising-curve convex-curve curve
     interpolant exact-curve rises bends fits has-shape segment-test
     lengths-differ bad-count bad-code bad-area bad-value bad-slope point-rows segment-rows curve-rows check-answer on-lists
     last-from segment-read outside exact-value reading read-answer bad-sheet tabulate sheet-answer sheet-list
-    bow ten kink mirrored-bow ten-mirrored fall arch
+    bow ten kink mirrored-bow ten-mirrored fall arch slow-line mirrored-line
 computed = (
   λ area. refl,
   (refl, refl, refl, refl, refl, refl, refl, refl),
-  (λ area. refl, refl, refl, refl, refl, refl, refl, refl, refl, refl, refl, refl, refl),
+  (λ area. refl, refl, refl, refl, refl, refl, refl, refl, refl, refl, refl, refl),
+  (refl, refl, refl, refl, refl, refl, refl, refl, refl, refl, refl, refl),
 )
 
 pub ten-readings : TenReadings
@@ -36,3 +38,6 @@ further-readings = computed .1
 
 pub mirrored-readings : MirroredReadings
 mirrored-readings = computed .2
+
+pub half-readings : HalfReadings
+half-readings = computed .3

@@ -1,5 +1,5 @@
 -- Document 01, "Readings to prove": K1 to K10, as answers of Read and of Check; and the sheet that is printed there. Of document
--- 02, item 4: K1 to K10 mirrored, and three points under each new code.
+-- 02: item 4, K1 to K10 mirrored, and three points under each new code; item 6, where K6 and K7 changed, exact halves.
 -- Assumes nothing.
 use Prim.Native.Nat.{ℕ}
 use mathlib.Core.Path.{_≡_}
@@ -24,7 +24,7 @@ read ps code area = on-lists-of ps (λ ps. read-answer ps code area)
 unfoldable pub bow : List Point
 bow = 500 / 10000 / pos 0 ∷ 600 / 14000 / pos 10000 ∷ []
 
--- K1 to K10, each with what it is to answer; K9 and K10 name no area
+-- K1 to K10, each with what it is to answer; K9 and K10 name no area. K6 and K7 as document 02, item 6, has them: 0.5 and -1.5.
 unfoldable pub ten : ℕ → List (Answer ℤ × Answer ℤ)
 ten area =
     (read bow 1 550, gives (pos 10889))
@@ -32,8 +32,8 @@ ten area =
     ∷ (read bow 2 550, gives (pos 10800))
     ∷ (read bow 2 525, gives (pos 10182))
     ∷ (read (500 / 10000 / pos 2000 ∷ 600 / 14000 / pos 6000 ∷ []) 1 501, gives (pos 10020))
-    ∷ (read (0 / 0 / pos 50 ∷ 2 / 1 / pos 50 ∷ []) 2 1, gives (pos 1))
-    ∷ (read (0 / 0 / negℤ (pos 300) ∷ 2 / 0 / pos 300 ∷ []) 2 1, gives (negℤ (pos 1)))
+    ∷ (read (0 / 0 / pos 50 ∷ 2 / 1 / pos 50 ∷ []) 2 1, gives (pos 0))
+    ∷ (read (0 / 0 / negℤ (pos 300) ∷ 2 / 0 / pos 300 ∷ []) 2 1, gives (negℤ (pos 2)))
     ∷ (read (0 / 0 / pos 0 ∷ 2 / 1 / pos 100 ∷ []) 2 1, gives (pos 0))
     ∷ (read (0 / 0 / pos 100 ∷ 100 / 100 / pos 200 ∷ []) 2 area, refused 6 0)
     ∷ (read (0 / 5 / pos 0 ∷ 10 / 5 / pos 1 ∷ []) 1 area, refused 6 0)
@@ -62,7 +62,7 @@ FurtherReadings =
 unfoldable pub mirrored-bow : List Point
 mirrored-bow = 500 / 190000 / pos 0 ∷ 600 / 186000 / negℤ (pos 10000) ∷ []
 
--- K1 to K10 mirrored. K6 and K7 are exact halves, which go up here too: 200,000 less their readings would be 199,999 and 200,001.
+-- K1 to K10 mirrored: 200,000 less each reading, of the exact halves K6 and K7 too
 unfoldable pub ten-mirrored : ℕ → List (Answer ℤ × Answer ℤ)
 ten-mirrored area =
     (read mirrored-bow 3 550, gives (pos 189111))
@@ -89,11 +89,31 @@ MirroredReadings =
     ((area : ℕ) → map (λ k. k .0) (ten-mirrored area) ≡ map (λ k. k .1) (ten-mirrored area))
     × (read fall 3 50 ≡ gives (pos 1920)) × (read fall 3 200 ≡ gives (pos 1662)) × (read fall 3 100 ≡ gives (pos 1900))
     × (read arch 4 100 ≡ gives (pos 1936)) × (read arch 4 250 ≡ gives (pos 2038)) × (read arch 4 200 ≡ gives (pos 2100))
-    -- an exact half: 200,000 less the mirror's reading would be 0
-    × (read (0 / 1 / negℤ (pos 50) ∷ 2 / 0 / negℤ (pos 50) ∷ []) 3 1 ≡ gives (pos 1))
     -- a concave curve passes 200,000
     × (read (0 / 200000 / pos 10000 ∷ 2000 / 200000 / negℤ (pos 10000) ∷ []) 4 1000 ≡ gives (pos 250000))
     -- row 2 is for codes outside 1 to 4
     × (read fall 0 50 ≡ refused 2 0) × (read fall 5 50 ≡ refused 2 0)
     -- the same points, read as rising or convex, do not have their shape
     × (read fall 1 50 ≡ refused 6 0) × (read arch 2 100 ≡ refused 6 0)
+
+-- a line from 0 to 3: at 1, 3 and 5 it is 0.5, 1.5 and 2.5
+unfoldable pub slow-line : List Point
+slow-line = 0 / 0 / pos 50 ∷ 6 / 3 / pos 50 ∷ []
+
+-- the same from 200,000 downwards
+unfoldable pub mirrored-line : List Point
+mirrored-line = 0 / 200000 / negℤ (pos 50) ∷ 6 / 199997 / negℤ (pos 50) ∷ []
+
+-- Document 02, item 6: exact halves
+abbrev pub HalfReadings : Type 0
+HalfReadings =
+    -- the steps are 2 and 0 on a convex curve, -2 and 0 on a concave one
+    (read slow-line 2 1 ≡ gives (pos 0)) × (read slow-line 2 3 ≡ gives (pos 2)) × (read slow-line 2 5 ≡ gives (pos 2))
+    × (read mirrored-line 4 1 ≡ gives (pos 200000)) × (read mirrored-line 4 3 ≡ gives (pos 199998))
+    × (read mirrored-line 4 5 ≡ gives (pos 199998))
+    -- the same lines, rising and falling
+    × (read slow-line 1 1 ≡ gives (pos 0)) × (read slow-line 1 3 ≡ gives (pos 2))
+    × (read mirrored-line 3 1 ≡ gives (pos 200000)) × (read mirrored-line 3 3 ≡ gives (pos 199998))
+    × (read (0 / 1 / negℤ (pos 50) ∷ 2 / 0 / negℤ (pos 50) ∷ []) 3 1 ≡ gives (pos 0))
+    -- the trap: the chord is 1.5 and the sag 0.25; apart they would be rounded to 2 and 0
+    × (read (0 / 1 / pos 0 ∷ 2 / 2 / pos 100 ∷ []) 2 1 ≡ gives (pos 1))
