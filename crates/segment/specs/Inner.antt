@@ -1,26 +1,19 @@
 -- What contracts of inner functions cite: one segment in plain numbers. Nothing here need be believed: the calls' contracts cite
 -- the definitions of documents 01 and 02.
 --   Distances        t and u, of an area from the two ends of a segment
---   part             A of the rising curve, from one end; whole-part is B; share, A F with B / 2 for the rounding
---   rising-reading   the rounded value; climbed, the same between two points, whose values may be equal
---   turned           a point of a curve that is read from right to left
---   signed           a number, or with its sign changed: `down` is for concave curves
---   BentAt           the figures of an area of a convex or concave segment; bent-rule, the rule of the one or the other
---   above-tangent    how far the curve is above its left tangent, in hundredths, rounded down; ceil-of and floor-of, by a
---                    quotient and a remainder
---   bent-reading     the rounded value; hundredths-of, the sum that is divided by 100 for it
---   Weights, RisingInput, Climb (Rising), Apart, BentInput, SumInput   what `part`, `rising`, `climb`, `apart`, `estimate` and
---                    `hundredths` ask
+--   part             A of the rising curve, from one end; whole-part is B
+--   rising-value     the value of the rising curve
+--   BentAt           the figures of an area of a convex segment
+--   Excess           how far the curve is above its left tangent, in hundredths: a quotient and what is left
+--   hundredths-of    the left value, the left tangent and what is above it, in whole hundredths
+--   Weights, RisingInput, BentInput, SumInput    what `part`, `rising`, `excess` and `hundredths` ask
 -- Assumes nothing.
 use mathlib.Core.Path.{_≡_}
-use mathlib.Core.Bool.{Bool, cond}
-use Prim.Native.Nat.{ℕ, _+_, _-_, _*_, _/_, _^_, _≤_, _<_}
-use lib.Dec.{eqb}
-use lib.IntN.{ℤ, pos, negℤ, natAbs, _+ℤ_, _-ℤ_, _*ℤ_}
-use lib.Signed.{_≤ℤ_}
-use Rattle.exact.specs.Rounding.{floorDiv}
-use Rattle.model.specs.Points.{gap-most, value-most, slope-most, Point, Segment, convex, Rule, plain, mirrored}
-use Rattle.model.specs.Inner.{Limits}
+use Prim.Native.Nat.{ℕ, _+_, _-_, _*_, _≤_, _<_}
+use lib.IntN.{ℤ, pos, natAbs, _+ℤ_, _-ℤ_, _*ℤ_}
+use Rattle.exact.specs.Fraction.{Fraction, _over_}
+use Rattle.exact.specs.Inner.{Divided}
+use Rattle.model.specs.Points.{gap-most, value-most, slope-most, Segment}
 use Rattle.shape.specs.Inner.{over-most}
 use Rattle.segment.specs.declared.Bent.{Bent}
 
@@ -28,7 +21,7 @@ pub record Distances (t u : ℕ) : Type 0 where
   pub most : t + u ≤ gap-most
   pub least : 0 < t + u
 
--- ---- rising and falling
+-- ---- rising
 
 abbrev pub part : (t u G E : ℕ) → ℕ
 part t u G E = t * (G * t + E * u)
@@ -39,14 +32,19 @@ pub record Weights (t u G E : ℕ) : Type 0 where
   pub second : E ≤ over-most
 
 -- A from the left end and A from the right end
-abbrev pub whole-part : (t u F D₀ D₁ : ℕ) → ℕ
-whole-part t u F D₀ D₁ = part t u (100 * F) ((t + u) * D₀) + part u t (100 * F) ((t + u) * D₁)
+module _ (t u F D₀ D₁ : ℕ) where
+  abbrev pub left-part : ℕ
+  left-part = part t u (100 * F) ((t + u) * D₀)
 
-abbrev pub share : (t u F D₀ D₁ : ℕ) → ℕ
-share t u F D₀ D₁ = part t u (100 * F) ((t + u) * D₀) * F + whole-part t u F D₀ D₁ / 2
+  abbrev pub right-part : ℕ
+  right-part = part u t (100 * F) ((t + u) * D₁)
 
-abbrev pub rising-reading : (t u left F D₀ D₁ : ℕ) → ℕ
-rising-reading t u left F D₀ D₁ = left + share t u F D₀ D₁ / whole-part t u F D₀ D₁
+  abbrev pub whole-part : ℕ
+  whole-part = left-part + right-part
+
+abbrev pub rising-value : (t u left F D₀ D₁ : ℕ) → Fraction
+rising-value t u left F D₀ D₁ =
+    (pos left *ℤ pos (whole-part t u F D₀ D₁) +ℤ pos (left-part t u F D₀ D₁ * F)) over pos (whole-part t u F D₀ D₁)
 
 pub record RisingInput (t u left F D₀ D₁ : ℕ) : Type 0 where
   pub distances : Distances t u
@@ -55,80 +53,36 @@ pub record RisingInput (t u left F D₀ D₁ : ℕ) : Type 0 where
   pub left-slope : D₀ ≤ slope-most
   pub right-slope : D₁ ≤ slope-most
   pub above-0 : 0 < whole-part t u F D₀ D₁
-  pub fits : rising-reading t u left F D₀ D₁ < 2 ^ 31
 
-abbrev pub turned : Point → Point
-turned p = record { area = p .area; value = p .value; slope = negℤ (p .slope) }
+-- ---- convex
 
--- from p, which is not above q
-module _ (t u : ℕ) (p q : Point) where
-  abbrev pub climbed : ℕ
-  climbed =
-      cond (eqb (q .value) (p .value)) (p .value)
-      (rising-reading t u (p .value) (q .value - p .value) (natAbs (p .slope)) (natAbs (q .slope)))
-
-  pub record Rising : Type 0 where
-    pub rises : p .value ≤ q .value
-    pub left-slope : p .slope ≡ pos (natAbs (p .slope))
-    pub right-slope : q .slope ≡ pos (natAbs (q .slope))
-    pub input : RisingInput t u (p .value) (q .value - p .value) (natAbs (p .slope)) (natAbs (q .slope))
-
-  pub record Climb : Type 0 where
-    pub left : Limits p
-    pub right : Limits q
-    pub rising : (q .value ≡ p .value → ⊥) → Rising
-
--- ---- convex and concave
-
-abbrev pub bent-rule : Bool → Rule
-bent-rule down = cond down (mirrored convex) (plain convex)
-
-abbrev pub signed : Bool → ℤ → ℤ
-signed down z = cond down (negℤ z) z
-
-pub record Apart (down : Bool) (x y : ℤ) : Type 0 where
-  pub size : natAbs (x -ℤ y) ≤ 2 * over-most
-  pub order : pos 0 ≤ℤ signed down (x -ℤ y)
-
-pub record BentAt (down : Bool) (s : Segment) (x : ℕ) (y : Bent) : Type 0 where
+pub record BentAt (s : Segment) (x : ℕ) (y : Bent) : Type 0 where
   pub t : y .t ≡ x - s .left .area
   pub u : y .u ≡ s .right .area - x
   pub h : y .h ≡ s .right .area - s .left .area
   pub a : pos (y .a) ≡
-      signed down ((pos (s .right .area) -ℤ pos (s .left .area)) *ℤ s .right .slope
-      -ℤ pos 100 *ℤ (pos (s .right .value) -ℤ pos (s .left .value)))
+      (pos (s .right .area) -ℤ pos (s .left .area)) *ℤ s .right .slope
+      -ℤ pos 100 *ℤ (pos (s .right .value) -ℤ pos (s .left .value))
   pub b : pos (y .b) ≡
-      signed down (pos 100 *ℤ (pos (s .right .value) -ℤ pos (s .left .value))
-      -ℤ (pos (s .right .area) -ℤ pos (s .left .area)) *ℤ s .left .slope)
+      pos 100 *ℤ (pos (s .right .value) -ℤ pos (s .left .value))
+      -ℤ (pos (s .right .area) -ℤ pos (s .left .area)) *ℤ s .left .slope
 
--- n / d with quotient q and remainder r, rounded up; rounded down, or with its sign changed and rounded down
-abbrev pub ceil-of : (q r : ℕ) → ℕ
-ceil-of q r = q + cond (eqb r 0) 0 1
+-- w² / (W h), where w = b t and W = a u + b t; on a straight line nothing
+pub record Excess (t u h a b q r : ℕ) : Type 0 where
+  pub divided : 0 < a * u + b * t → Divided (b * t * (b * t)) ((a * u + b * t) * h) q r
+  pub none : b * t ≡ 0 → (q ≡ 0) × (r ≡ 0)
 
-abbrev pub floor-of : Bool → (q r : ℕ) → ℤ
-floor-of down q r = cond down (negℤ (pos (ceil-of q r))) (pos q)
+abbrev pub hundredths-of : (left slope : ℤ) (t above : ℕ) → ℤ
+hundredths-of left slope t above = pos 100 *ℤ left +ℤ slope *ℤ pos t +ℤ pos above
 
--- w² / (W h), where w = b t and W = a u + b t
-abbrev pub above-tangent : Bool → (t u h a b : ℕ) → ℤ
-above-tangent down t u h a b = floorDiv (signed down (pos (b * t * (b * t)))) ((a * u + b * t) * h)
-
--- the left value, the left tangent and what is above it, with one half for the rounding
-abbrev pub hundredths-of : (left slope : ℤ) (t : ℕ) (above : ℤ) → ℤ
-hundredths-of left slope t above = pos 50 +ℤ pos 100 *ℤ left +ℤ slope *ℤ pos t +ℤ above
-
-abbrev pub bent-reading : Bool → (left slope : ℤ) (t u h a b : ℕ) → ℤ
-bent-reading down left slope t u h a b = floorDiv (hundredths-of left slope t (above-tangent down t u h a b)) 100
-
-pub record BentInput (left : ℕ) (slope : ℤ) (t u h a b : ℕ) : Type 0 where
+pub record BentInput (t u h a b : ℕ) : Type 0 where
   pub distances : Distances t u
   pub sum : h ≡ t + u
-  pub value : left ≤ value-most
-  pub steep : natAbs slope ≤ slope-most
   pub above : a ≤ 2 * over-most
   pub below : b ≤ 2 * over-most
 
-pub record SumInput (left : ℕ) (slope : ℤ) (t : ℕ) (above : ℤ) : Type 0 where
+pub record SumInput (left : ℕ) (slope : ℤ) (t above : ℕ) : Type 0 where
   pub value : left ≤ value-most
   pub steep : natAbs slope ≤ slope-most
   pub near : t ≤ gap-most
-  pub size : natAbs above ≤ 2 * over-most + 2
+  pub size : above ≤ 2 * over-most

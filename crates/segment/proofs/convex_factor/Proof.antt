@@ -1,35 +1,49 @@
 -- `segment::convex_factor` meets its contract.
 -- Assumes nothing.
-use mathlib.Core.Path.{_∙_}
-use mathlib.Core.Bool.{false}
+use mathlib.Core.Path.{_≡_, _∙_}
+use lib.IntN.{pos}
+use mir.Syntax.{w32}
+use mir.Val.{toZ, ofZ}
 use mir.Facts.{toZ-ofZ}
-use Rattle.segment.proofs.BentReading.{input-read, input-summed, read-of, read-summed}
+use Rattle.point.proofs.Figures.{slope-read}
+use Rattle.segment.specs.Inner.{hundredths-of}
+use Rattle.segment.proofs.Sizes.{shiftable}
+use Rattle.segment.proofs.BentReading.{bent-input, sum-input, bent-reads}
 use Rattle.segment.proofs.convex_factor.Statement.{statement}
 use Rattle.segment.proofs.convex_factor.Tie as tie
 
--- the place after `bent_at`
-abbrev at : tie.After-estimate → tie.After-bent-at
-at c = c .before .before
+-- the sum, as the code has it
+sum-read : (c : tie.After-hundredths) → (let e = c .before .before in
+    let a = e .before .before .args in
+    toZ w32 (ofZ w32 (c .hundredths .result))
+    ≡ hundredths-of (pos (a .p .value)) (a .p .slope) (e .before .bent-at .result .t) (e .excess .result .q))
+sum-read c =
+    let l = c .before .before .before .before .pre .good .ends .left in
+    toZ-ofZ (record { sfits = c .hundredths .ok }) ∙ (rw (slope-read l) at (c .hundredths .ensures))
+
+hundredths-requires : tie.Need-hundredths-requires
+hundredths-requires c κs =
+    let e = c .before in
+    let b = e .before in
+    let i = b .before .pre in
+    rw (slope-read (i .good .ends .left)) (sum-input i (b .bent-at .ensures) (e .excess .ensures))
+
+units-requires : tie.Need-units-requires
+units-requires c κs =
+    let e = c .before .before in
+    let b = e .before in
+    rw (sum-read c) (shiftable (sum-input (b .before .pre) (b .bent-at .ensures) (e .excess .ensures)))
 
 returns : tie.Need-returns
 returns c =
-    let e = c .before .before in
-    toZ-ofZ (record { sfits = c .struct-told2 .given .0 .1 })
-    ∙ read-of false (at e .before .pre) (at e .bent-at .ensures) (e .estimate .ensures .0 (c .before .if1 .taken))
-
-exact-factor-requires : tie.Need-exact-factor-requires
-exact-factor-requires c κs =
-    let e = c .before .before in
-    (input-summed false (at e .before .pre) (at e .bent-at .ensures), e .estimate .ensures .1 (c .before .if1 .left))
-
-returns-2 : tie.Need-returns-2
-returns-2 c =
-    let b = at (c .before .before .before) in
-    toZ-ofZ (record { sfits = c .exact-factor .ok })
-    ∙ read-summed false (b .before .pre) (b .bent-at .ensures) (c .exact-factor .ensures)
+    let e = c .before .before .before in
+    let b = e .before in
+    toZ-ofZ (record { sfits = c .units .ok })
+    ∙ (rw (sum-read (c .before)) at (c .units .ensures))
+    ∙ bent-reads (b .before .pre) (b .bent-at .ensures) (e .excess .ensures)
 
 pub convex-factor-spec : {M : Type 1} → statement M
 convex-factor-spec =
     tie.close
-    (tie.spec (λ c κs. c .pre) (λ c κs. let b = c .before in input-read false (b .before .pre) (b .bent-at .ensures)) returns
-    exact-factor-requires returns-2)
+    (tie.spec (λ c κs. c .pre) (λ c κs. bent-input (c .before .pre) (c .bent-at .ensures)) hundredths-requires units-requires
+    returns)

@@ -1,7 +1,7 @@
 -- `segment::hundredths` meets its contract.
 -- Assumes nothing.
 use mathlib.Core.Path.{_≡_}
-use Prim.Native.Nat.{_+_, _*_}
+use Prim.Native.Nat.{_*_}
 use native.Mathlib.Omega.{arith}
 use borrow.Author.Needs.{needs}
 use lib.IntN.{ℤ, pos, _+ℤ_, _*ℤ_}
@@ -9,7 +9,7 @@ use mir.Syntax.{w32, w64}
 use mir.Val.{toZ, ofZ}
 use mir.Facts.{toZ-ofZ}
 use Rattle.segment.specs.Inner.{hundredths-of}
-use Rattle.segment.proofs.Sizes.{slope-fits, product-fits, from-fits, from-read, sum-fits, sum-fits-32, distance-read}
+use Rattle.segment.proofs.Sizes.{slope-fits, product-fits, from-fits, from-read, distance-read, above-read, sum-fits, sum-fits-32}
 use Rattle.segment.proofs.hundredths.Statement.{statement}
 use Rattle.segment.proofs.hundredths.Tie as tie
 
@@ -19,18 +19,18 @@ module _ (c : tie.Start) where
   slope = toZ w64 (ofZ w64 (toZ w32 (ofZ w32 (c .args .slope))))
 
   abbrev first : ℤ
-  first = toZ w64 (ofZ w64 (toZ w64 (50 + 100 * c .args .left) +ℤ toZ w64 (ofZ w64 (slope *ℤ toZ w64 (c .args .t)))))
+  first = toZ w64 (ofZ w64 (toZ w64 (100 * c .args .left) +ℤ toZ w64 (ofZ w64 (slope *ℤ toZ w64 (c .args .t)))))
 
   slope-read : slope ≡ c .args .slope
   slope-read = rw (toZ-ofZ (c .fits .slope)) (toZ-ofZ (slope-fits (c .pre)))
 
-  first-read : first ≡ pos (50 + 100 * c .args .left) +ℤ c .args .slope *ℤ pos (c .args .t)
+  first-read : first ≡ pos (100 * c .args .left) +ℤ c .args .slope *ℤ pos (c .args .t)
   first-read =
       rw (slope-read, distance-read (c .pre), toZ-ofZ (product-fits (c .pre)), from-read (c .pre)) (toZ-ofZ (from-fits (c .pre)))
 
   sum-read : (let a = c .args in
-      first +ℤ toZ w64 (ofZ w64 (a .above)) ≡ hundredths-of (pos (a .left)) (a .slope) (a .t) (a .above))
-  sum-read = rw (first-read, toZ-ofZ (c .fits .above))
+      first +ℤ toZ w64 (a .above) ≡ hundredths-of (pos (a .left)) (a .slope) (a .t) (a .above))
+  sum-read = rw (first-read, above-read (c .pre))
 
 cast-result-2 : tie.Need-cast-result-2
 cast-result-2 c = rw (toZ-ofZ (c .fits .slope)) (slope-fits (c .pre))
@@ -45,8 +45,8 @@ add-result c =
 add-result-2 : tie.Need-add-result-2
 add-result-2 c = rw (sum-read c) (sum-fits (c .pre))
 
-cast-result-4 : tie.Need-cast-result-4
-cast-result-4 c = rw (sum-read c, toZ-ofZ (sum-fits (c .pre))) (sum-fits-32 (c .pre))
+cast-result-5 : tie.Need-cast-result-5
+cast-result-5 c = rw (sum-read c, toZ-ofZ (sum-fits (c .pre))) (sum-fits-32 (c .pre))
 
 returns : tie.Need-returns
 returns c = rw (sum-read c, toZ-ofZ (sum-fits (c .pre))) (toZ-ofZ (sum-fits-32 (c .pre)))
@@ -54,5 +54,5 @@ returns c = rw (sum-read c, toZ-ofZ (sum-fits (c .pre))) (toZ-ofZ (sum-fits-32 (
 pub hundredths-spec : {M : Type 1} → statement M
 hundredths-spec =
     tie.close
-    (tie.spec (λ c. omega (arith, c .pre)) (λ c. omega (arith, c .pre)) (λ c. omega (arith, c .pre)) cast-result-2 (search needs)
-    mul-result add-result add-result-2 cast-result-4 returns)
+    (tie.spec (λ c. omega (arith, c .pre)) (λ c. omega (arith, c .pre)) cast-result-2 (search needs)
+    mul-result add-result (search needs) add-result-2 cast-result-5 returns)
