@@ -1,4 +1,5 @@
 -- The rounding of a quotient, from what a division left.
+--   half-even-strict  what is less than one half off on both sides
 --   stays, goes-up    k + r / d is rounded to k, or to k + 1
 --   round-sticky      of what two divisions left, the rounding asks of the first only whether it left anything
 -- Assumes nothing.
@@ -39,7 +40,7 @@ module _ {x : Fraction} {k : ℤ} where
     even-at-half = λ at. elim at [ inl e ↦ clashℤ (low .cross) (Q.≤-of-≈ e .cross) | inr e ↦ tie e ];
   }
 
-  half-even-strict : x -ℚ half <ℚ whole k → whole k <ℚ x +ℚ half → HalfEven x k
+  pub half-even-strict : x -ℚ half <ℚ whole k → whole k <ℚ x +ℚ half → HalfEven x k
   half-even-strict low high = half-even-low (Q.≤-of-< low) high (λ e. clashℤ (low .cross) (Q.≤-of-≈ e .cross))
 
 -- ---- k + r / d
@@ -47,7 +48,7 @@ module _ {x : Fraction} {k : ℤ} where
 ≡-of-≡ : {a b c d : ℤ} → a -ℤ b ≡ c -ℤ d → c ≡ d → a ≡ b
 ≡-of-≡ {a} {b} {c} {d} e h = ≡-of-difference a b (e ∙ rw h (+ℤ-invr d))
 
-module _ (k : ℤ) {r d : ℕ} (below : r < d) where
+module _ (k : ℤ) {r d : ℕ} (some : 0 < d) (part : r ≤ d) where
   abbrev mixed : Fraction
   mixed = (k *ℤ pos d +ℤ pos r) over pos d
 
@@ -58,11 +59,11 @@ module _ (k : ℤ) {r d : ℕ} (below : r < d) where
   unfolding _over_ whole _+ℚ_ _-ℚ_
   stays h tie =
       let m = Z.pos-≤-of-≤ h in
-      let s = Z.pos-<-of-< below in
+      let s = Z.pos-<-of-< some in
       half-even-low
       (record { cross = Z.≤-by (pos d -ℤ pos (2 * r)) (ring variables (search terms depth 20 fits 9999) tt) (search signs) })
       (record {
-        cross = Z.<-by ((pos d -ℤ pos r) +ℤ pos (3 * r)) (ring variables (search terms depth 20 fits 9999) tt) (search signs);
+        cross = Z.<-by (pos d +ℤ pos (2 * r)) (ring variables (search terms depth 20 fits 9999) tt) (search signs);
       })
       (λ e. tie (Z.pos-injective (≡-of-≡ (ring variables (search terms depth 20 fits 9999) tt) (sym (e .cross)))))
 
@@ -70,7 +71,8 @@ module _ (k : ℤ) {r d : ℕ} (below : r < d) where
   unfolding _over_ whole _+ℚ_ _-ℚ_
   goes-up h tie =
       let m = Z.pos-≤-of-≤ h in
-      let s = Z.pos-<-of-< below in
+      let p = Z.pos-≤-of-≤ part in
+      let s = Z.pos-<-of-< some in
       half-even-high
       (record {
         cross = Z.<-by ((pos d -ℤ pos r) *ℤ pos 2 +ℤ pos d) (ring variables (search terms depth 20 fits 9999) tt) (search signs);

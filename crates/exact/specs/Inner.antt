@@ -23,7 +23,8 @@ pub record Shiftable (n : ℤ) (d : ℕ) : Type 0 where
 
 pub record Mixed (k : ℤ) (r d : ℕ) : Type 0 where
   pub size : natAbs k ≤ 1000000
-  pub part : r < d
+  pub above-0 : 0 < d
+  pub part : r ≤ d
   pub divisor : d < 2 ^ 62
 
 abbrev pub sticky : ℕ → ℕ

@@ -1,18 +1,18 @@
 -- The sizes of what `part`, `rising`, `excess`, `hundredths` and `units` compute.
 --   blend-size      a sum weighted by the distances from the two ends
 --   left-weights, right-weights   what the two calls of `part` ask
---   whole-size, share-size, share-most   B; A F, and its quotient by B
+--   whole-size, share-size, share-most   B; A F and B / 2, and the quotient by B
 --   divisor-size, denominator-size, denominator-positive   the parts of the convex curve
 --   w-most, w-most-size   w in the whole segment
 --   shared          what the quotient of w w asks where it may pass 64 bits; excess-most, how large it is
---   slope-fits, .., sum-fits-32   the sum in hundredths and its parts fit; shiftable, what its division asks
+--   slope-fits, .., sum-fits-32   the sum in hundredths and its parts fit; sum-size, how large it is
 -- Assumes nothing.
 use mathlib.Core.Path.{_≡_, sym, _∙_, ap}
 use mathlib.Core.List.{[], _∷_}
 use mathlib.Core.Logic.{inl, inr}
 use Prim.Native.Nat.{ℕ, zero, suc, _+_, _-_, _*_, _/_, _^_, _≤_, _<_}
 use native.Mathlib.Nat.{mul-le-mul, mul-le-mul-left, mul-le-mul-right, le-mul-of-pos-right, div-mul-le-self, le-trans}
-use native.Mathlib.Nat.{mul-pos, le-of-mul-le-mul-right}
+use native.Mathlib.Nat.{mul-pos, le-of-mul-le-mul-right, div-lt-iff-lt-mul}
 use native.Mathlib.Omega.{arith}
 use lib.Arith.{digits-div}
 use lib.Dec.{lit<}
@@ -20,7 +20,7 @@ use lib.IntN.{ℤ, pos, natAbs, _+ℤ_, _*ℤ_}
 use mir.Syntax.{w32, w64}
 use mir.Val.{SFits, toZ}
 use mir.Facts.{toZ-pos}
-use Rattle.exact.specs.Inner.{Shiftable, Shared}
+use Rattle.exact.specs.Inner.{Shared}
 use Rattle.exact.proofs.Ring.{ring-ℕ, terms}
 use Rattle.exact.proofs.Tests.{compare}
 use Rattle.exact.proofs.Magnitude.{scaled-size, size-+, size-*, sfits-of-size}
@@ -59,13 +59,19 @@ module _ {t u left F D₀ D₁ : ℕ} (k : RisingInput t u left F D₀ D₁) whe
   pub whole-size : whole-part t u F D₀ D₁ ≤ gap-most * (gap-most * over-most)
   whole-size = omega (arith, k .distances .most, part-size left-weights, part-size right-weights)
 
-  pub share-size : left-part t u F D₀ D₁ * F ≤ 2 ^ 64 - 1
+  pub share-size : left-part t u F D₀ D₁ * F + whole-part t u F D₀ D₁ / 2 ≤ 2 ^ 64 - 1
   share-size =
       let n = whole-size in
       omega (arith, mul-le-mul {n₁ = left-part t u F D₀ D₁} {n₂ = gap-most * (gap-most * over-most)} (omega arith) (k .rise))
 
-  pub share-most : left-part t u F D₀ D₁ * F / whole-part t u F D₀ D₁ ≤ value-most
-  share-most = le-trans (scaled-size {x = left-part t u F D₀ D₁} {c = whole-part t u F D₀ D₁} F (omega arith)) (k .rise)
+  -- A F is at most B F, and B / 2 less than B
+  pub share-most : (left-part t u F D₀ D₁ * F + whole-part t u F D₀ D₁ / 2) / whole-part t u F D₀ D₁ ≤ value-most
+  share-most =
+      let A : ℕ = left-part t u F D₀ D₁ in
+      let B : ℕ = whole-part t u F D₀ D₁ in
+      let part : A * F ≤ B * F = mul-le-mul-right F (omega arith) in
+      let m : (A * F + B / 2) / B < F + 1 = div-lt-iff-lt-mul (k .above-0) .1 (omega (arith, part, k .above-0)) in
+      omega (arith, m, k .rise)
 
 -- ---- convex
 
@@ -183,7 +189,7 @@ module _ {left : ℕ} {slope : ℤ} {t above : ℕ} (k : SumInput left slope t a
   abbrev sum : ℤ
   sum = hundredths-of (pos left) slope t above
 
-  sum-size : natAbs sum ≤ 100000000
+  pub sum-size : natAbs sum ≤ 90000000
   sum-size =
       omega (arith, size-+ (pos from +ℤ product) (pos above), size-+ (pos from) product, product-most, k .size, k .value)
 
@@ -193,5 +199,3 @@ module _ {left : ℕ} {slope : ℤ} {t above : ℕ} (k : SumInput left slope t a
   pub sum-fits-32 : SFits w32 sum
   sum-fits-32 = sfits-of-size w32 sum (omega (arith, sum-size))
 
-  pub shiftable : Shiftable sum 100
-  shiftable = record { above-0 = lit< tt; small = omega arith; size = omega (arith, sum-size) }

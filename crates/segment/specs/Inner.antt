@@ -1,6 +1,7 @@
 -- What contracts of inner functions cite: one segment in plain numbers. Nothing here need be believed: the calls' contracts cite
 -- the definitions of documents 01 and 02.
 --   Distances        t and u, of an area from the two ends of a segment
+--   faced            a point as it stands, or mirrored
 --   part             A of the rising curve, from one end; whole-part is B
 --   rising-value     the value of the rising curve
 --   BentAt           the figures of an area of a convex segment
@@ -9,17 +10,21 @@
 --   Weights, RisingInput, BentInput, SumInput    what `part`, `rising`, `excess` and `hundredths` ask
 -- Assumes nothing.
 use mathlib.Core.Path.{_≡_}
+use mathlib.Core.Bool.{Bool, cond}
 use Prim.Native.Nat.{ℕ, _+_, _-_, _*_, _≤_, _<_}
 use lib.IntN.{ℤ, pos, natAbs, _+ℤ_, _-ℤ_, _*ℤ_}
 use Rattle.exact.specs.Fraction.{Fraction, _over_}
 use Rattle.exact.specs.Inner.{Divided}
-use Rattle.model.specs.Points.{gap-most, value-most, slope-most, Segment}
+use Rattle.model.specs.Points.{gap-most, value-most, slope-most, Point, Segment, mirror}
 use Rattle.shape.specs.Inner.{over-most}
 use Rattle.segment.specs.declared.Bent.{Bent}
 
 pub record Distances (t u : ℕ) : Type 0 where
   pub most : t + u ≤ gap-most
   pub least : 0 < t + u
+
+abbrev pub faced : Bool → Point → Point
+faced turned p = cond turned (mirror p) p
 
 -- ---- rising
 

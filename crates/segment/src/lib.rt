@@ -1,16 +1,17 @@
 // The factor at an area of one segment, by one division other than by constants.
 ghost use mathlib.Core.Path.{_≡_};
-ghost use lib.IntN.{pos, _+ℤ_, _*ℤ_};
-ghost use Prim.Native.Nat.{_≤_};
+ghost use mathlib.Core.Bool.{true, cond};
+ghost use lib.IntN.{pos, natAbs, _+ℤ_, _*ℤ_};
+ghost use Prim.Native.Nat.{_-_, _≤_};
 ghost use Rattle.segment.specs.Inner as inner;
 ghost use Rattle.segment.specs.Inner.{Weights, RisingInput, rising-value, BentAt, BentInput, Excess, SumInput, hundredths-of};
 ghost use Rattle.exact.specs.Fraction.{_over_};
 ghost use Rattle.exact.specs.Rounding.{round};
-ghost use Rattle.exact.specs.Inner.{Shiftable, sticky};
+ghost use Rattle.exact.specs.Inner.{sticky};
 ghost use Rattle.model.specs.Points.{Shape, Rule, plain, shape-of, rule-of};
 ghost use Rattle.model.specs.Interpolant.{interpolant, exact-curve};
-ghost use Rattle.model.specs.Inner.{Good, Inside};
-ghost use Rattle.point.specs.Inner.{segment-of};
+ghost use Rattle.model.specs.Inner.{Good, Inside, Limits};
+ghost use Rattle.point.specs.Inner.{point-of, segment-of};
 use exact::Quotient;
 use point::Point;
 
@@ -24,7 +25,8 @@ fn part(t: u64, u: u64, g: u64, e: u64) -> u64
     t * (g * t + e * u)
 }
 
-// The value on a rising curve, rounded. t and u are the distances from the two ends, d0 and d1 the slopes in hundredths.
+// The value on a rising curve, rounded. t and u are the distances from the two ends, d0 and d1 the slopes in hundredths. With one
+// half added it is rounded down, but where that leaves nothing: there may be a tie.
 fn rising(t: u64, u: u64, left: u64, rise: u64, d0: u64, d1: u64) -> i32
     requires { ⌜ RisingInput t u left rise d0 d1 ⌝ }
     ensures { λ r. ⌜ r ≡ round (rising-value t u left rise d0 d1) ⌝ }
@@ -33,8 +35,12 @@ fn rising(t: u64, u: u64, left: u64, rise: u64, d0: u64, d1: u64) -> i32
     let g = 100 * rise;
     let a = part(t, u, g, h * d0);
     let b = a + part(u, t, g, h * d1);
-    let n = a * rise;
-    exact::nearest((left + n / b) as i32, n % b, b)
+    let n = a * rise + b / 2;
+    let k = (left + n / b) as i32;
+    if n % b != 0 {
+        return k;
+    }
+    exact::nearest(k - 1, b - b / 2, b)
 }
 
 // u is taken as h - t, so that the compiler sees that t + u is h for every area.
@@ -119,14 +125,16 @@ fn digit(r: u64) -> u64
     1
 }
 
-// n hundredths in units, rounded; r is what is left of a hundredth more.
+// n hundredths in units, rounded; r is what is left of a hundredth more, which decides where n ends in 50 alone.
 fn units(n: i32, r: u64) -> i32
-    requires { ⌜ Shiftable n 100 ⌝ }
+    requires { ⌜ natAbs n ≤ 90000000 ⌝ }
     ensures { λ k. ⌜ k ≡ round ((pos 2 *ℤ n +ℤ pos (sticky r)) over pos 200) ⌝ }
 {
-    let k = exact::floor_div(n, 100);
-    let rest = (n - 100 * k) as u64;
-    exact::nearest(k, 2 * rest + digit(r), 200)
+    let k = exact::floor_div(n + 50, 100);
+    if n + 50 != 100 * k {
+        return k;
+    }
+    exact::nearest(k - 1, 100 + digit(r), 200)
 }
 
 fn convex_factor(p: Point, q: Point, area: u32) -> i32
@@ -140,6 +148,28 @@ fn convex_factor(p: Point, q: Point, area: u32) -> i32
 
 // ---- the factor
 
+// A point as it stands, or mirrored.
+fn faced(turned: bool, p: Point) -> Point
+    requires { ⌜ Limits (point-of p) ⌝ }
+    ensures { λ r. ⌜ point-of r ≡ inner.faced turned (point-of p) ⌝ }
+{
+    if turned {
+        return point::mirror(p);
+    }
+    p
+}
+
+// A code without its mirror: 1 or 2.
+fn plain_code(turned: bool, code: u32) -> u32
+    requires { ⌜ (turned ≡ true → 2 ≤ code) ⌝ }
+    ensures { λ r. ⌜ r ≡ cond turned (code - 2) code ⌝ }
+{
+    if turned {
+        return code - 2;
+    }
+    code
+}
+
 // That of codes 1 and 2.
 fn plain_factor(code: u32, p: Point, q: Point, area: u32) -> i32
     requires { ⌜ Inside (Good (plain (shape-of code))) (segment-of p q) area ⌝ }
@@ -152,13 +182,15 @@ fn plain_factor(code: u32, p: Point, q: Point, area: u32) -> i32
 }
 
 // The factor at an area of a segment that has its shape. Of codes 3 and 4 it is 200,000 less that of 1 and 2 on mirrored points:
-// 200,000 is even.
+// 200,000 is even. All codes go by one call, so that the compiler inlines it.
 pub fn factor(code: u32, p: Point, q: Point, area: u32) -> i32
     requires { ⌜ Inside (Good (rule-of code)) (segment-of p q) area ⌝ }
     ensures { λ r. ⌜ r ≡ round (exact-curve (rule-of code) (segment-of p q) area) ⌝ }
 {
-    if code <= 2 {
-        return plain_factor(code, p, q, area);
+    let turned = code > 2;
+    let f = plain_factor(plain_code(turned, code), faced(turned, p), faced(turned, q), area);
+    if turned {
+        return point::VALUE_MOST as i32 - f;
     }
-    point::VALUE_MOST as i32 - plain_factor(code - 2, point::mirror(p), point::mirror(q), area)
+    f
 }

@@ -35,7 +35,7 @@ taken-off-next : (k : ℤ) → k +ℤ pos 1000000 +ℤ pos 1 -ℤ pos 1000000 �
 taken-off-next k = ring (k ∷ []) (search terms depth 20 fits 9999) tt
 
 proper : (c : tie.Start) → Proper ((c .args .k *ℤ pos (c .args .d) +ℤ pos (c .args .r)) over pos (c .args .d))
-proper c = Q.proper-over _ _ (Z.pos-<-of-< (omega (arith, c .pre .part)))
+proper c = Q.proper-over _ _ (Z.pos-<-of-< (c .pre .above-0))
 
 module _ (c : tie.Start) where
   abbrev k : ℤ
@@ -82,13 +82,13 @@ returns c =
     let s = c .before in
     let test = c .if1 .taken in
     rw (k-read s, toZ-ofZ (next-fits s))
-    (sym (round-rounding .unique (proper s) (goes-up (k s) (s .pre .part) (omega arith) (λ e. next-even-of-1 s (omega arith)))))
+    (sym (round-rounding .unique (proper s) (goes-up (k s) (s .pre .above-0) (s .pre .part) (omega arith) (λ e. next-even-of-1 s (omega arith)))))
 
 returns-2 : tie.Need-returns-2
 returns-2 c =
     let s = c .before in
     let test = c .if1 .left in
-    rw (k-read s) (sym (round-rounding .unique (proper s) (stays (k s) (s .pre .part) (omega arith) (λ e. even-of-0 s (omega arith)))))
+    rw (k-read s) (sym (round-rounding .unique (proper s) (stays (k s) (s .pre .above-0) (s .pre .part) (omega arith) (λ e. even-of-0 s (omega arith)))))
 
 pub nearest-spec : {M : Type 1} → statement M
 nearest-spec =

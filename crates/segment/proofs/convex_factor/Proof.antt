@@ -7,7 +7,7 @@ use mir.Val.{toZ, ofZ}
 use mir.Facts.{toZ-ofZ}
 use Rattle.point.proofs.Figures.{slope-read}
 use Rattle.segment.specs.Inner.{hundredths-of}
-use Rattle.segment.proofs.Sizes.{shiftable}
+use Rattle.segment.proofs.Sizes.{sum-size}
 use Rattle.segment.proofs.BentReading.{bent-input, sum-input, bent-reads}
 use Rattle.segment.proofs.convex_factor.Statement.{statement}
 use Rattle.segment.proofs.convex_factor.Tie as tie
@@ -32,7 +32,7 @@ units-requires : tie.Need-units-requires
 units-requires c κs =
     let e = c .before .before in
     let b = e .before in
-    rw (sum-read c) (shiftable (sum-input (b .before .pre) (b .bent-at .ensures) (e .excess .ensures)))
+    rw (sum-read c) (sum-size (sum-input (b .before .pre) (b .bent-at .ensures) (e .excess .ensures)))
 
 returns : tie.Need-returns
 returns c =

@@ -1,9 +1,13 @@
 -- `segment::factor` meets its contract. The rounding of 200,000 less a value is 200,000 less the value's, as 200,000 is even.
 -- Assumes nothing.
-use mathlib.Core.Path.{_≡_, sym, _∙_, ap}
-use Prim.Native.Nat.{_-_, _≤_}
+use mathlib.Core.Path.{_≡_, refl, sym, _∙_, ap}
+use mathlib.Core.Bool.{Bool, true, false, cond}
+use Prim.Native.Nat.{ℕ, _-_, _≤_}
+use native.Mathlib.Nat.{le-of-lt}
 use native.Mathlib.Omega.{arith}
 use borrow.Author.Needs.{needs}
+use borrow.Author.Tests.{ltb-true, ltb-false}
+use lib.Dec.{ltb}
 use lib.IntN.{ℤ, pos, natAbs, _-ℤ_}
 use mir.Syntax.{w32}
 use mir.Val.{SFits, toZ, ofZ}
@@ -11,64 +15,89 @@ use mir.Facts.{toZ-ofZ}
 use Rattle.exact.specs.Rounding.{round}
 use Rattle.exact.proofs.Magnitude.{size--, sfits-of-size}
 use Rattle.exact.proofs.Rounding.{round-rounding}
-use Rattle.model.specs.Points.{value-most, Segment, mirror-segment, plain, mirrored, shape-of, rule-of}
+use Rattle.model.specs.Points.{value-most, Segment, between, plain, shape-of, rule-of}
 use Rattle.model.specs.Interpolant.{interpolant, exact-curve}
 use Rattle.model.specs.Inner.{Good, Inside}
 use Rattle.model.proofs.Codes.{plain-of, mirrored-of}
 use Rattle.model.proofs.Mirror.{value-most-even, mirror-inside, curve-proper}
 use Rattle.point.specs.Inner.{segment-of}
+use Rattle.segment.specs.Inner.{faced}
 use Rattle.segment.proofs.Distances.{factor-size}
 use Rattle.segment.proofs.factor.Statement.{statement}
 use Rattle.segment.proofs.factor.Tie as tie
 
-returns : tie.Need-returns
-unfolding exact-curve
-returns c =
-    rw (plain-of (c .before .if1 .taken)) (toZ-ofZ (record { sfits = c .plain-factor .ok }) ∙ c .plain-factor .ensures)
+module _ (code : ℕ) (s : Segment) (x : ℕ) (i : Inside (Good (rule-of code)) s x) where
+  -- the segment as the shape of its code reads it
+  abbrev facing : Bool → Segment
+  facing turned = between (faced turned (s .left)) (faced turned (s .right))
 
--- ---- codes 3 and 4
+  abbrev reading : Bool → ℤ
+  reading turned = round (interpolant (shape-of (cond turned (code - 2) code)) (facing turned) x)
 
-module _ (c : tie.Else1) where
-  abbrev s : Segment
-  s = segment-of (c .before .args .p) (c .before .args .q)
+  inside : (turned : Bool) → ltb 2 code ≡ turned → Inside (Good (plain (shape-of (cond turned (code - 2) code)))) (facing turned) x
+  inside true e = mirror-inside (rw (mirrored-of (ltb-true 2 code e)) at i)
+  inside false e = rw (plain-of (ltb-false 2 code e)) at i
 
-  inside : Inside (Good (plain (shape-of (c .before .args .code - 2)))) (mirror-segment s) (c .before .args .area)
-  inside = mirror-inside (rw (mirrored-of (c .if1 .left)) at (c .before .pre))
-
-  -- the mirror's reading
-  abbrev reading : ℤ
-  reading = round (interpolant (shape-of (c .before .args .code - 2)) (mirror-segment s) (c .before .args .area))
-
-  reading-size : natAbs reading ≤ 400000
+  reading-size : (turned : Bool) → ltb 2 code ≡ turned → natAbs (reading turned) ≤ 400000
   unfolding exact-curve
-  reading-size = factor-size inside
+  reading-size turned e = factor-size (inside turned e)
 
-  result-fits : SFits w32 (pos value-most -ℤ reading)
-  result-fits = sfits-of-size w32 _ (omega (arith, size-- (pos value-most) reading, reading-size))
-
-  taken-off : pos value-most -ℤ reading ≡ round (exact-curve (rule-of (c .before .args .code)) s (c .before .args .area))
+  taken-off : ltb 2 code ≡ true → pos value-most -ℤ reading true ≡ round (exact-curve (rule-of code) s x)
   unfolding exact-curve
-  taken-off =
-      rw (mirrored-of (c .if1 .left)) (sym (round-rounding .from-even (pos value-most) value-most-even _ (curve-proper inside)))
+  taken-off e =
+      rw (mirrored-of (ltb-true 2 code e))
+      (sym (round-rounding .from-even (pos value-most) value-most-even _ (curve-proper (inside true e))))
 
-plain-factor-requires : tie.Need-plain-factor-requires-2
-plain-factor-requires c κs = rw (c .before .mirror .ensures, c .mirror2 .ensures) (inside (c .before .before))
+  as-it-stands : ltb 2 code ≡ false → reading false ≡ round (exact-curve (rule-of code) s x)
+  unfolding exact-curve
+  as-it-stands e = rw (plain-of (ltb-false 2 code e))
 
-reading-read : (c : tie.After-plain-factor2) → (let e = c .before .before .before in
-    toZ w32 (ofZ w32 (c .plain-factor2 .result)) ≡ reading e)
+-- ---- as the code has them
+
+module _ (c : tie.Start) where
+  abbrev turned : Bool
+  turned = ltb 2 (c .args .code)
+
+  abbrev read : Bool → ℤ
+  read = reading (c .args .code) (segment-of (c .args .p) (c .args .q)) (c .args .area) (c .pre)
+
+  result-fits : SFits w32 (pos value-most -ℤ read turned)
+  result-fits =
+      let most = reading-size (c .args .code) _ (c .args .area) (c .pre) turned refl in
+      sfits-of-size w32 _ (omega (arith, size-- (pos value-most) (read turned), most))
+
+plain-factor-requires : tie.Need-plain-factor-requires
+plain-factor-requires c κs =
+    let s = c .before .before .before in
+    rw (c .before .before .plain-code .ensures, c .before .faced .ensures, c .faced2 .ensures)
+    (inside (s .args .code) _ (s .args .area) (s .pre) (turned s) refl)
+
+reading-read : (c : tie.After-plain-factor) → (let s = c .before .before .before .before in
+    toZ w32 (ofZ w32 (c .plain-factor .result)) ≡ read s (turned s))
 reading-read c =
-    toZ-ofZ (record { sfits = c .plain-factor2 .ok })
-    ∙ (rw (c .before .before .mirror .ensures, c .before .mirror2 .ensures) at (c .plain-factor2 .ensures))
+    let e = c .before in
+    toZ-ofZ (record { sfits = c .plain-factor .ok })
+    ∙ (rw (e .before .before .plain-code .ensures, e .before .faced .ensures, e .faced2 .ensures) at (c .plain-factor .ensures))
 
 sub-result : tie.Need-sub-result
-sub-result c = rw (reading-read c) (result-fits (c .before .before .before))
+sub-result c = rw (reading-read (c .before)) (result-fits (c .before .before .before .before .before))
+
+returns : tie.Need-returns
+returns c =
+    let s = c .before .before .before .before .before in
+    rw (reading-read (c .before))
+    (toZ-ofZ (result-fits s)
+    ∙ ap (λ (t : Bool). pos value-most -ℤ read s t) (c .if1 .taken)
+    ∙ taken-off (s .args .code) _ (s .args .area) (s .pre) (c .if1 .taken))
 
 returns-2 : tie.Need-returns-2
-returns-2 c = let e = c .before .before .before in rw (reading-read c) (toZ-ofZ (result-fits e) ∙ taken-off e)
+returns-2 c =
+    let s = c .before .before .before .before .before in
+    reading-read (c .before)
+    ∙ ap (λ (t : Bool). read s t) (c .if1 .left) ∙ as-it-stands (s .args .code) _ (s .args .area) (s .pre) (c .if1 .left)
 
 pub factor-spec : {M : Type 1} → statement M
 factor-spec =
     tie.close
-    (tie.spec (λ c κs. rw (plain-of (c .if1 .taken)) at (c .before .pre)) returns (search needs) (search needs)
-    (λ c κs. c .before .pre .good .ends .left) (λ c κs. c .before .before .pre .good .ends .right) plain-factor-requires sub-result
-    returns-2)
+    (tie.spec (λ c κs e. le-of-lt (ltb-true 2 (c .args .code) e)) (λ c κs. c .before .pre .good .ends .left)
+    (λ c κs. c .before .before .pre .good .ends .right) plain-factor-requires (search needs) sub-result returns returns-2)
