@@ -13,7 +13,6 @@ use lib.Signed.{_≤ℤ_}
 use Rattle.exact.specs.Fraction.{Proper, whole, _+ℚ_, _-ℚ_, _≤ℚ_}
 use Rattle.exact.specs.Rounding.{half}
 use Rattle.exact.proofs.Order as Z
-use Rattle.exact.proofs.Fractions.{≤-of-<}
 use Rattle.model.specs.Answer.{Answer, gives, refused, row, _then_}
 use Rattle.model.specs.Points.{Point, points}
 use Rattle.model.specs.Check.{curve-rows, check-answer, on-lists-of}
@@ -164,7 +163,7 @@ module _ (c : Curve) where
   half-a-unit x f r =
       let k = reads r in
       let near = rw (k .same) at (factors-are-near c x (k .area)) in
-      (values-are-proper c x (k .area), ≤-of-< (near .above), near .below)
+      (values-are-proper c x (k .area), near .low, near .high)
 
 pub third-demand : (c : Curve) → ThirdDemand c
 third-demand c =
@@ -177,6 +176,7 @@ third-demand c =
       desk-refuses-by-11 = λ bytes. desk-refuses-by-11 c (record-size * count bytes) bytes;
       desk-two-refuses-by-11 = desk-refuses-by-11 c (2 * record-size);
       half-a-unit = half-a-unit c;
+      even-at-half = λ x f r. (rw (reads r .same) at (factors-are-near c x (reads r .area))) .even-at-half;
       same-factor = λ x f g r s. sym (reads r .same) ∙ reads s .same;
       rising = λ e x y f g r s h.
           rw (← reads r .same, ← reads s .same) (rising-factors c e x y (reads r .area) (reads s .area) h);

@@ -5,7 +5,7 @@ use mathlib.Core.List.{[], _∷_, flatMap}
 use lib.Dec.{lit<}
 use lib.IntN.{pos}
 use Rattle.exact.specs.Fraction.{_over_, whole, _+ℚ_, _-ℚ_, _*ℚ_, _/ℚ_, leℚ, ltℚ, eqℚ}
-use Rattle.exact.specs.Rounding.{floorDiv, floor, round}
+use Rattle.exact.specs.Rounding.{floorDiv, floor, even, even-from, round}
 use Rattle.model.specs.Answer.{row, _then_, row-at-each, filled}
 use Rattle.model.specs.Points.{gradient, points, segments, shape-of, rule-of}
 use Rattle.model.specs.Interpolant.{chord, p, q, P, Q, rational, r-rising, r-convex}
@@ -39,7 +39,7 @@ pub record Each (c : Curve) : Type 0 where
   pub desk-two : FactorRead c 550 (pos 10800)
 
 pub example : FileExample × DeskTwoExample × (c : Curve) × Each c
-unfolding _over_ whole _+ℚ_ _-ℚ_ _*ℚ_ _/ℚ_ leℚ ltℚ eqℚ floorDiv floor round row _then_ row-at-each
+unfolding _over_ whole _+ℚ_ _-ℚ_ _*ℚ_ _/ℚ_ leℚ ltℚ eqℚ floorDiv floor even even-from round row _then_ row-at-each
     gradient points segments shape-of rule-of chord p q P Q rational r-rising r-convex rising-curve convex-curve curve
     interpolant exact-curve rises bends fits has-shape segment-test
     lengths-differ bad-count bad-code bad-area bad-value bad-slope point-rows segment-rows curve-rows on-lists

@@ -2,3 +2,4 @@
 pub mod Demands
 pub mod Filed
 pub mod Example
+pub mod Steps

@@ -1,12 +1,14 @@
--- The third demand, and what document 02, items 4 and 5, add to it. Proofs: proofs/Demands.antt.
+-- The third demand, and what document 02, items 4, 5 and 6, add to it. Proofs: proofs/Demands.antt, proofs/Steps.antt.
 -- Assumes nothing.
 use Prim.Native.Nat.{ℕ, _+_, _*_, _≤_, _<_}
 use mathlib.Core.Path.{_≡_}
+use mathlib.Core.Logic.{_⊎_}
 use mathlib.Core.List.{List, _∷_, _++_, map}
+use lib.Dec.{T}
 use lib.IntN.{ℤ, pos, _+ℤ_, _-ℤ_}
 use lib.Signed.{_≤ℤ_}
-use Rattle.exact.specs.Fraction.{Proper, whole, _+ℚ_, _-ℚ_, _≤ℚ_}
-use Rattle.exact.specs.Rounding.{half}
+use Rattle.exact.specs.Fraction.{Proper, whole, _+ℚ_, _-ℚ_, _≈ℚ_, _≤ℚ_}
+use Rattle.exact.specs.Rounding.{half, even}
 use Rattle.model.specs.Answer.{gives, refused}
 use Rattle.model.specs.Points.{Point, rule-of}
 use Rattle.model.specs.Check.{check-answer, on-lists}
@@ -25,6 +27,24 @@ CheckAccepts =
     (c : Curve) × (c .code ≡ code) × (map (λ p. p .area) (c .points) ≡ areas)
     × (map (λ p. p .value) (c .points) ≡ values) × (map (λ p. p .slope) (c .points) ≡ slopes)
 
+-- document 01, "The words of the third demand", and document 02, item 6: of three areas equally far apart, the second step is at
+-- most so many units smaller (larger) than the first
+module _ (units : ℕ) (c : Curve) where
+  abbrev pub ConvexSteps : Type 0
+  ConvexSteps =
+      (x k : ℕ) (f₀ f₁ f₂ : ℤ) → 0 < k → FactorRead c x f₀ → FactorRead c (x + k) f₁ → FactorRead c (x + 2 * k) f₂ →
+      (f₁ -ℤ f₀ -ℤ pos units) ≤ℤ (f₂ -ℤ f₁)
+
+  abbrev pub ConcaveSteps : Type 0
+  ConcaveSteps =
+      (x k : ℕ) (f₀ f₁ f₂ : ℤ) → 0 < k → FactorRead c x f₀ → FactorRead c (x + k) f₁ → FactorRead c (x + 2 * k) f₂ →
+      (f₂ -ℤ f₁) ≤ℤ (f₁ -ℤ f₀ +ℤ pos units)
+
+-- item 6: one unit would not do
+pub record OneUnitIsTooFew : Type 0 where
+  pub convex : (c : Curve) × (c .code ≡ 2) × (ConvexSteps 1 c → ⊥)
+  pub concave : (c : Curve) × (c .code ≡ 4) × (ConcaveSteps 1 c → ⊥)
+
 -- the third demand, on an accepted curve
 pub record ThirdDemand (c : Curve) : Type 0 where
   -- at a rated point the segments on both sides give the point's value
@@ -40,23 +60,23 @@ pub record ThirdDemand (c : Curve) : Type 0 where
       (number place : ℕ) → desk-answer bytes x scratch ≡ refused number place → number ≡ 11
   pub desk-two-refuses-by-11 : (bytes : List ℕ) (x scratch : ℕ) → FileOf c bytes → Area c x →
       (number place : ℕ) → desk-answer-two bytes x scratch ≡ refused number place → number ≡ 11
-  -- each factor is at most half a unit off the exact value, whose denominator is above 0
+  -- each factor is at most half a unit off the exact value, whose denominator is above 0; half a unit off it is even (item 6)
   pub half-a-unit : (x : ℕ) (f : ℤ) → FactorRead c x f →
       Proper (exact c x) × (exact c x -ℚ half ≤ℚ whole f) × (whole f ≤ℚ exact c x +ℚ half)
+  pub even-at-half : (x : ℕ) (f : ℤ) → FactorRead c x f →
+      (whole f ≈ℚ exact c x -ℚ half) ⊎ (whole f ≈ℚ exact c x +ℚ half) → T (even f)
   -- the same area reads the same factor whichever call reads it
   pub same-factor : (x : ℕ) (f g : ℤ) → FactorRead c x f → FactorRead c x g → f ≡ g
   -- a rising curve never reads a smaller factor at a larger area
   pub rising : c .code ≡ 1 → (x y : ℕ) (f g : ℤ) → FactorRead c x f → FactorRead c y g → x ≤ y → f ≤ℤ g
-  -- of three areas equally far apart on a convex curve, the second step is at most one unit smaller than the first
-  pub convex-steps : c .code ≡ 2 → (x k : ℕ) (f₀ f₁ f₂ : ℤ) → 0 < k →
-      FactorRead c x f₀ → FactorRead c (x + k) f₁ → FactorRead c (x + 2 * k) f₂ → (f₁ -ℤ f₀ -ℤ pos 1) ≤ℤ (f₂ -ℤ f₁)
+  -- of three areas equally far apart on a convex curve, the second step is at most two units smaller than the first (item 6)
+  pub convex-steps : c .code ≡ 2 → ConvexSteps 2 c
   -- of two chords of a convex curve, the one to the right is at least as steep
   pub convex-chords : ConvexChords c
   -- document 02, item 4: a falling curve never reads a larger factor at a larger area
   pub falling : c .code ≡ 3 → (x y : ℕ) (f g : ℤ) → FactorRead c x f → FactorRead c y g → x ≤ y → g ≤ℤ f
-  -- of three areas equally far apart on a concave curve, the second step is at most one unit larger than the first
-  pub concave-steps : c .code ≡ 4 → (x k : ℕ) (f₀ f₁ f₂ : ℤ) → 0 < k →
-      FactorRead c x f₀ → FactorRead c (x + k) f₁ → FactorRead c (x + 2 * k) f₂ → (f₂ -ℤ f₁) ≤ℤ (f₁ -ℤ f₀ +ℤ pos 1)
+  -- of three areas equally far apart on a concave curve, the second step is at most two units larger than the first (item 6)
+  pub concave-steps : c .code ≡ 4 → ConcaveSteps 2 c
   -- of two chords of a concave curve, the one to the right has at most the slope of the other
   pub concave-chords : ConcaveChords c
   -- mirrored, a falling or concave curve is accepted as rising or convex

@@ -11,7 +11,7 @@ use lib.ListN.{length, take}
 use lib.Seq.{take-all, length-take-le, getD-take}
 use Rattle.exact.proofs.Tests.{compare}
 use Rattle.exact.specs.Fraction.{_over_, whole, _+ℚ_, _-ℚ_, _*ℚ_, _/ℚ_, leℚ, ltℚ, eqℚ}
-use Rattle.exact.specs.Rounding.{floorDiv, floor, round}
+use Rattle.exact.specs.Rounding.{floorDiv, floor, even, even-from, round}
 use Rattle.model.specs.Answer.{Answer, refused, row, _then_}
 use Rattle.model.specs.Points.{Point, gradient, segments, shape-of, rule-of}
 use Rattle.model.specs.Interpolant.{chord, p, q, P, Q, rational, r-rising, r-convex}
@@ -30,8 +30,8 @@ use Rattle.sheet_text.specs.SheetText.{file-answer, answer-text, sheet-t
 use Rattle.sheet_text.specs.Laws.{file, dips, TextExamples, FirstBytesDecide}
 
 pub text-examples : TextExamples
-unfolding _over_ whole _+ℚ_ _-ℚ_ _*ℚ_ _/ℚ_ leℚ ltℚ eqℚ floorDiv floor round row _then_ gradient segments shape-of rule-of
-    chord p q P Q rational r-rising r-convex rising-curve convex-curve curve interpolant exact-curve
+unfolding _over_ whole _+ℚ_ _-ℚ_ _*ℚ_ _/ℚ_ leℚ ltℚ eqℚ floorDiv floor even even-from round row _then_
+    gradient segments shape-of rule-of chord p q P Q rational r-rising r-convex rising-curve convex-curve curve interpolant exact-curve
     rises bends fits has-shape segment-test bad-count bad-code bad-area bad-value bad-slope point-rows segment-rows curve-rows
     last-from segment-read exact-value reading tabulate
     twos-complement little-endian record-at wrong-mark bad-head bad-size head-rows short-list open-answer

@@ -24,7 +24,7 @@ dips =
 abbrev pub TextExamples : Type 0
 TextExamples =
     (sheet-text file ≡ ascii "shape 2 points 2\n500 10000\n525 10182\n550 10800\n575 12000\n600 14000\n")
-    × (sheet-text dips ≡ ascii "shape 2 points 2\n0 0\n25 -37\n50 0\n")
+    × (sheet-text dips ≡ ascii "shape 2 points 2\n0 0\n25 -38\n50 0\n")
     × (sheet-text [] ≡ ascii "refused 9 at 0\n")
     × (sheet-text (file ++ 0 ∷ []) ≡ ascii "refused 10 at 0\n")
 
