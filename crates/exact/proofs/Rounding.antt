@@ -197,10 +197,14 @@ even-from-even k =
       | inl e ↦ subst (EvenFrom k) (sym (ap (λ (b : Bool). cond b k (k +ℤ pos 1)) e))
           (record { low = Z.≤-of-≡ refl; high = ≤-next k; test = rw e tt })
       | inr e ↦ subst (EvenFrom k) (sym (ap (λ (b : Bool). cond b k (k +ℤ pos 1)) e))
-          (record { low = ≤-next k; high = Z.≤-of-≡ refl; test = elim (even-or-next k) [
-            | inl w ↦ absurd (subst T e (test-of-even w))
-            | inr w ↦ test-of-even w
-          ] })
+          (record {
+            low = ≤-next k;
+            high = Z.≤-of-≡ refl;
+            test = elim (even-or-next k) [
+              | inl w ↦ absurd (subst T e (test-of-even w))
+              | inr w ↦ test-of-even w
+            ];
+          })
     ]
 
 -- half way from k to k + 1 both are one half off

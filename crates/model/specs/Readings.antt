@@ -3,12 +3,15 @@
 -- Assumes nothing.
 use Prim.Native.Nat.{ℕ}
 use mathlib.Core.Path.{_≡_}
+use mathlib.Core.Bool.{cond}
 use mathlib.Core.List.{List, [], _∷_, map}
-use lib.IntN.{ℤ, pos, negℤ}
+use lib.IntN.{ℤ, pos, negℤ, _-ℤ_}
+use Rattle.exact.specs.Fraction.{Fraction, _over_, whole, _+ℚ_, _-ℚ_, ltℚ}
+use Rattle.exact.specs.Rounding.{floor, half, round}
 use Rattle.model.specs.Answer.{Answer, gives, refused}
 use Rattle.model.specs.Points.{Point}
 use Rattle.model.specs.Check.{check-answer, on-lists-of}
-use Rattle.model.specs.Read.{read-answer}
+use Rattle.model.specs.Read.{exact-value, read-answer}
 use Rattle.model.specs.Sheet.{sheet-answer, sheet-list}
 
 -- area / value / slope
@@ -104,6 +107,9 @@ slow-line = 0 / 0 / pos 50 ∷ 6 / 3 / pos 50 ∷ []
 unfoldable pub mirrored-line : List Point
 mirrored-line = 0 / 200000 / negℤ (pos 50) ∷ 6 / 199997 / negℤ (pos 50) ∷ []
 
+unfoldable pub sagging : List Point
+sagging = 0 / 1 / pos 0 ∷ 2 / 2 / pos 100 ∷ []
+
 -- Document 02, item 6: exact halves
 abbrev pub HalfReadings : Type 0
 HalfReadings =
@@ -115,5 +121,22 @@ HalfReadings =
     × (read slow-line 1 1 ≡ gives (pos 0)) × (read slow-line 1 3 ≡ gives (pos 2))
     × (read mirrored-line 3 1 ≡ gives (pos 200000)) × (read mirrored-line 3 3 ≡ gives (pos 199998))
     × (read (0 / 1 / negℤ (pos 50) ∷ 2 / 0 / negℤ (pos 50) ∷ []) 3 1 ≡ gives (pos 0))
-    -- the trap: the chord is 1.5 and the sag 0.25; apart they would be rounded to 2 and 0
-    × (read (0 / 1 / pos 0 ∷ 2 / 2 / pos 100 ∷ []) 2 1 ≡ gives (pos 1))
+    -- a chord of 1.5 and a sag of 0.25
+    × (read sagging 2 1 ≡ gives (pos 1))
+
+-- Document 01, "Traps in this trade", two of them: wrong roundings of an exact value
+unfoldable pub away-from-zero : Fraction → ℤ
+away-from-zero v =
+    cond (ltℚ v (whole (pos 0))) (negℤ (floor (whole (pos 0) -ℚ v +ℚ half))) (floor (v +ℚ half))
+
+-- the chord and the sag below it
+unfoldable pub apart : (chord v : Fraction) → ℤ
+apart chord v = round chord -ℤ round (chord -ℚ v)
+
+-- Item 6: the first shows at K6 and no longer at K7, the second no longer at K8 but at 0/1/0, 2/2/100
+abbrev pub Traps : Type 0
+Traps =
+    (away-from-zero (exact-value (0 / 0 / pos 50 ∷ 2 / 1 / pos 50 ∷ []) 2 1) ≡ pos 1)
+    × (away-from-zero (exact-value (0 / 0 / negℤ (pos 300) ∷ 2 / 0 / pos 300 ∷ []) 2 1) ≡ negℤ (pos 2))
+    × (apart (pos 1 over pos 2) (exact-value (0 / 0 / pos 0 ∷ 2 / 1 / pos 100 ∷ []) 2 1) ≡ pos 0)
+    × (apart (pos 3 over pos 2) (exact-value sagging 2 1) ≡ pos 2)

@@ -23,9 +23,17 @@ one-unit-is-too-few =
     let m : Curve = record { points = mirrored-line; code = 4; accepted = refl } in
     let h = half-readings in
     record {
-      convex = (c, refl, λ steps.
-          steps 1 2 (pos 0) (pos 2) (pos 2) (lit< tt) (by-read 1 _ (h .0)) (by-read 3 _ (h .1)) (by-read 5 _ (h .2)) .le);
-      concave = (m, refl, λ steps.
-          steps 1 2 (pos 200000) (pos 199998) (pos 199998) (lit< tt) (by-read 1 _ (h .3)) (by-read 3 _ (h .4))
-          (by-read 5 _ (h .5)) .le);
+      convex = (
+        c,
+        refl,
+        λ steps.
+            steps 1 2 (pos 0) (pos 2) (pos 2) (lit< tt) (by-read 1 _ (h .0)) (by-read 3 _ (h .1)) (by-read 5 _ (h .2)) .le,
+      );
+      concave = (
+        m,
+        refl,
+        λ steps.
+            steps 1 2 (pos 200000) (pos 199998) (pos 199998) (lit< tt) (by-read 1 _ (h .3)) (by-read 3 _ (h .4))
+            (by-read 5 _ (h .5)) .le,
+      );
     }

@@ -198,4 +198,3 @@ module _ {left : ℕ} {slope : ℤ} {t above : ℕ} (k : SumInput left slope t a
 
   pub sum-fits-32 : SFits w32 sum
   sum-fits-32 = sfits-of-size w32 sum (omega (arith, sum-size))
-

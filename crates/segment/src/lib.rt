@@ -188,7 +188,12 @@ pub fn factor(code: u32, p: Point, q: Point, area: u32) -> i32
     ensures { λ r. ⌜ r ≡ round (exact-curve (rule-of code) (segment-of p q) area) ⌝ }
 {
     let turned = code > 2;
-    let f = plain_factor(plain_code(turned, code), faced(turned, p), faced(turned, q), area);
+    let f = plain_factor(
+        plain_code(turned, code),
+        faced(turned, p),
+        faced(turned, q),
+        area,
+    );
     if turned {
         return point::VALUE_MOST as i32 - f;
     }
