@@ -88,6 +88,12 @@ static inline int64_t floor_div(int64_t n, int64_t d)
     return q - (n % d < 0);
 }
 
+/* k is a value and a half, rounded down: at a tie the even unit, else k. */
+static inline int32_t to_even(int64_t k, int tie)
+{
+    return (int32_t)(k - (tie && (k & 1)));
+}
+
 static inline int32_t rising(point l, point r, int64_t t, int64_t u)
 {
     int64_t h = t + u;
@@ -99,7 +105,8 @@ static inline int32_t rising(point l, point r, int64_t t, int64_t u)
     int64_t den = g * (t * t + u * u) + (e0 + e1) * t * u;
     unsigned __int128 n = (unsigned __int128)num * (uint64_t)(2 * rise) +
                           (uint64_t)den;
-    return (int32_t)(l.value + (int64_t)(n / (uint64_t)(2 * den)));
+    uint64_t q = (uint64_t)(n / (uint64_t)(2 * den));
+    return to_even(l.value + (int64_t)q, (uint64_t)n == q * 2 * (uint64_t)den);
 }
 
 /* Rising, seen from the right end. */
@@ -117,12 +124,15 @@ static inline int32_t convex(point l, point r, int64_t t, int64_t u)
     int64_t a = h * r.slope - g, b = g - h * l.slope;
     int64_t scale = 100 * h;
     int64_t n = scale * (2 * (int64_t)l.value + 1) + 2 * h * l.slope * t;
-    int64_t w = a * u + b * t;
+    uint64_t w = (uint64_t)(a * u + b * t), rest = 0;
     if (w != 0) {
         uint64_t bt = (uint64_t)(b * t);
-        n += (int64_t)((unsigned __int128)bt * (2 * bt) / (uint64_t)w);
+        uint64_t q = (uint64_t)((unsigned __int128)bt * (2 * bt) / w);
+        n += (int64_t)q;
+        rest = bt * (2 * bt) - q * w;
     }
-    return (int32_t)floor_div(n, 2 * scale);
+    int64_t k = floor_div(n, 2 * scale);
+    return to_even(k, rest == 0 && n == k * 2 * scale);
 }
 
 /* The chord plus au bt / (100 h (au + bt)), rounded once. */
@@ -132,10 +142,15 @@ static inline int32_t concave(point l, point r, int64_t t, int64_t u)
     int64_t g = 100 * ((int64_t)r.value - l.value);
     uint64_t au = (uint64_t)((g - h * r.slope) * u);
     uint64_t bt = (uint64_t)((h * l.slope - g) * t);
+    uint64_t w = au + bt, rest = 0;
     uint64_t n = (uint64_t)(200 * (l.value * u + r.value * t) + 100 * h);
-    if (au + bt != 0)
-        n += (uint64_t)((unsigned __int128)au * (2 * bt) / (au + bt));
-    return (int32_t)(n / (uint64_t)(200 * h));
+    if (w != 0) {
+        uint64_t q = (uint64_t)((unsigned __int128)au * (2 * bt) / w);
+        n += q;
+        rest = au * (2 * bt) - q * w;
+    }
+    uint64_t k = n / (uint64_t)(200 * h);
+    return to_even((int64_t)k, rest == 0 && n == k * (uint64_t)(200 * h));
 }
 
 static inline int32_t segment_factor(point l, point r, uint32_t shape,

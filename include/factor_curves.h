@@ -113,7 +113,9 @@ int64_t curve_check(const uint32_t *areas, size_t areas_len,
 
 /*
  * The factor at an area, in units: -200,000 to 400,000. Only a convex curve
- * goes below 0, only a concave one above 200,000.
+ * goes below 0, only a concave one above 200,000. The exact value is rounded
+ * once, to the nearest unit, an exact half to the even one; so is every factor
+ * of curve_pair and curve_sheet.
  */
 int64_t curve_read(const uint32_t *areas, size_t areas_len,
                    const uint32_t *values, size_t values_len,

@@ -26,9 +26,11 @@ import multiprocessing
 import random
 import struct
 import sys
+from fractions import Fraction
 
 import exact_fractions as ref
 import file_kinds
+import half_kinds
 import list_kinds
 import slope_kinds
 import two_kinds
@@ -181,13 +183,46 @@ def areas_read(call, arguments):
     return arguments[2:4]                       # read, pair
 
 
+def bend(lists, shape, area):
+    """Of the segment read: straight, curved, or how far (b t)^2 goes."""
+    areas, values, slopes = lists
+    left = ref.segment_read(areas, area)
+    gap, t = areas[left + 1] - areas[left], area - areas[left]
+    rise = 100 * (values[left + 1] - values[left])
+    b = abs(rise - gap * slopes[left])
+    if b == 0 and rise == gap * slopes[left + 1]:
+        return 'straight'
+    if shape in (ref.RISING, ref.FALLING):
+        return 'curved'
+    if b * gap < 2**32:
+        return 'narrow'
+    return 'middling' if b * t < 2**32 else 'wide'
+
+
+def noted_of_half(call, names, shape, value, kind):
+    """An exact half, or a value less than a thousandth off one: by whom it was
+    read, with the parity of the unit below, and on which kind of segment."""
+    off = value % 1 - Fraction(1, 2)
+    odd = value // 1 % 2
+    if off == 0:
+        where = 'below' if value < 0 else 'above' if value > 200000 else 'amid'
+        for name in names:
+            yield name, 'half', shape, odd, where
+        yield 'half', shape, odd, kind
+    elif abs(off) < Fraction(1, 1000):
+        yield 'beside', shape, odd, off > 0, kind
+        yield call, 'beside', shape, odd, off > 0
+
+
 def noted_of_reading(call, arguments):
-    """Exact halves, and factors that no value can have."""
+    """Exact halves, values beside them, and factors that no value can have."""
     lists, shape = lists_of(call, arguments), curve_of(call, arguments)[0]
-    for area in areas_read(call, arguments):
+    for index, area in enumerate(areas_read(call, arguments)):
         value = ref.exact_value(*lists, shape, area)
-        if value.denominator == 2:
-            yield call, 'half', shape
+        names = [call, ('form', 'plan')[index]] if call == 'pair' else [call]
+        if value.denominator > 1:
+            yield from noted_of_half(call, names, shape, value,
+                                     bend(lists, shape, area))
         if value < 0:
             yield call, 'below', shape
         if value > 200000:
@@ -301,12 +336,30 @@ def wanted_of_limits():
             yield 'fill_slopes', 'limit', 1, count, field, limit
 
 
+def wanted_of_halves():
+    """What must have been seen of halves, and of values beside them: of each
+    shape, with an even unit below and above, and wherever they can be."""
+    for shape, odd in itertools.product(SHAPES, (0, 1)):
+        kinds = ('narrow', 'middling', 'wide') if shape in (2, 4) else (
+            'curved',)
+        for name in (*READING, 'form', 'plan'):
+            yield name, 'half', shape, odd, 'amid'
+            if shape in (2, 4):
+                yield name, 'half', shape, odd, {2: 'below', 4: 'above'}[shape]
+        for kind in ('straight', *kinds):
+            yield 'half', shape, odd, kind
+        for above in (False, True):
+            for call in READING:
+                yield call, 'beside', shape, odd, above
+            for kind in kinds:
+                yield 'beside', shape, odd, above, kind
+
+
 def wanted_of_reading():
     """What the calls that read must have shown of factors, and Check of
     points that fit several shapes."""
+    yield from wanted_of_halves()
     for call in READING:
-        for shape in SHAPES:
-            yield call, 'half', shape
         yield from [(call, 'below', 2), (call, 'above', 4)]
     for shapes in ((1,), (2,), (3,), (4,), (1, 2), (1, 4), (2, 3), (3, 4),
                    (1, 2, 4), (2, 3, 4), SHAPES):
@@ -430,14 +483,15 @@ def on_files(kind):
 
 KINDS = [(on_files(kind), name, 9 * least // 4)
          for kind, name, least in file_kinds.KINDS]
+KINDS += half_kinds.KINDS
 KINDS += list_kinds.KINDS + slope_kinds.KINDS + two_kinds.KINDS
 
 
 def chunk(job):
     """The cases of one chunk: bytes, number, and what they show."""
     kind, index = job
-    rng = random.Random('%s/%d/%d' % (SEED, kind, index))
-    make, _, least = KINDS[kind]
+    make, name, least = KINDS[kind]
+    rng = random.Random('%s/%s/%d' % (SEED, name, index))
     out, seen = [], set()
     while len(out) < min(CHUNK, least):
         for call, *arguments in make(rng):

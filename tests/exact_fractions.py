@@ -104,11 +104,15 @@ def exact_value(areas, values, slopes, shape, area):
     return segment_value(areas, values, slopes, shape, segment, area)
 
 
-# ---- Document 01, Rounding ----
+# ---- Document 01, Rounding; document 02, item 6: halves to the even unit ----
 
 def reading(v):
-    """The greatest whole number not above v plus one half."""
-    return math.floor(v + Fraction(1, 2))
+    """The nearest whole number; of an exact half's two, the even one."""
+    below = math.floor(v)
+    over = v - below
+    if over == Fraction(1, 2):
+        return below if below % 2 == 0 else below + 1
+    return below if over < Fraction(1, 2) else below + 1
 
 
 def factor(areas, values, slopes, shape, area):

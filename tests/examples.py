@@ -1,9 +1,9 @@
 """Document 01's examples as cases for client.c, to standard output.
 
 The expected answers are those that document 01 states, and document 02 of the
-file that is written and of the second desk reading; filled slopes, and falling
-and concave curves, are worked out by hand. If exact_fractions.py gives another,
-it is said and the exit status is 1.
+file that is written, of the second desk reading and of halves; filled slopes,
+and falling and concave curves, are worked out by hand. If exact_fractions.py
+gives another, it is said and the exit status is 1.
 """
 
 import sys
@@ -135,6 +135,39 @@ def sheet_entries():
     yield 'sheet', (lists, 1, 0, 1, 1025), refusal(8, 0), None
 
 
+def halves():
+    """Item 6: 1/2, 3/2 and 5/2 on lines, as each shape that they have; what
+    halves up and halves down would read is another number for one of them."""
+    for points, shapes, factors in (
+            ([(0, 0, 50), (6, 3, 50)], (1, 2, 4), (0, 2, 2)),
+            ([(0, 3, -50), (6, 0, -50)], (2, 3, 4), (2, 2, 0))):
+        for shape in shapes:
+            for area, factor in zip((1, 3, 5), factors):
+                yield from reads(points, shape, area, factor)
+            lists, half = curves.lists(points), list(factors)
+            yield 'sheet', (lists, shape, 1, 2, 3), 3, [half]
+            for form, plan in ((0, 1), (1, 2), (2, 0)):
+                both = [half[form], half[plan], half[plan] - half[form]]
+                yield ('pair', (lists, shape, 1 + 2 * form, 1 + 2 * plan, 3),
+                       3, [both])
+
+
+def bent_halves():
+    """Item 6 on bent segments. In the middle a segment with the slopes 0 and
+    twice its chord's has risen by a quarter, and a parabola is half as far off
+    its chord as the end tangents there."""
+    for more, rising, falling, convex, concave in (
+            (0, 0, 2, -2, 2), (1, 2, 2, 0, 2), (2, 2, 4, 0, 4), (3, 4, 4, 2, 4)):
+        low, high = more, more + 2
+        yield from reads([(0, low, 0), (2, high, 200)], 1, 1, rising)
+        yield from reads([(0, high, 0), (2, low, -200)], 3, 1, falling)
+        yield from reads([(0, more, -300), (2, more, 300)], 2, 1, convex)
+        yield from reads([(0, more, 300), (2, more, -300)], 4, 1, concave)
+        top = 200000 - more
+        yield from reads([(0, top, 300), (2, top, -300)], 4, 1,
+                         200000 - convex)
+
+
 def beyond_the_values():
     """A concave curve past 200,000, by the calls that read several areas."""
     high = curves.lists(HIGH)
@@ -169,8 +202,8 @@ EXAMPLES = [
     ('K4: 525 reads 10,182', reads(STEEP, 2, 525, 10182)),
     ('K5: 501 reads 10,020',
      reads([(500, 10000, 2000), (600, 14000, 6000)], 1, 501, 10020)),
-    ('K6: 1 reads 1', reads([(0, 0, 50), (2, 1, 50)], 2, 1, 1)),
-    ('K7: 1 reads -1', reads([(0, 0, -300), (2, 0, 300)], 2, 1, -1)),
+    ('K6: 1 reads 0', reads([(0, 0, 50), (2, 1, 50)], 2, 1, 0)),
+    ('K7: 1 reads -2', reads([(0, 0, -300), (2, 0, 300)], 2, 1, -2)),
     ('K8: 1 reads 0', reads([(0, 0, 0), (2, 1, 100)], 2, 1, 0)),
     ('K9: refused 6 at 0',
      not_accepted([(0, 0, 100), (100, 100, 200)], 2, 6, 0)),
@@ -188,6 +221,10 @@ EXAMPLES = [
     ('a sheet of 1,024 entries passes, 1,025: refused 8', sheet_entries()),
     # The curve file.
     ('the file of 31 bytes', file_31_bytes()),
+    # Halves.
+    ('5/4 reads 1', reads([(0, 1, 0), (2, 2, 100)], 2, 1, 1)),
+    ('1/2, 3/2 and 5/2 read 0, 2 and 2', halves()),
+    ('halves on bent segments', bent_halves()),
     # The second desk reading.
     ('two records of three', two_records()),
     ('where the scratch decides', two_scratches()),
@@ -197,8 +234,8 @@ EXAMPLES = [
     ('152000/11 reads 13,818', reads(DOWN, 4, 525, 13818)),
     ('a falling curve passes', passes(DOWN, 3)),
     ('a concave curve passes', passes(DOWN, 4)),
-    ('1/2 reads 1, falling', reads([(0, 1, -50), (2, 0, -50)], 3, 1, 1)),
-    ('1/2 reads 1, concave', reads([(0, 1, -50), (2, 0, -50)], 4, 1, 1)),
+    ('1/2 reads 0, falling', reads([(0, 1, -50), (2, 0, -50)], 3, 1, 0)),
+    ('1/2 reads 0, concave', reads([(0, 1, -50), (2, 0, -50)], 4, 1, 0)),
     ('400003/2 reads 200,002',
      reads([(0, 200000, 300), (2, 200000, -300)], 4, 1, 200002)),
     ('250,000 in the middle', reads(HIGH, 4, 1000, 250000)),

@@ -4,12 +4,9 @@ The desk reading is called with each of them, and another call, made by
 list_kinds.further, on the same file or on its points as lists.
 """
 
-from fractions import Fraction
-
 import curves
-import exact_fractions as ref
 from curve_file import curve_file
-from curves import any_curve, changed, past_limit, shapeless_points
+from curves import any_curve, past_limit, shapeless_points
 
 
 def any_file(rng):
@@ -60,65 +57,6 @@ def dips(rng):
 def hills(rng):
     points = curves.mirrored(curves.dipping_curve(rng))
     yield from readings(rng, points, 4, 5)
-
-
-def half_curve(rng):
-    """A short curve likely to have exact halves (and quarters)."""
-    gap = 2 * rng.choice([1, 1, 2, 2, 4, 5, 10, 50, 100, 500])
-    value = rng.randint(0, 20)
-    if rng.random() < 0.4:
-        slope = rng.randint(1, curves.SLOPE_MAX)
-        rise = 2 * rng.randint(0, 9999) + 1
-        return [(0, value, slope), (gap, value + rise, slope)], curves.RISING
-    middle = 50 * rng.randint(-20, 20)
-    rise, rest = divmod(gap * middle, 100)
-    spread = rng.choice([0, 25, 50, 100, 300, 1500]) * rng.randint(1, 4)
-    low = max(0, -rise)
-    if rest or abs(middle) + spread > curves.SLOPE_MAX:
-        return half_curve(rng)
-    return [(0, low, middle - spread),
-            (gap, low + rise, middle + spread)], curves.CONVEX
-
-
-def any_half_curve(rng):
-    """One of these, or its mirror, low or high."""
-    points, shape = half_curve(rng)
-    if rng.random() < 0.5:
-        return points, shape
-    top = max(value for _, value, _ in points)
-    total = rng.choice([top, top + rng.randint(0, 20), curves.VALUE_MAX])
-    return curves.mirrored(points, total), shape + 2
-
-
-def halves(rng):
-    """Areas whose exact value is a whole number and a half."""
-    points, shape = any_half_curve(rng)
-    data = curve_file(points, shape)
-    middle = points[1][0] // 2
-    for area in {1, middle, middle // 2, middle + middle // 2}:
-        value = ref.exact_value(*curves.lists(points), shape, area)
-        if value.denominator == 2:
-            yield data, area, scratch_for(rng, data)
-
-
-def beside_halves(rng):
-    """Exact values within a hundredth of a half, but not on it."""
-    points, shape = any_half_curve(rng)
-    at = rng.randrange(2)
-    slope = points[at][2] + rng.choice([-1, 1])
-    if shape == curves.RISING:
-        slope = max(0, slope)
-    if shape == curves.FALLING:
-        slope = min(0, slope)
-    points = changed(points, at, 2, slope)
-    lists = curves.lists(points)
-    if ref.check(*lists, shape)[0] != 'ok':
-        return
-    data = curve_file(points, shape)
-    area = points[1][0] // 2
-    beside = abs(ref.exact_value(*lists, shape, area) % 1 - Fraction(1, 2))
-    if 0 < beside < Fraction(1, 100):
-        yield data, area, scratch_for(rng, data)
 
 
 def one_past(rng):
@@ -276,8 +214,6 @@ KINDS = [
     (limits, 'fields at the limits', 16000),
     (dips, 'convex curves close to zero', 6000),
     (hills, 'concave curves close to 200,000', 6000),
-    (halves, 'exact halves', 12000),
-    (beside_halves, 'close to a half', 8000),
     (one_past, 'one field past its limit', 14000),
     (shifted, 'gap of 2,000 or 2,001', 3000),
     (counts_and_codes, 'wrong count or shape code', 6000),

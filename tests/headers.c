@@ -132,7 +132,24 @@ static void calls(void)
                          check(a, 2, v, 2, s, 2, CURVE_RISING) == 1);
 }
 
-/* Document 02, item 4: a half that is rounded once; a factor past 200,000. */
+/* Document 02, item 6: 1/2, 3/2 and 5/2 go to the even unit. */
+static void halves(void)
+{
+    const uint32_t a[] = {0, 6}, v[] = {0, 3};
+    const int32_t s[] = {50, 50};
+    uint8_t file[CURVE_FILE_MAX], scratch[DESK_SCRATCH_MAX];
+    int32_t out[3];
+    int64_t answer = curve_sheet(a, 2, v, 2, s, 2, CURVE_CONVEX, 1, 2, out, 3);
+    expect("halves", answer == 3 && out[0] == 0 && out[1] == 2 && out[2] == 2);
+    answer = curve_pair(a, 2, v, 2, s, 2, CURVE_RISING, 1, 3, out, 3);
+    expect("of a pair", answer == 3 && out[0] == 0 && out[1] == 2);
+    answer = curve_write(a, 2, v, 2, s, 2, CURVE_CONCAVE, file, 31);
+    expect("by the desk",
+           answer == 31 && desk_reading(file, 31, 1, scratch, 24) == 0 &&
+               desk_reading_two(file, 31, 3, scratch, 24) == 2);
+}
+
+/* Document 02, item 4: a half on a falling curve; a factor past 200,000. */
 static void mirrored(void)
 {
     const uint32_t a[] = {0, 2}, v[] = {1, 0};
@@ -142,7 +159,7 @@ static void mirrored(void)
     uint8_t file[CURVE_FILE_MAX], scratch[DESK_SCRATCH_MAX];
     int64_t answer = curve_check(a, 2, v, 2, s, 2, 5);
     expect("code 5", CURVE_REFUSAL(answer) == CURVE_REFUSED_SHAPE);
-    expect("falling", curve_read(a, 2, v, 2, s, 2, CURVE_FALLING, 1) == 1);
+    expect("falling", curve_read(a, 2, v, 2, s, 2, CURVE_FALLING, 1) == 0);
     answer = curve_read(wide, 2, level, 2, bent, 2, CURVE_CONCAVE, 1000);
     expect("concave", answer == 250000);
     answer = curve_write(wide, 2, level, 2, bent, 2, CURVE_CONCAVE, file, 31);
@@ -159,6 +176,7 @@ int main(void)
     answers();
     words();
     calls();
+    halves();
     mirrored();
     printf("%d tests, %d failures\n", tests, failures);
     return failures > 0 || tests == 0;

@@ -16,6 +16,7 @@ import re
 import subprocess
 import sys
 import time
+from fractions import Fraction
 
 import curves
 import exact_fractions as ref
@@ -122,6 +123,11 @@ def test_files():
     expect('refusals shown', numbers, {1, 2, 3, 4, 5, 6, 9, 10})
     dip = ref.ratesheet(stored['dips-below-zero.trf'])
     expect('dips below zero', ' -' in dip, True)
+    straight = ref.file_lists(stored['straight.trf'])
+    expect('halves', [ref.exact_value(*straight, 2, area) for area in (1, 3, 5)],
+           [Fraction(1, 2), Fraction(3, 2), Fraction(5, 2)])
+    expect('even units', [ref.factor(*straight, 2, area) for area in (1, 3, 5)],
+           [0, 2, 2])
     expect('points of points-64', stored['points-64.trf'][6], 64)
     shapes = {data[5] for name, data in stored.items() if name not in REFUSED}
     expect('shapes shown', shapes, {1, 2, 3, 4})
@@ -245,6 +251,10 @@ def sheet_inputs():
             flipped[rng.randrange(len(data))] ^= 1 << rng.randrange(8)
             yield 'flipped %d' % index, bytes(flipped)
             yield 'cut %d' % index, data[:rng.randrange(len(data))]
+    for index in range(40):             # lines, many with a half every 50 tenths
+        points = curves.straight_curve(rng)
+        for shape in curves.SHAPES:
+            yield 'line %d as %d' % (index, shape), curve_file(points, shape)
     flat = [(point, 5, 0) for point in range(255)]
     for count in (0, 1, 2, 63, 64, 65, 255):
         yield '%d points' % count, curve_file(flat[:count], 1)

@@ -58,7 +58,8 @@ def level_segments(rng, segments):
 
 def levels(rng):
     """Level segments anywhere: first, last, alternating, one, all."""
-    count = rng.choice([2, 3, 4, 5, 6, 6, 63, 64, rng.randint(2, POINTS_MAX)])
+    count = rng.choice([2, 3, 4, 5, 6, 6, 6, 6, 63, 64,
+                        rng.randint(2, POINTS_MAX)])
     gaps = curves.some_gaps(rng, count)
     level = level_segments(rng, count - 1)
     rises = [0 if flat else rise

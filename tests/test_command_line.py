@@ -267,8 +267,9 @@ class FallingAndConcave(Case):
 
     def test_sheet(self):
         for points, shape, factors in [
-                ([(0, 1, -2), (50, 0, -2)], 3, [1, 1, 0]),                  # 1/2 reads 1
-                ([(0, 1, -2), (50, 0, -2)], 4, [1, 1, 0]),
+                ([(0, 1, -2), (50, 0, -2)], 3, [1, 0, 0]),                  # 1/2 reads 0
+                ([(0, 2, -2), (50, 1, -2)], 3, [2, 2, 1]),                  # 3/2 reads 2
+                ([(0, 1, -2), (50, 0, -2)], 4, [1, 0, 0]),
                 ([(0, 200000, 10000), (50, 200000, -10000)], 4, [200000, 201250, 200000])]:
             lines = ['%d %d\n' % (25 * index, each) for index, each in enumerate(factors)]
             self.assert_prints('shape %d points 2\n%s' % (shape, ''.join(lines)),

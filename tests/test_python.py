@@ -32,6 +32,7 @@ sys.path.insert(0, HERE)
 import curves
 import exact_fractions as ref
 import factor_curves as fc
+import half_kinds
 from curve_file import curve_file
 from factor_curves import _calls, _library
 
@@ -87,8 +88,8 @@ class Lists(unittest.TestCase):
         for points, shape, area, factor in [
                 (STEEP, 1, 550, 10889), (STEEP, 1, 525, 10229), (STEEP, 2, 550, 10800),
                 (STEEP, 2, 525, 10182), ([(500, 10000, 2000), (600, 14000, 6000)], 1, 501, 10020),
-                ([(0, 0, 50), (2, 1, 50)], 2, 1, 1), ([(0, 0, -300), (2, 0, 300)], 2, 1, -1),
-                ([(0, 0, 0), (2, 1, 100)], 2, 1, 0)]:
+                ([(0, 0, 50), (2, 1, 50)], 2, 1, 0), ([(0, 0, -300), (2, 0, 300)], 2, 1, -2),
+                ([(0, 0, 0), (2, 1, 100)], 2, 1, 0), ([(0, 1, 0), (2, 2, 100)], 2, 1, 1)]:
             self.assertEqual(fc.read(*lists(points), shape, area), factor)
             self.assertEqual(fc.Curve(points, shape).read(area), factor)
         for points, shape in [([(0, 0, 100), (100, 100, 200)], 2), ([(0, 5, 0), (10, 5, 1)], 1)]:
@@ -412,6 +413,75 @@ class Writing(unittest.TestCase):
         self.assertEqual(files, [curve_file(curve.points, curve.shape) for curve in made])
 
 
+class Halves(unittest.TestCase):
+    """Document 02, item 6: an exact half goes to the even unit."""
+
+    # Points and shape; in the middle area an exact half, worked out by hand, and its factor.
+    READINGS = [
+        ([(0, 0, 50), (2, 1, 50)], 1, Fraction(1, 2), 0),
+        ([(0, 1, 50), (2, 2, 50)], 1, Fraction(3, 2), 2),
+        ([(0, 0, 0), (2, 2, 200)], 1, Fraction(1, 2), 0),
+        ([(0, 1, 0), (2, 3, 200)], 1, Fraction(3, 2), 2),
+        ([(0, 2, 0), (2, 0, -200)], 3, Fraction(3, 2), 2),
+        ([(0, 3, 0), (2, 1, -200)], 3, Fraction(5, 2), 2),
+        ([(0, 1, 50), (2, 2, 50)], 2, Fraction(3, 2), 2),
+        ([(0, 1, -300), (2, 1, 300)], 2, Fraction(-1, 2), 0),
+        ([(0, 2, -500), (2, 2, 500)], 2, Fraction(-1, 2), 0),
+        ([(0, 1, -500), (2, 1, 500)], 2, Fraction(-3, 2), -2),
+        ([(0, 0, -500), (2, 0, 500)], 2, Fraction(-5, 2), -2),
+        ([(0, 7, 300), (2, 7, -300)], 4, Fraction(17, 2), 8),
+        ([(0, 8, 300), (2, 8, -300)], 4, Fraction(19, 2), 10),
+        ([(0, 200000, 100), (2, 200000, -100)], 4, Fraction(400001, 2), 200000),
+    ]
+
+    def test_readings(self):
+        for points, shape, exact, factor in self.READINGS:
+            self.assertEqual(ref.exact_value(*lists(points), shape, 1), exact)
+            curve, data = fc.Curve(points, shape), curve_file(points, shape)
+            self.assertEqual(fc.read(*lists(points), shape, 1), factor)
+            self.assertEqual(curve.read(1), factor)
+            self.assertEqual(curve.sheet(1, 1, 1), [factor])
+            self.assertEqual(curve.pair(1, 1), (factor, factor, 0))
+            for desk, _ in DESKS:
+                self.assertEqual(desk(data, 1), factor)
+
+    def test_steps(self):
+        """The bound of two units is attained: 0.5, 1.5 and 2.5 read 0, 2 and 2."""
+        line = [(0, 0, 50), (6, 3, 50)]
+        for shape in (1, 2, 4):
+            self.assertEqual(fc.Curve(line, shape).sheet(1, 2, 3), [0, 2, 2])
+        self.assertEqual(fc.Curve.from_file(os.path.join(ROOT, 'samples', 'straight.trf'))
+                         .sheet(0, 1, 7), [0, 0, 1, 2, 2, 2, 3])
+
+    def test_lines(self):
+        """Halves at every other area, each with the factor of the exact fractions."""
+        rng, seen = random.Random('halves'), set()
+        for _ in range(60):
+            points = curves.straight_curve(rng)
+            first, last = points[0][0], points[-1][0]
+            count = min(40, last - first + 1)
+            for shape in curves.SHAPES:
+                if ref.check(*lists(points), shape)[0] == 'ok':
+                    self.assertEqual(fc.Curve(points, shape).sheet(first, 1, count),
+                                     ref.sheet(*lists(points), shape, first, 1, count)[2])
+                    for area in range(first, first + count):
+                        exact = Fraction(ref.exact_value(*lists(points), shape, area))
+                        if exact.denominator == 2:
+                            seen.add((shape, exact // 1 % 2))
+        self.assertEqual(len(seen), 8)
+
+    def test_bent_segments(self):
+        """Halves, and values beside them, that are made on purpose."""
+        rng, halves = random.Random('bent'), 0
+        for make, _, _ in half_kinds.KINDS:
+            for call, *words in [case for _ in range(20) for case in make(rng)]:
+                if call == 'read':
+                    halves += Fraction(ref.exact_value(*words[0], *words[1:])).denominator == 2
+                    self.assertEqual(fc.read(*words[0], *words[1:]),
+                                     ref.factor(*words[0], *words[1:]))
+        self.assertEqual(halves, 100)
+
+
 def mirrored(points):
     """The points with each value taken from 200,000 and the slopes' signs changed."""
     return [(area, 200000 - value, -slope) for area, value, slope in points]
@@ -428,8 +498,10 @@ class FallingAndConcave(unittest.TestCase):
         (DOWN, 3, 525, 13771),                                      # 96400/7
         (DOWN, 4, 550, 13200),
         (DOWN, 4, 525, 13818),                                      # 152000/11
-        ([(0, 1, -50), (2, 0, -50)], 3, 1, 1),                      # 1/2
-        ([(0, 1, -50), (2, 0, -50)], 4, 1, 1),                      # 1/2
+        ([(0, 1, -50), (2, 0, -50)], 3, 1, 0),                      # 1/2
+        ([(0, 1, -50), (2, 0, -50)], 4, 1, 0),                      # 1/2
+        ([(0, 2, -50), (2, 1, -50)], 3, 1, 2),                      # 3/2
+        ([(0, 200000, 100), (2, 200000, -100)], 4, 1, 200000),      # 400001/2
         ([(0, 5, 0), (10, 5, 0)], 3, 7, 5),
         ([(0, 200000, 300), (2, 200000, -300)], 4, 1, 200002),      # 400003/2
         (HIGH, 4, 1000, 250000),
@@ -474,7 +546,8 @@ class FallingAndConcave(unittest.TestCase):
                              ('refused', 2, 0))
 
     def test_mirrored_curves(self):
-        """The exact value of the mirror, taken from 200,000 and then rounded."""
+        """The exact value of the mirror, taken from 200,000 and then rounded; as 200,000 is
+        even, it is also the mirror's reading taken from it."""
         rng = random.Random('mirrored')
         halves = 0
         for index in range(200):
@@ -487,10 +560,11 @@ class FallingAndConcave(unittest.TestCase):
                 exact = 200000 - ref.exact_value(*lists(points), shape, area)
                 halves += Fraction(exact).denominator == 2
                 self.assertEqual(curve.read(area), ref.reading(exact))
+                self.assertEqual(curve.read(area), 200000 - fc.Curve(points, shape).read(area))
         self.assertGreater(halves, 0)
 
     def test_shape_of_the_samples(self):
-        """Their factors never rise, or their steps grow by at most one unit."""
+        """Their factors never rise, or their steps grow by at most two units."""
         falling, concave = (fc.Curve.from_file(os.path.join(ROOT, 'samples', name + '.trf'))
                             for name in ('large-home-discount', 'flattening'))
         self.assertEqual((falling.shape, concave.shape), (fc.FALLING, fc.CONCAVE))
@@ -501,7 +575,7 @@ class FallingAndConcave(unittest.TestCase):
                 continue
             for apart in (1, 7, 100):
                 for one, two, three in zip(factors, factors[apart:], factors[2 * apart:]):
-                    self.assertLessEqual(three - two, two - one + 1)
+                    self.assertLessEqual(three - two, two - one + 2)
 
     def test_slopes_are_filled_for_rising_curves_only(self):
         self.assertEqual(answer(fc.fill_slopes, [0, 10, 20], [9, 5, 1]), ('refused', 6, 0))

@@ -72,12 +72,21 @@ class Sheets(unittest.TestCase):
         self.assertEqual(self.expect(b''), b'refused 9 at 0\n')
 
     def test_falling_and_concave(self):
-        """The exact value at 25 is 1/2, and 200,000 + 1,250."""
+        """The exact value at 25 is 1/2, which goes to the even unit, and 200,000 + 1,250."""
         falls, bends = [(0, 1, -2), (50, 0, -2)], [(0, 200000, 10000), (50, 200000, -10000)]
-        self.assertEqual(self.expect(curve_file(falls, 3)), b'shape 3 points 2\n0 1\n25 1\n50 0\n')
-        self.assertEqual(self.expect(curve_file(falls, 4)), b'shape 4 points 2\n0 1\n25 1\n50 0\n')
+        self.assertEqual(self.expect(curve_file(falls, 3)), b'shape 3 points 2\n0 1\n25 0\n50 0\n')
+        self.assertEqual(self.expect(curve_file(falls, 4)), b'shape 4 points 2\n0 1\n25 0\n50 0\n')
         self.assertEqual(self.expect(curve_file(bends, 4)), b'shape 4 points 2\n0 200000\n25 201250\n50 200000\n')
         self.assertEqual(self.expect(curve_file(bends, 3)), b'refused 6 at 0\n')
+
+    def test_halves(self):
+        """Document 02, item 6: 1/2, 3/2 and 5/2 at 25, 75 and 125; -3/2 and -1/2 at 25."""
+        line, low, deep = [(0, 0, 2), (150, 3, 2)], [(0, 1, -12), (50, 1, 12)], [(0, 0, -12), (50, 0, 12)]
+        for shape in (1, 2, 4):
+            self.assertEqual(self.expect(curve_file(line, shape)),
+                             b'shape %d points 2\n0 0\n25 0\n50 1\n75 2\n100 2\n125 2\n150 3\n' % shape)
+        self.assertEqual(self.expect(curve_file(low, 2)), b'shape 2 points 2\n0 1\n25 0\n50 1\n')
+        self.assertEqual(self.expect(curve_file(deep, 2)), b'shape 2 points 2\n0 0\n25 -2\n50 0\n')
 
     def test_shape_codes(self):
         level = [(0, 5, 0), (25, 5, 0)]
@@ -109,6 +118,8 @@ class Sheets(unittest.TestCase):
         for index in range(120):
             shape = 1 + index % 4
             self.expect(curve_file(curves.some_curve(rng, shape), shape))
+        for index in range(20):             # lines, many with a half every 50 tenths
+            self.expect(curve_file(curves.straight_curve(rng), 2 + index % 3))
 
     def test_input_in_small_pieces(self):
         process = subprocess.Popen([PROGRAM], stdin=subprocess.PIPE, stdout=subprocess.PIPE, bufsize=0)

@@ -3,6 +3,7 @@
 Run: python3 test_reference.py
 """
 
+import math
 import os
 import random
 import subprocess
@@ -11,6 +12,7 @@ from fractions import Fraction
 
 import curves
 import exact_fractions as ref
+import half_kinds
 from curve_file import curve_file
 
 tests = 0
@@ -83,14 +85,15 @@ LARGEST = 2**32 - 1
 
 
 def test_readings_to_prove():
-    """Document 01, Readings to prove: K1 to K10."""
+    """Document 01, Readings to prove: K1 to K10; document 02, item 6, K6 and
+    K7."""
     expect('K1', read(STEEP, 1, 550), ('ok', 10889))
     expect('K2', read(STEEP, 1, 525), ('ok', 10229))
     expect('K3', read(STEEP, 2, 550), ('ok', 10800))
     expect('K4', read(STEEP, 2, 525), ('ok', 10182))
     expect('K5', read(K5, 1, 501), ('ok', 10020))
-    expect('K6', read(K6, 2, 1), ('ok', 1))
-    expect('K7', read(K7, 2, 1), ('ok', -1))
+    expect('K6', read(K6, 2, 1), ('ok', 0))
+    expect('K7', read(K7, 2, 1), ('ok', -2))
     expect('K8', read(K8, 2, 1), ('ok', 0))
     expect('K9', read(K9, 2, 1), refused(6, 0))
     expect('K9 check', check(K9, 2), refused(6, 0))
@@ -113,12 +116,108 @@ def test_also_run():
     expect('1,025 entries', sheet(flat(2, 2000), 1, 0, 1, 1025), refused(8, 0))
 
 
-def test_rounding_and_exact_values():
-    """Document 01, Rounding and The exact curve."""
-    expect('-1.5 reads -1', ref.reading(Fraction(-3, 2)), -1)
-    expect('0.5 reads 1', ref.reading(Fraction(1, 2)), 1)
-    expect('whole', ref.reading(Fraction(-7)), -7)
-    expect('below a half', ref.reading(Fraction(499, 1000)), 0)
+def test_rounding():
+    """Document 02, item 6: an exact half goes to the even unit. What is no
+    half goes to the nearest, however close to a half it is."""
+    for twice, unit in ((-401, -200), (-399, -200), (-5, -2), (-3, -2),
+                        (-1, 0), (1, 0), (3, 2), (5, 2), (7, 4),
+                        (399999, 200000), (400001, 200000), (400003, 200002)):
+        half, close = Fraction(twice, 2), Fraction(1, 10**20)
+        expect('%d/2' % twice, ref.reading(half), unit)
+        expect('below', ref.reading(half - close), (twice - 1) // 2)
+        expect('above', ref.reading(half + close), (twice + 1) // 2)
+    for whole in (-7, 0, 1, 200000):
+        expect('whole', ref.reading(Fraction(whole)), whole)
+    # Python's own rounding of fractions has the same rule.
+    for numerator in range(-300, 300):
+        for denominator in (1, 2, 3, 4, 6, 10):
+            v = Fraction(numerator, denominator)
+            expect('round', ref.reading(v), round(v))
+            expect('an odd sign', ref.reading(-v), -ref.reading(v))
+            expect('an even whole', ref.reading(200000 - v),
+                   200000 - ref.reading(v))
+
+
+def away_from_zero(v):
+    """Document 01, Traps: halves away from zero."""
+    return math.floor(v + Fraction(1, 2)) if v > 0 else -away_from_zero(-v)
+
+
+def chord_and_sag(points, area):
+    """The chord's value, and what a convex curve is below it."""
+    (x0, y0, _), (x1, y1, _) = points
+    chord = y0 + Fraction((y1 - y0) * (area - x0), x1 - x0)
+    return chord, chord - ref.exact_value(*lists(points), 2, area)
+
+
+def test_traps():
+    """Document 02, item 6: where two of document 01's traps show from now on,
+    and where no longer."""
+    for points, wrong in ((K6, 1), (K7, -2)):
+        value = ref.exact_value(*lists(points), 2, 1)
+        expect('away from zero', away_from_zero(value), wrong)
+    apart = [(0, 1, 0), (2, 2, 100)]
+    expect('once', read(apart, 2, 1), ('ok', 1))
+    for points, wrong in ((apart, 2), (K8, 0)):
+        chord, sag = chord_and_sag(points, 1)
+        expect('apart', ref.reading(chord) - ref.reading(sag), wrong)
+
+
+def test_halves():
+    """Document 02, item 6, in every shape: from 1/2 and 3/2, by hand, with the
+    even unit below and above. Straight segments; a rising one with the slopes
+    0 and twice the chord's, which is a quarter of the way up in the middle,
+    and its mirror; parabolas."""
+    line, down = [(0, 0, 50), (2, 1, 50)], [(0, 1, -50), (2, 0, -50)]
+    quarter, last = [(0, 0, 0), (2, 2, 200)], [(0, 2, 0), (2, 0, -200)]
+    valley, hill = [(0, 3, -300), (2, 3, 300)], [(0, 3, 300), (2, 3, -300)]
+    for points, shape, twice in (
+            (line, 1, 1), (line, 2, 1), (line, 4, 1), (down, 2, 1),
+            (down, 3, 1), (down, 4, 1), (quarter, 1, 1), (last, 3, 3),
+            (valley, 2, 3), (hill, 4, 9)):
+        for more in range(12):
+            high = [(area, value + more, slope)
+                    for area, value, slope in points]
+            half = Fraction(twice, 2) + more
+            expect('exact', ref.exact_value(*lists(high), shape, 1), half)
+            even = [unit for unit in (half - Fraction(1, 2),
+                                      half + Fraction(1, 2)) if unit % 2 == 0]
+            expect('%s by %d' % (half, shape), read(high, shape, 1),
+                   ('ok', *even))
+            data = curve_file(high, shape)
+            for reading in (ref.desk, ref.desk_two):
+                expect('desk', reading(data, 1, bytes(24))[0], even[0])
+            expect('pair', pair(high, shape, 1, 0),
+                   ('ok', even[0], high[0][1], high[0][1] - even[0]))
+            expect('sheet', sheet(high, shape, 1, 1, 2),
+                   ('ok', 2, [even[0], high[1][1]]))
+    expect('below 0', [read([(0, y, -300), (2, y, 300)], 2, 1)[1]
+                       for y in range(4)], [-2, 0, 0, 2])
+    expect('above 200,000', [read([(0, 200000 - y, 300), (2, 200000 - y, -300)],
+                                  4, 1)[1] for y in range(4)],
+           [200002, 200000, 200000, 199998])
+
+
+def test_made_halves():
+    """Document 02, item 6, on the curves that half_kinds.py makes: at most half
+    a unit off, and even where it is half a unit off; no other number is so."""
+    rng = random.Random('made halves')
+    for make, name, _ in half_kinds.KINDS:
+        for call, *words in [case for _ in range(40) for case in make(rng)]:
+            if call != 'read':
+                continue
+            curve, shape, area = words
+            expect('accepted', ref.check(*curve, shape), ('ok', len(curve[0]) - 1))
+            value = ref.exact_value(*curve, shape, area)
+            near = [unit for unit in range(value // 1 - 1, value // 1 + 3)
+                    if abs(value - unit) < Fraction(1, 2)
+                    or abs(value - unit) == Fraction(1, 2) and unit % 2 == 0]
+            expect(name, [ref.factor(*curve, shape, area)], near)
+            expect('a half', value.denominator == 2, name.startswith('halves'))
+
+
+def test_exact_values():
+    """Document 01, The exact curve."""
     expect('K6 exact', ref.exact_value(*lists(K6), 2, 1), Fraction(1, 2))
     expect('K7 exact', ref.exact_value(*lists(K7), 2, 1), Fraction(-3, 2))
     constant = ref.exact_value(*lists(flat(2)), 1, 0)
@@ -154,7 +253,8 @@ MIRROR_K10 = [(0, 199995, 0), (10, 199995, -1)]
 
 def test_mirrored_readings():
     """Item 4: K1 to K10 as shapes 3 and 4. Of K6 and K7 the exact values are
-    199,999.5 and 200,001.5, so that both go up; no other is a half."""
+    199,999.5 and 200,001.5, and the even units the ones above; no other is a
+    half."""
     expect('K1', read(MIRROR_STEEP, 3, 550), ('ok', 200000 - 10889))
     expect('K2', read(MIRROR_STEEP, 3, 525), ('ok', 200000 - 10229))
     expect('K3', read(MIRROR_STEEP, 4, 550), ('ok', 200000 - 10800))
@@ -178,13 +278,8 @@ def test_mirrored_readings():
         expect('another shape', check(points, shape), refused(6, 0))
 
 
-def test_one_rounding():
-    """Item 4: from 200,000 first, then rounded; and above 200,000."""
-    half = [(0, 1, -50), (2, 0, -50)]
-    for shape in (2, 3, 4):
-        expect('a half', ref.exact_value(*lists(half), shape, 1),
-               Fraction(1, 2))
-        expect('a half reads 1', read(half, shape, 1), ('ok', 1))
+def test_above_the_values():
+    """Item 4: a concave curve past 200,000."""
     # Between equal slopes of both signs the curve is a parabola.
     hill = [(0, 200000, 10000), (2000, 200000, -10000)]
     for area, factor in ((0, 200000), (1, 200100), (1000, 250000),
@@ -207,7 +302,7 @@ def test_hyperbola_and_parabola():
         value = Fraction(3600, area + 10)
         expect('hyperbola', ref.exact_value(*lists(falling), 3, area), value)
     for area, factor in ((0, 360), (5, 240), (9, 189), (10, 180), (11, 171),
-                         (22, 113), (29, 92), (30, 90)):
+                         (22, 112), (29, 92), (30, 90)):
         expect('falling at %d' % area, read(falling, 3, area), ('ok', factor))
     concave = [(0, 500, 2000), (40, 1100, 1000), (100, 1250, -500)]
     expect('concave', check(concave, 4), ('ok', 2))
@@ -252,7 +347,7 @@ def test_several_shapes():
             for area in range(points[-1][0] + 1):
                 value = points[0][1] + Fraction(area * slope, 100)
                 expect('line', read(points, shape, area),
-                       ('ok', (value + Fraction(1, 2)) // 1))
+                       ('ok', round(value)))
 
 
 def random_curves(shape, number):
@@ -276,35 +371,56 @@ def test_larger_areas():
                    and factors[-1] <= ends[1], True)
 
 
-def changes(curve, areas):
+def change(curve, x, k):
     """By how much the second of two equal steps is larger than the first."""
-    for x, z in zip(areas, areas[5:]):
-        k = (z - x) // 2
-        first, middle, last = (ref.factor(*curve, area)
-                               for area in (x, x + k, x + 2 * k))
-        yield (last - middle) - (middle - first)
+    first, middle, last = (ref.factor(*curve, area)
+                           for area in (x, x + k, x + 2 * k))
+    return (last - middle) - (middle - first)
 
 
 def test_three_areas():
-    """Document 01's third demand, shape 2; document 02, item 4, shape 4. Also
-    the exact values' chords, from left to right."""
+    """Document 01's third demand, shape 2; document 02, item 4, shape 4; the
+    two units of item 6. Also the exact values' chords, from left to right."""
     for shape, sign in ((2, 1), (4, -1)):
-        least = 0
         for curve, areas in random_curves(shape, 200):
-            least = min([least, *(sign * c for c in changes(curve, areas))])
+            least = min(sign * change(curve, x, (z - x) // 2)
+                        for x, z in zip(areas, areas[5:]))
+            expect('steps', least >= -2, True)
             at = sorted(set(areas))
             values = [ref.exact_value(*curve, area) for area in at]
             chords = [sign * (values[i + 1] - values[i]) / (at[i + 1] - at[i])
                       for i in range(len(at) - 1)]
             expect('chords', chords, sorted(chords))
-        expect('shape %d' % shape, least, -1)
+
+
+def test_two_units():
+    """Document 02, item 6: 0.5, 1.5 and 2.5 read 0, 2 and 2, so that the
+    second step is two units less than the first, and one unit is not enough
+    of a bound. On shape 4: 1.5, 2.5 and 3.5."""
+    line = [(0, 0, 50), (6, 3, 50)]
+    high = [(area, value + 1, slope) for area, value, slope in line]
+    for points, shape, factors in ((line, 2, (0, 2, 2)), (high, 4, (2, 2, 4))):
+        for area, factor in zip((1, 3, 5), factors):
+            expect('exact', ref.exact_value(*lists(points), shape, area),
+                   points[0][1] + Fraction(area, 2))
+            expect('at %d' % area, read(points, shape, area), ('ok', factor))
+    expect('two units less', change((*lists(line), 2), 1, 2), -2)
+    expect('two units more', change((*lists(high), 4), 1, 2), 2)
+    rng = random.Random('halves')
+    for shape in (2, 4):
+        seen = set()
+        for _ in range(100):
+            points = curves.straight_curve(rng)
+            x, z = sorted(curves.inner_area(rng, points) for _ in range(2))
+            seen.add(change((*lists(points), shape), x, (z - x) // 2))
+        expect('on lines', seen, {-2, -1, 0, 1, 2})
 
 
 def test_mirror_images():
-    """Item 4: a reading and its mirror's make 200,000, and 1 more where both
-    are halves that went up."""
+    """Items 4 and 6: a reading and its mirror's make 200,000, also where both
+    are halves: 200,000 is even."""
     for shape, other in ((3, 1), (4, 2)):
-        seen = set()
+        halves = set()
         for (areas, values, slopes, _), places in random_curves(shape, 200):
             mirror = (areas, [200000 - value for value in values],
                       [-slope for slope in slopes], other)
@@ -313,9 +429,10 @@ def test_mirror_images():
                 value = ref.exact_value(*mirror, area)
                 both = (ref.factor(areas, values, slopes, shape, area)
                         + ref.factor(*mirror, area))
-                expect('both', both, 200000 + (value.denominator == 2))
-                seen.add(both)
-        expect('sums', seen, {200000, 200001})
+                expect('both', both, 200000)
+                if value.denominator == 2:
+                    halves.add(value // 1 % 2)
+        expect('halves', halves, {0, 1})
 
 
 def test_range():
@@ -784,7 +901,7 @@ def test_desk():
     expect('desk', ref.desk(FILE_31, 550, scratch), (10800, after))
     expect('desk, scratch of 24', ref.desk(FILE_31, 525, bytes(24)),
            (10182, FILE_31[7:]))
-    expect('desk, below 0', ref.desk(curve_file(K7, 2), 1, bytes(24))[0], -1)
+    expect('desk, below 0', ref.desk(curve_file(K7, 2), 1, bytes(24))[0], -2)
     expect('desk, above 200,000',
            ref.desk(curve_file(MIRROR_K7, 4), 1, bytes(24)),
            (200002, curve_file(MIRROR_K7, 4)[7:]))
@@ -886,7 +1003,7 @@ def test_c_answers():
     expect('right point', ref.curve_check(*lists(flat(2, 2001)), 1),
            (-3 * 2**32 - 1,))
     expect('K1', ref.curve_read(*steep, 1, 550), (10889,))
-    expect('K7', ref.curve_read(*lists(K7), 2, 1), (-1,))
+    expect('K7', ref.curve_read(*lists(K7), 2, 1), (-2,))
     expect('K1 at 499', ref.curve_read(*steep, 1, 499), (-7 * 2**32,))
     expect('pair', ref.curve_pair(*steep, 1, 525, 550, [4, 5, 6, 7]),
            (3, [10229, 10889, 660, 7]))

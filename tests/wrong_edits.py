@@ -1,6 +1,6 @@
 """Wrong versions of bench/plain.c: the first text, which occurs there once,
 becomes the second. Those of shape codes, and of falling and concave curves,
-are in wrong_shapes.py."""
+are in wrong_shapes.py, those of halves in wrong_halves.py."""
 
 CHECKED = '''\
     int64_t fault = lists_fault(c, values_len, slopes_len, shape);
@@ -25,12 +25,12 @@ POINTS = [
     ('(a == 0 && b == 0)', '(b == 0)'),
     ('|| (a == 0 && b == 0)', ''),
     # the curve and the rounding
-    ('int64_t w = a * u + b * t;', 'int64_t w = a * t + b * u;'),
+    ('(a * u + b * t)', '(a * t + b * u)'),
     ('(uint64_t)den;', '0;'),
     ('(uint64_t)den;', '(uint64_t)den - 1;'),
     ('(2 * (int64_t)l.value + 1)', '(2 * (int64_t)l.value)'),
     ('q - (n % d < 0)', 'q'),
-    ('(2 * bt) / (uint64_t)w', '(2 * bt) / (uint64_t)w - 1'),
+    ('bt * (2 * bt) / w', 'bt * (2 * bt) / w - 1'),
     ('if (rise == 0)', 'if (rise <= 1)'),
     # number and place of a refusal
     ('* number + (int64_t)place', '* number'),
@@ -759,12 +759,14 @@ FILL_SLOPES = [
     # two points: twice the chord, no rule of their own
     (TWO_POINTS, TWO_POINTS.replace('100', '200')),
     (TWO_POINTS, '        if (i == 0)\n'),
-    # rounded to the nearest, and up; above the range by a part of a hundredth
+    # rounded to the nearest, halves up and to even, and up; above the range by
+    # a part of a hundredth
     (TWO_POINTS, TWO_POINTS.replace('100 * after.rise /',
                                     '(100 * after.rise + after.gap / 2) /')),
     (OTHER_LEVEL, '        return (200 * own.rise + own.gap / 2) / own.gap;\n'),
     *[(formula, quotient(formula, result)) for formula in (INNER, END)
       for result in ('(n + d / 2) / d', '(n + d - 1) / d',
+                     'n / d + (2 * (n % d) + (n / d & 1) > d)',
                      'n > 10000 * d ? 10001 : n / d')],
     (TWO_POINTS, TWO_POINTS.replace('100 * after.rise /', '''\
 after.rise > 100 * after.gap ? 10001 : 100 * after.rise /''')),

@@ -70,14 +70,17 @@ MIRRORED_ENDS = '''\
     point first = {0, 200000 - l.value, -l.slope};
     point last = {0, 200000 - r.value, -r.slope};
 '''
+# An odd number: a half then goes to the odd unit.
+MIRRORED_AT_ODD = MIRRORED_ENDS.replace('200000', '200001')
 FALLING = 'return falling(l, r, t, u);'
 CONCAVE = 'return concave(l, r, t, u);'
 SAG_LEFT = '(g - h * r.slope) * u'
 SAG_RIGHT = '(h * l.slope - g) * t'
-NOT_ZERO = 'if (au + bt != 0)'
 LINE = '200 * (l.value * u + r.value * t) + 100 * h'
-SAG = 'n += (uint64_t)((unsigned __int128)au * (2 * bt) / (au + bt));'
-LAST_DIVISION = 'return (int32_t)(n / (uint64_t)(200 * h));'
+SAG = 'uint64_t q = (uint64_t)((unsigned __int128)au * (2 * bt) / w);'
+NOT_ZERO = 'if (w != 0) {\n        ' + SAG
+SAG_ADDED = 'n += q;'
+LAST_DIVISION = 'uint64_t k = n / (uint64_t)(200 * h);'
 
 CURVES = [
     # falling: signs, slopes and values exchanged, read from the other end
@@ -91,9 +94,9 @@ CURVES = [
 '''),
     (FALLING_ENDS, FALLING_ENDS.replace('u, t', 't, u')),
     (FALLING_ENDS, MIRRORED_ENDS + '    return rising(first, last, t, u);\n'),
-    # falling: rounded before it is taken from 200,000, halves down, up
-    (FALLING_ENDS, MIRRORED_ENDS
-     + '    return 200000 - rising(first, last, t, u);\n'),
+    # falling: taken from an odd number, or from another than it was mirrored at
+    (FALLING_ENDS, MIRRORED_AT_ODD
+     + '    return 200001 - rising(first, last, t, u);\n'),
     (FALLING_ENDS, MIRRORED_ENDS
      + '    return 200001 - rising(first, last, t, u);\n'),
     # falling: the curve of another shape, a constant, the chord
@@ -111,24 +114,20 @@ CURVES = [
     (SAG_LEFT, '(g - h * r.slope) * t'),
     (SAG_RIGHT, '(h * l.slope - g) * u'),
     # concave: below the chord, the chord alone, its ends exchanged
-    (SAG, SAG.replace('+=', '-=')),
+    (SAG_ADDED, SAG_ADDED.replace('+=', '-=')),
     (SAG, SAG.replace('(2 * bt)', '0')),
     (SAG, SAG.replace('(2 * bt)', 'bt')),
     (LINE, '200 * (l.value * t + r.value * u) + 100 * h'),
-    # concave: halves down, rounded down, up, before it is taken from 200,000
-    (LAST_DIVISION, LAST_DIVISION.replace('(n /', '((n - 1) /')),
+    # concave: rounded down, up, before it is taken from an odd number
+    (LAST_DIVISION, LAST_DIVISION.replace('n /', '(n - 1) /')),
     (LINE, '200 * (l.value * u + r.value * t)'),
     (LINE, '200 * (l.value * u + r.value * t) + 200 * h - 1'),
-    (CONCAVE, MIRRORED_ENDS + '    return 200000 - convex(first, last, t, u);'),
+    (CONCAVE, MIRRORED_AT_ODD
+     + '    return 200001 - convex(first, last, t, u);'),
     (CONCAVE, MIRRORED_ENDS + '    return convex(first, last, t, u);'),
-    # concave: the sag rounded by itself
-    (SAG, '''\
-return (int32_t)(n / (uint64_t)(200 * h) +
-                         ((uint64_t)((unsigned __int128)au * bt / (au + bt)) +
-                          50 * (uint64_t)h) / (uint64_t)(100 * h));'''),
     # concave: 64 bits for a product, nothing done about 0
     (SAG, SAG.replace('(unsigned __int128)au', 'au')),
-    (NOT_ZERO, 'if (1)'),
+    (NOT_ZERO, NOT_ZERO.replace('w != 0', '1')),
     # concave: the curve of another shape
     (CONCAVE, 'return convex(l, r, t, u);'),
     (CONCAVE, 'return rising(l, r, t, u);'),
@@ -160,11 +159,11 @@ def in_each_call(form):
         yield old, start + form % {'shape': shape, 'area': area} + ';\n'
 
 
-def halves_down(shape):
-    """200,000 less the reading of the mirror, for this shape alone."""
+def from_an_odd_number(shape):
+    """200,001 less the reading of a mirror there, for this shape alone."""
     return '''(%%(shape)s == %s ?
-        200000 - segment_factor((point){l.area, 200000 - l.value, -l.slope},
-                                (point){r.area, 200000 - r.value, -r.slope},
+        200001 - segment_factor((point){l.area, 200001 - l.value, -l.slope},
+                                (point){r.area, 200001 - r.value, -r.slope},
                                 %%(shape)s - 2, %%(area)s) :
         segment_factor(l, r, %%(shape)s, %%(area)s))''' % shape
 
@@ -176,9 +175,9 @@ def at_most(factor):
 
 ORIGINAL = '(%(shape)s > 2 ? %(shape)s - 2 : %(shape)s)'
 ONE_CALL = [
-    # rounded before it is taken from 200,000
-    *in_each_call(halves_down('FALLING')),
-    *in_each_call(halves_down('CONCAVE')),
+    # rounded before it is taken from an odd number
+    *in_each_call(from_an_odd_number('FALLING')),
+    *in_each_call(from_an_odd_number('CONCAVE')),
     # the shape that is mirrored, the codes exchanged
     *in_each_call('segment_factor(l, r, ' + ORIGINAL + ', %(area)s)'),
     *in_each_call('segment_factor(l, r, (%(shape)s > 2 ? 7 - %(shape)s : '

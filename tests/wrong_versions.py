@@ -4,9 +4,12 @@
 
 Builds client.c and far_lengths.c with the plain C version of bench/, which
 must pass on the file CASES, then with the wrong versions of it that
-wrong_edits.py and wrong_shapes.py have, which must not. With "threads" also
-threads.c under the thread sanitizer. Nor may the client pass on streams that
-leave something out.
+wrong_edits.py, wrong_shapes.py and wrong_halves.py have, which must not. With
+"threads" also threads.c under the thread sanitizer. Nor may the client pass on
+streams that leave something out.
+
+A wrong version is one edit, the first text of which becomes the second, or a
+list of such edits.
 """
 
 import multiprocessing.pool
@@ -16,6 +19,7 @@ import subprocess
 import sys
 
 import wrong_edits
+import wrong_halves
 import wrong_shapes
 
 HERE = os.path.dirname(os.path.abspath(__file__))
@@ -27,7 +31,8 @@ CALLS = ['desk_reading', 'desk_reading_two', 'curve_check', 'curve_read',
 FLAGS = ['-std=c99', '-I' + os.path.join(ROOT, 'include'),
          '-I' + os.path.join(ROOT, 'bench')]
 FLAGS += ['-Dplain_%s=%s' % (call, call) for call in CALLS]
-COMPARED = wrong_edits.COMPARED + wrong_shapes.COMPARED
+COMPARED = (wrong_edits.COMPARED + wrong_shapes.COMPARED
+            + wrong_halves.COMPARED)
 
 
 class Test:
@@ -71,30 +76,31 @@ THREADS = Test('threads', ['1', '1'], ['threads', 'stream'],
 
 
 def jobs(with_threads):
-    """(test, edit), the edit (None, None) for the right version."""
+    """(test, edits), no edits for the right version."""
     groups = [(CLIENT, edits) for _, edits in COMPARED]
     groups += [(FAR, wrong_edits.FAR)]
     if with_threads:
         groups += [(THREADS, wrong_edits.SHARED)]
     for test in dict.fromkeys(test for test, _ in groups):
-        yield test, (None, None)
-    for test, edits in groups:
-        for edit in edits:
-            yield test, edit
+        yield test, []
+    for test, versions in groups:
+        for edits in versions:
+            yield test, edits if isinstance(edits, list) else [edits]
 
 
-def fault_of(right, folder, cases, number, test, old, new):
-    """What is wrong with a test, by this edit; or None."""
-    name = '%s%d' % (test.name, number)
-    if old is None:
-        if test.passes(name, right, folder, cases):
-            return None
+def fault_of(right, folder, cases, number, test, edits):
+    """What is wrong with a test, by this version; or None."""
+    name, text = '%s%d' % (test.name, number), right
+    for old, new in edits:
+        if right.count(old) != 1:
+            return '%d times in bench/plain.c: %s' % (right.count(old), old)
+        text = text.replace(old, new)
+    if test.passes(name, text, folder, cases) == (edits == []):
+        return None
+    if not edits:
         return '%s: bench/plain.c itself does not pass' % test.name
-    if right.count(old) != 1:
-        return '%d times in bench/plain.c: %s' % (right.count(old), old)
-    if test.passes(name, right.replace(old, new), folder, cases):
-        return '%s: not found: %s for %s' % (test.name, new, old)
-    return None
+    return '%s: not found: %s' % (test.name, ', and '.join(
+        '%s for %s' % (new, old) for old, new in edits))
 
 
 def left_out(program, cases):
@@ -130,8 +136,8 @@ def main():
         test.compile_parts(folder)
 
     def try_one(job):
-        number, (test, (old, new)) = job
-        return fault_of(right, folder, cases, number, test, old, new)
+        number, (test, edits) = job
+        return fault_of(right, folder, cases, number, test, edits)
 
     with multiprocessing.pool.ThreadPool(2) as pool:
         faults = list(filter(None, pool.map(try_one, enumerate(todo), 1)))
@@ -140,7 +146,7 @@ def main():
         print('FAILED ' + fault)
     for name, edits in COMPARED:
         print('  %8d  %s' % (len(edits), name))
-    wrong = [test for test, (old, _) in todo if old is not None]
+    wrong = [test for test, edits in todo if edits]
     print('  %8d  of lengths beyond 32 bits' % wrong.count(FAR))
     print('  %8d  with memory that threads share' % wrong.count(THREADS))
     print('  %8d  wrong versions in all, %d faults' % (len(wrong), len(faults)))

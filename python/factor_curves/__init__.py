@@ -10,7 +10,8 @@
     [10000, 10182, 10800, 12000, 14000]
 
 Areas are tenths of a square metre: 550 is 55 square metres. Factors are units of one
-ten-thousandth: 10800 is the factor 1.08. What the library does not accept is raised as Refused:
+ten-thousandth: 10800 is the factor 1.08. They are rounded once, an exact half to the even unit.
+What the library does not accept is raised as Refused:
 
     >>> curve.read(499)
     Traceback (most recent call last):

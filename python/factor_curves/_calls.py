@@ -203,7 +203,7 @@ def check(areas: Iterable[int], values: Iterable[int], slopes: Iterable[int], sh
 
 def read(areas: Iterable[int], values: Iterable[int], slopes: Iterable[int], shape: int,
          area: int) -> int:
-    """The factor at an area, in units of one ten-thousandth."""
+    """The factor at an area, in units of one ten-thousandth; an exact half goes to the even one."""
     return read_at(arguments(areas, values, slopes, shape), area)
 
 

@@ -135,6 +135,7 @@ class Curve:
     def read(self, area: int) -> int:
         """The factor at an area, in units of one ten-thousandth.
 
+        The exact value is rounded once, to the nearest unit; an exact half goes to the even one.
         Only a convex curve goes below 0, only a concave one above 200,000.
         """
         return _calls.read_at(self._arguments, area)
