@@ -1,7 +1,8 @@
 -- The reading of a convex segment, in the natural numbers that the code computes with.
 --   Bends, bends-inside   the end slopes' distances from the chord are natural numbers
---   bent-input            what `excess` asks; sum-input, what `hundredths` asks
---   bent-reads            hundredths above the left value, and what is left of one more, are the value
+--   bent-input            what `excess` asks; sum-input and near-input, what `hundredths` asks
+--   bent-reads            hundredths above the left value, and what is left of one more, are the value; near-reads, hundredths
+--                         less than one off, where that decides
 -- Assumes nothing.
 use mathlib.Core.Path.{_≡_, sym, _∙_, ap}
 use mathlib.Core.List.{[], _∷_}
@@ -10,7 +11,7 @@ use native.Mathlib.Omega.{arith}
 use lib.Dec.{lit<}
 use lib.IntN.{ℤ, pos, natAbs, _+ℤ_, _-ℤ_, _*ℤ_, *ℤ-comm, +ℤ-invr}
 use lib.Signed.{_<ℤ_}
-use Rattle.exact.specs.Fraction.{_over_, whole, _+ℚ_, _*ℚ_, _≈ℚ_, _<ℚ_}
+use Rattle.exact.specs.Fraction.{Fraction, _over_, whole, _+ℚ_, _-ℚ_, _*ℚ_, _≈ℚ_, _<ℚ_}
 use Rattle.exact.specs.Rounding.{round}
 use Rattle.exact.specs.Inner.{Divided, sticky}
 use Rattle.exact.proofs.Ring.{ring, terms}
@@ -18,7 +19,7 @@ use Rattle.exact.proofs.Order as Z
 use Rattle.exact.proofs.Order.{signs}
 use Rattle.exact.proofs.Field.{field, ratios}
 use Rattle.exact.proofs.Fractions as Q
-use Rattle.exact.proofs.Fractions.{propers}
+use Rattle.exact.proofs.Fractions.{propers, positivity}
 use Rattle.exact.proofs.Rounding.{round-rounding}
 use Rattle.exact.proofs.Mixed.{round-sticky}
 use Rattle.model.specs.Points.{gradient, Segment, convex, plain}
@@ -33,10 +34,10 @@ use Rattle.model.proofs.Segments.{gap, rise, distance, v₀, v₁, d₀, d₁, 
 use Rattle.model.proofs.Segments.{segment-normal, gap-positive, distance-in}
 use Rattle.point.proofs.Figures.{slope-size}
 use Rattle.shape.proofs.Figures.{h, gap-is, a-size, b-size}
-use Rattle.segment.specs.Inner.{BentAt, BentInput, Excess, SumInput, hundredths-of}
+use Rattle.segment.specs.Inner.{BentAt, BentInput, Excess, Large, Around, SumInput, hundredths-of, About}
 use Rattle.segment.specs.declared.Bent.{Bent}
 use Rattle.segment.proofs.Distances.{t, u, from-left, from-right, h-is, distances}
-use Rattle.segment.proofs.Sizes.{excess-most}
+use Rattle.segment.proofs.Sizes.{large-positive, around-most, excess-most}
 
 module _ (s : Segment) where
   abbrev above : ℕ
@@ -62,6 +63,10 @@ pub record Bends (s : Segment) (x : ℕ) : Type 0 where
   pub below-is : b s ≡ pos (below s)
   pub reads : {q r : ℕ} → Excess (t s x) (u s x) (h s) (above s) (below s) q r →
       round (interpolant convex s x) ≡ reading-of s x q r
+  -- from a number less than one off, where that decides
+  pub nearly : {m : ℕ} → Around (below s * t s x * (below s * t s x)) ((above s * u s x + below s * t s x) * h s) m →
+      (k : ℤ) → ((v : Fraction) → About (hundredths-of (v₀ s) (s .left .slope) (t s x) m) v → round v ≡ k) →
+      round (interpolant convex s x) ≡ k
 
 -- ---- the value as one fraction
 
@@ -74,6 +79,19 @@ bent-over : (l d t h W q r : ℤ) →
     whole l +ℚ ((h *ℤ d *ℤ t) over (pos 100 *ℤ h)) +ℚ ((q *ℤ (W *ℤ h) +ℤ r) over (pos 100 *ℤ h *ℤ W))
     ≈ℚ ((pos 100 *ℤ l +ℤ d *ℤ t +ℤ q) *ℤ (W *ℤ h) +ℤ r) over (W *ℤ h *ℤ pos 100)
 bent-over l d t h W q r = field (l ∷ d ∷ t ∷ q ∷ r ∷ h ∷ W ∷ []) (search ratios depth 20 fits 9999) tt
+
+-- from m hundredths less one, and to m hundredths and one
+module _ (l d t h W n m : ℤ) where
+  abbrev value : Fraction
+  value = whole l +ℚ ((h *ℤ d *ℤ t) over (pos 100 *ℤ h)) +ℚ (n over (pos 100 *ℤ h *ℤ W))
+
+  above-low : value -ℚ ((pos 100 *ℤ l +ℤ d *ℤ t +ℤ m -ℤ pos 1) over pos 100)
+      ≈ℚ (n +ℤ W *ℤ h -ℤ m *ℤ (W *ℤ h)) over (W *ℤ h *ℤ pos 100)
+  above-low = field (l ∷ d ∷ t ∷ n ∷ m ∷ h ∷ W ∷ []) (search ratios depth 20 fits 9999) tt
+
+  below-high : ((pos 100 *ℤ l +ℤ d *ℤ t +ℤ m +ℤ pos 1) over pos 100) -ℚ value
+      ≈ℚ ((m +ℤ pos 1) *ℤ (W *ℤ h) -ℤ n) over (W *ℤ h *ℤ pos 100)
+  below-high = field (l ∷ d ∷ t ∷ n ∷ m ∷ h ∷ W ∷ []) (search ratios depth 20 fits 9999) tt
 
 module _ {s : Segment} {x : ℕ} (i : Inside (Good (plain convex)) s x) where
   module _ (low : d₀ s ≈ℚ rise s over gap s) (high : rise s over gap s ≈ℚ d₁ s) where
@@ -102,6 +120,8 @@ module _ {s : Segment} {x : ℕ} (i : Inside (Good (plain convex)) s x) where
           rw (none .0, none .1)
           (round-rounding .alike (along-slope .proper) (search (propers, signs))
           (Q.≈-trans (search (propers, signs)) (along-slope .same) (straight-over (v₀ s) (s .left .slope) (pos (t s x)))));
+      nearly = λ {m} e k reads.
+          absurd (let z = rw (ap natAbs (above-zero s high), ap natAbs (below-zero s low)) at (e .high) in omega (arith, z));
     }
 
   module _ (low : d₀ s <ℚ rise s over gap s) (high : rise s over gap s <ℚ d₁ s) where
@@ -157,6 +177,19 @@ module _ {s : Segment} {x : ℕ} (i : Inside (Good (plain convex)) s x) where
               (Q.≈-trans (search (propers, signs) depth 9) (v .same)
               (bent-over (v₀ s) (s .left .slope) (pos (t s x)) (pos (h s)) (pos divisor) (pos q) (pos r)))
               ∙ round-sticky round-rounding (hundredths-of (v₀ s) (s .left .slope) (t s x) q) r (divisor * h s) 50 (d .rest) (lit< tt);
+          nearly = λ {m} e k reads.
+              let l = Z.pos-<-of-< (e .low) in
+              let g = Z.pos-<-of-< (e .high) in
+              round-rounding .alike (over-tangent .proper) (search (propers, signs) depth 9) (over-tangent .same)
+              ∙ reads _ (record {
+                proper = search (propers, signs) depth 9;
+                low = Q.<-by (search positivity depth 9) (search positivity depth 9) _ (search positivity depth 9)
+                    (above-low (v₀ s) (s .left .slope) (pos (t s x)) (pos (h s)) (pos divisor) (pos (w * w)) (pos m))
+                    (Q.positive-over _ _ (Z.positive-difference l));
+                high = Q.<-by (search positivity depth 9) (search positivity depth 9) _ (search positivity depth 9)
+                    (below-high (v₀ s) (s .left .slope) (pos (t s x)) (pos (h s)) (pos divisor) (pos (w * w)) (pos m))
+                    (Q.positive-over _ _ (Z.positive-difference g));
+              });
         }
 
 pub bends-inside : {s : Segment} {x : ℕ} → Inside (Good (plain convex)) s x → Bends s x
@@ -170,6 +203,12 @@ bends-inside {s} i =
 -- ---- of the figures that the code has
 
 module _ {s : Segment} {x : ℕ} {y : Bent} (i : Inside (Good (plain convex)) s x) (k : BentAt s x y) where
+  a-is : y .a ≡ above s
+  a-is = Z.pos-injective (k .a ∙ bends-inside i .above-is)
+
+  b-is : y .b ≡ below s
+  b-is = Z.pos-injective (k .b ∙ bends-inside i .below-is)
+
   pub bent-input : BentInput (y .t) (y .u) (y .h) (y .a) (y .b)
   bent-input =
       let n = i .good .ends in
@@ -180,6 +219,25 @@ module _ {s : Segment} {x : ℕ} {y : Bent} (i : Inside (Good (plain convex)) s 
         below = omega (arith, ap natAbs (k .b), b-size n);
       }
 
+  -- by leading bits
+  module _ {m : ℕ} (large : Large (y .t) (y .h) (y .b))
+      (e : Around (y .b * y .t * (y .b * y .t)) ((y .a * y .u + y .b * y .t) * y .h) m) where
+    pub near-input : SumInput (s .left .value) (s .left .slope) (y .t) m
+    near-input =
+        let n = i .good .ends in
+        record {
+          value = n .left .value;
+          steep = slope-size (n .left);
+          near = omega (arith, bent-input .distances .most);
+          size = around-most bent-input e (omega (arith, large-positive bent-input large));
+        }
+
+  pub near-reads : {m : ℕ} → Around (y .b * y .t * (y .b * y .t)) ((y .a * y .u + y .b * y .t) * y .h) m →
+      (k : ℤ) → ((v : Fraction) → About (hundredths-of (pos (s .left .value)) (s .left .slope) (y .t) m) v → round v ≡ k) →
+      round (interpolant convex s x) ≡ k
+  near-reads {m} e n reads =
+      bends-inside i .nearly (rw (k .t, k .u, k .h, a-is, b-is) at e) n (λ v about. reads v (rw (k .t) about))
+
   module _ {q r : ℕ} (e : Excess (y .t) (y .u) (y .h) (y .a) (y .b) q r) where
     pub sum-input : SumInput (s .left .value) (s .left .slope) (y .t) q
     sum-input =
@@ -188,14 +246,11 @@ module _ {s : Segment} {x : ℕ} {y : Bent} (i : Inside (Good (plain convex)) s 
           value = n .left .value;
           steep = slope-size (n .left);
           near = omega (arith, bent-input .distances .most);
-          size = excess-most bent-input e;
+          size = omega (arith, excess-most bent-input e);
         }
 
     pub bent-reads :
         round ((pos 2 *ℤ hundredths-of (pos (s .left .value)) (s .left .slope) (y .t) q +ℤ pos (sticky r)) over pos 200)
         ≡ round (interpolant convex s x)
     bent-reads =
-        let f = bends-inside i in
-        let a-is : y .a ≡ above s = Z.pos-injective (k .a ∙ f .above-is) in
-        let b-is : y .b ≡ below s = Z.pos-injective (k .b ∙ f .below-is) in
-        rw (k .t) (sym (f .reads (rw (k .t, k .u, k .h, a-is, b-is) at e)))
+        rw (k .t) (sym (bends-inside i .reads (rw (k .t, k .u, k .h, a-is, b-is) at e)))

@@ -12,7 +12,7 @@ use mathlib.Core.List.{[], _∷_}
 use mathlib.Core.Logic.{inl, inr}
 use Prim.Native.Nat.{ℕ, zero, suc, _+_, _-_, _*_, _/_, _^_, _≤_, _<_}
 use native.Mathlib.Nat.{mul-le-mul, mul-le-mul-left, mul-le-mul-right, le-mul-of-pos-right, div-mul-le-self, le-trans}
-use native.Mathlib.Nat.{mul-pos, le-of-mul-le-mul-right, div-lt-iff-lt-mul}
+use native.Mathlib.Nat.{mul-pos, le-of-mul-le-mul-right, lt-of-mul-lt-mul-right, div-lt-iff-lt-mul, lt-mul-div-succ}
 use native.Mathlib.Omega.{arith}
 use lib.Arith.{digits-div}
 use lib.Dec.{lit<}
@@ -27,7 +27,7 @@ use Rattle.exact.proofs.Magnitude.{scaled-size, size-+, size-*, sfits-of-size}
 use Rattle.model.specs.Points.{gap-most, value-most, slope-most}
 use Rattle.shape.specs.Inner.{over-most}
 use Rattle.segment.specs.Inner.{part, Weights, left-part, whole-part, RisingInput}
-use Rattle.segment.specs.Inner.{BentInput, Excess, SumInput, hundredths-of}
+use Rattle.segment.specs.Inner.{BentInput, Excess, Large, Around, SumInput, hundredths-of}
 
 blend-size : (t u : ℕ) {g e m : ℕ} → t + u ≤ gap-most → g ≤ m → e ≤ m → g * t + e * u ≤ gap-most * m
 blend-size t u {m = m} near k l =
@@ -72,6 +72,39 @@ module _ {t u left F D₀ D₁ : ℕ} (k : RisingInput t u left F D₀ D₁) whe
       let part : A * F ≤ B * F = mul-le-mul-right F (omega arith) in
       let m : (A * F + B / 2) / B < F + 1 = div-lt-iff-lt-mul (k .above-0) .1 (omega (arith, part, k .above-0)) in
       omega (arith, m, k .rise)
+
+-- ---- w w / z by leading bits: x is w without 5 bits, y is above z without 10
+
+module _ (w x y z : ℕ)
+    (x-low : 32 * x ≤ w)
+    (x-high : w ≤ 32 * x + 31)
+    (y-low : z < 1024 * y)
+    (y-high : 1024 * y ≤ z + 1024)
+    (large : 1000 ≤ w)
+    (small : w * 100 ≤ z) where
+  leading-low : x * x * z < w * w * y
+  leading-low =
+      let some : 0 < x = omega arith in
+      let above : z + 1 ≤ 1024 * y = omega arith in
+      omega (arith, mul-pos some some, mul-le-mul-right y (mul-le-mul x-low x-low), mul-le-mul-left (x * x) above)
+
+  leading-high : w * w * y ≤ (x * x + y) * z
+  leading-high =
+      let rest : 73 * w + 961 ≤ z = omega arith in
+      let square : w * w ≤ 1024 * (x * x) + 62 * w + 961 = omega (arith, mul-le-mul x-high x-high) in
+      let k = mul-le-mul-left (w * w) y-high in
+      let l = mul-le-mul-right w small in
+      omega (arith, mul-le-mul-right z square, mul-le-mul-right z rest, mul-le-mul-right z y-low)
+
+  leading-around : Around (w * w) z (x * x / y + 1)
+  leading-around =
+      let some : 0 < y = omega arith in
+      let below = mul-le-mul-right z (div-mul-le-self (x * x) y) in
+      let above = mul-le-mul-right z (lt-mul-div-succ (x * x) {b = y} some) in
+      record {
+        low = omega (arith, lt-of-mul-lt-mul-right y {m = x * x / y * z} {n = w * w} (omega (arith, leading-low, below)));
+        high = lt-of-mul-lt-mul-right y {m = w * w} {n = (x * x / y + 1 + 1) * z} (omega (arith, leading-high, above, small, large));
+      }
 
 -- ---- convex
 
@@ -142,6 +175,27 @@ module _ {t u h a b : ℕ} (k : BentInput t u h a b) where
           size = omega (arith, mul-le-mul w-most-all w-most-all);
           room = omega (arith, quotient-most, mul-le-mul-left e long, mul-le-mul-left w long, w-least-of, w-least);
         }
+
+  pub large-positive : Large t h b → 0 < w
+  large-positive l = omega (arith, l .large, mul-le-mul-left b h-size, le-mul-of-pos-right b (l .some))
+
+  pub leads : Large t h b → Around (w * w) (divisor * h) (w / 32 * (w / 32) / (divisor * h / 1024 + 1) + 1)
+  leads l =
+      let steep = mul-le-mul-left b h-size in
+      let long = mul-le-mul-right h (k .below) in
+      let once = le-mul-of-pos-right b (l .some) in
+      leading-around w (w / 32) (divisor * h / 1024 + 1) (divisor * h)
+      (omega arith) (omega arith) (omega arith) (omega arith) (omega (arith, l .large))
+      (mul-le-mul {n₁ = w} {m₁ = 100} {n₂ = divisor} {m₂ = h} (omega arith) (omega (arith, l .large)))
+
+  -- less than one off a quotient of at most b
+  pub around-most : {m : ℕ} → Around (w * w) (divisor * h) m → 0 < divisor → m ≤ 2 * over-most + 1
+  around-most {m} e some =
+      let near : w * t ≤ divisor * h = mul-le-mul (omega arith) (omega (arith, k .sum)) in
+      let same : w * w ≡ w * t * b = ring-ℕ (b ∷ t ∷ []) (search terms depth 20 fits 9999) tt in
+      let most : w * w ≤ divisor * h * b = rw same (mul-le-mul-right b near) in
+      let l : m < b + 2 = lt-of-mul-lt-mul-right (divisor * h) {m = m} {n = b + 2} (omega (arith, e .low, most)) in
+      omega (arith, k .below)
 
   pub excess-most : {q r : ℕ} → Excess t u h a b q r → q ≤ 2 * over-most
   excess-most {q} {r} e =

@@ -6,14 +6,16 @@
 --   rising-value     the value of the rising curve
 --   BentAt           the figures of an area of a convex segment
 --   Excess           how far the curve is above its left tangent, in hundredths: a quotient and what is left
+--   Large, Around    whether that quotient's numbers may pass 64 bits; a number less than one off it
 --   hundredths-of    the left value, the left tangent and what is above it, in whole hundredths
+--   About, HalfWay   less than one hundredth off n hundredths; half way between two numbers of units
 --   Weights, RisingInput, BentInput, SumInput    what `part`, `rising`, `excess` and `hundredths` ask
 -- Assumes nothing.
 use mathlib.Core.Path.{_≡_}
 use mathlib.Core.Bool.{Bool, cond}
-use Prim.Native.Nat.{ℕ, _+_, _-_, _*_, _≤_, _<_}
+use Prim.Native.Nat.{ℕ, _+_, _-_, _*_, _^_, _≤_, _<_}
 use lib.IntN.{ℤ, pos, natAbs, _+ℤ_, _-ℤ_, _*ℤ_}
-use Rattle.exact.specs.Fraction.{Fraction, _over_}
+use Rattle.exact.specs.Fraction.{Fraction, Proper, _over_, _<ℚ_}
 use Rattle.exact.specs.Inner.{Divided}
 use Rattle.model.specs.Points.{gap-most, value-most, slope-most, Point, Segment, mirror}
 use Rattle.shape.specs.Inner.{over-most}
@@ -77,8 +79,29 @@ pub record Excess (t u h a b q r : ℕ) : Type 0 where
   pub divided : 0 < a * u + b * t → Divided (b * t * (b * t)) ((a * u + b * t) * h) q r
   pub none : b * t ≡ 0 → (q ≡ 0) × (r ≡ 0)
 
+-- w² may pass 64 bits
+pub record Large (t h b : ℕ) : Type 0 where
+  pub large : 2 ^ 32 ≤ b * h
+  pub some : 0 < t
+
+-- m is less than one off n / c
+pub record Around (n c m : ℕ) : Type 0 where
+  pub low : m * c < n + c
+  pub high : n < (m + 1) * c
+
 abbrev pub hundredths-of : (left slope : ℤ) (t above : ℕ) → ℤ
 hundredths-of left slope t above = pos 100 *ℤ left +ℤ slope *ℤ pos t +ℤ pos above
+
+-- v is less than one hundredth off n hundredths
+pub record About (n : ℤ) (v : Fraction) : Type 0 where
+  pub proper : Proper v
+  pub low : (n -ℤ pos 1) over pos 100 <ℚ v
+  pub high : v <ℚ (n +ℤ pos 1) over pos 100
+
+-- n hundredths are half a unit below k
+pub record HalfWay (n k : ℤ) : Type 0 where
+  pub half : n +ℤ pos 50 ≡ pos 100 *ℤ k
+  pub size : natAbs k ≤ 900001
 
 pub record BentInput (t u h a b : ℕ) : Type 0 where
   pub distances : Distances t u
@@ -90,4 +113,4 @@ pub record SumInput (left : ℕ) (slope : ℤ) (t above : ℕ) : Type 0 where
   pub value : left ≤ value-most
   pub steep : natAbs slope ≤ slope-most
   pub near : t ≤ gap-most
-  pub size : above ≤ 2 * over-most
+  pub size : above ≤ 2 * over-most + 1

@@ -1,11 +1,12 @@
 // The factor at an area of one segment, by one division other than by constants.
 ghost use mathlib.Core.Path.{_≡_};
-ghost use mathlib.Core.Bool.{true, cond};
+ghost use mathlib.Core.Bool.{true, false, cond};
 ghost use lib.IntN.{pos, natAbs, _+ℤ_, _*ℤ_};
-ghost use Prim.Native.Nat.{_-_, _≤_};
+ghost use Prim.Native.Nat.{_+_, _-_, _*_, _≤_};
 ghost use Rattle.segment.specs.Inner as inner;
-ghost use Rattle.segment.specs.Inner.{Weights, RisingInput, rising-value, BentAt, BentInput, Excess, SumInput, hundredths-of};
-ghost use Rattle.exact.specs.Fraction.{_over_};
+ghost use Rattle.segment.specs.Inner.{Weights, RisingInput, rising-value, BentAt, BentInput, Excess, Large, Around};
+ghost use Rattle.segment.specs.Inner.{SumInput, hundredths-of, About, HalfWay};
+ghost use Rattle.exact.specs.Fraction.{Fraction, _over_};
 ghost use Rattle.exact.specs.Rounding.{round};
 ghost use Rattle.exact.specs.Inner.{sticky};
 ghost use Rattle.model.specs.Points.{Shape, Rule, plain, shape-of, rule-of};
@@ -87,6 +88,10 @@ fn bent_at(p: Point, q: Point, area: u32) -> Bent
     }
 }
 
+// A product b h from here on, the largest w of a segment, is large: w w may pass 64 bits. b h is asked, and not w, so that all
+// areas of a segment take one branch.
+const LARGE: u64 = 0x1_0000_0000;
+
 // How far the curve is above its left tangent, in hundredths: w w / (W h) with w = b t and W = a u + w. Where h divides it is
 // t + u: the compiler would test at each area whether an h that is the same for all of them is 0.
 fn excess(t: u64, u: u64, h: u64, a: u64, b: u64) -> Quotient
@@ -98,12 +103,32 @@ fn excess(t: u64, u: u64, h: u64, a: u64, b: u64) -> Quotient
         return Quotient { q: 0, r: 0 };
     }
     let c = (a * u + w) * (t + u);
-    // b h is the largest w of the segment. It is asked, and not w, so that all areas of a segment take one branch.
-    if b * h < 0x1_0000_0000 {
+    if b * h < LARGE {
         let n = w * w;
         return Quotient { q: n / c, r: n % c };
     }
     exact::share_by(w, w, c, 0x1000)
+}
+
+// Whether w w may pass 64 bits.
+fn is_large(t: u64, u: u64, h: u64, a: u64, b: u64) -> bool
+    requires { ⌜ BentInput t u h a b ⌝ }
+    ensures { λ r. ⌜ (r ≡ true → Large t h b) ⌝ }
+{
+    if t == 0 {
+        return false;
+    }
+    b * h >= LARGE
+}
+
+// That quotient from leading bits, by a division of smaller numbers: less than one off.
+fn leading(t: u64, u: u64, h: u64, a: u64, b: u64) -> u64
+    requires { ⌜ BentInput t u h a b × Large t h b ⌝ }
+    ensures { λ m. ⌜ Around (b * t * (b * t)) ((a * u + b * t) * h) m ⌝ }
+{
+    let w = b * t;
+    let v = w / 32;
+    v * v / ((a * u + w) * h / 1024 + 1) + 1
 }
 
 // The left value, the left tangent and what is above it, in whole hundredths.
@@ -113,6 +138,25 @@ fn hundredths(left: u32, slope: i32, t: u64, above: u64) -> i32
 {
     let from = 100 * left;
     ((from as i64) + (slope as i64) * (t as i64) + (above as i64)) as i32
+}
+
+// A number of units. `sure` is false where a tie is not ruled out.
+struct Near {
+    k: i32,
+    sure: bool,
+}
+
+// What is less than one hundredth off n, in units, rounded. Unless n ends in 50, all of that is rounded alike.
+fn nearly(n: i32) -> Near
+    requires { ⌜ natAbs n ≤ 90000000 ⌝ }
+    ensures sure { λ e. ⌜ (e .sure ≡ true → (v : Fraction) → About n v → round v ≡ e .k) ⌝ }
+    ensures tie { λ e. ⌜ (e .sure ≡ false → HalfWay n (e .k)) ⌝ }
+{
+    let k = exact::floor_div(n + 50, 100);
+    Near {
+        k,
+        sure: n + 50 != 100 * k,
+    }
 }
 
 // Whether a division left anything, as a digit.
@@ -125,16 +169,16 @@ fn digit(r: u64) -> u64
     1
 }
 
-// n hundredths in units, rounded; r is what is left of a hundredth more, which decides where n ends in 50 alone.
+// n hundredths in units, rounded; r is what is left of a hundredth more, which decides where n ends in 50.
 fn units(n: i32, r: u64) -> i32
     requires { ⌜ natAbs n ≤ 90000000 ⌝ }
     ensures { λ k. ⌜ k ≡ round ((pos 2 *ℤ n +ℤ pos (sticky r)) over pos 200) ⌝ }
 {
-    let k = exact::floor_div(n + 50, 100);
-    if n + 50 != 100 * k {
-        return k;
+    let e = nearly(n);
+    if e.sure {
+        return e.k;
     }
-    exact::nearest(k - 1, 100 + digit(r), 200)
+    exact::nearest(e.k - 1, 100 + digit(r), 200)
 }
 
 fn convex_factor(p: Point, q: Point, area: u32) -> i32
@@ -142,6 +186,12 @@ fn convex_factor(p: Point, q: Point, area: u32) -> i32
     ensures { λ r. ⌜ r ≡ round (interpolant Shape.convex (segment-of p q) area) ⌝ }
 {
     let x = bent_at(p, q, area);
+    if is_large(x.t, x.u, x.h, x.a, x.b) {
+        let near = nearly(hundredths(p.value, p.slope, x.t, leading(x.t, x.u, x.h, x.a, x.b)));
+        if near.sure {
+            return near.k;
+        }
+    }
     let e = excess(x.t, x.u, x.h, x.a, x.b);
     units(hundredths(p.value, p.slope, x.t, e.q), e.r)
 }
