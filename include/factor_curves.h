@@ -29,7 +29,7 @@
 extern "C" {
 #endif
 
-#define FACTOR_CURVES_VERSION "0.5.0"
+#define FACTOR_CURVES_VERSION "0.6.0"
 
 /*
  * A curve is three lists of one length, 2 to 64, and a shape code. Point i is

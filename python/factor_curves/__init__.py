@@ -46,7 +46,7 @@ from ._calls import (CONCAVE, CONVEX, COUNT_MAX, ENTRIES_MAX, FALLING, FILE_MAX,
 from ._curve import Curve, Point
 from ._library import LibraryNotFound
 
-__version__ = "0.5.0"
+__version__ = "0.6.0"
 
 __all__ = [
     'CONCAVE', 'CONVEX', 'COUNT_MAX', 'ENTRIES_MAX', 'FALLING', 'FILE_MAX', 'POINTS_MAX',
