@@ -99,6 +99,9 @@ module _ {x y c k : ℕ} (h : Shared x y c k) where
       let l = mul-le-mul-right (q + 1) (h .base) in
       omega (arith, m, l, h .room)
 
+one-more : {n c r : ℕ} (q : ℕ) → n ≡ q * c + r → c ≤ r → n ≡ (q + 1) * c + (r - c)
+one-more q e h = omega arith
+
 returns : tie.Need-returns
 returns c = record { product = divided (c .before .pre); rest = c .if1 .taken }
 
@@ -106,7 +109,7 @@ returns-2 : tie.Need-returns-2
 returns-2 c =
     let h = c .before .pre in
     let low = c .if1 .left in
-    record { product = omega (arith, divided h); rest = omega (arith, rest-most h) }
+    record { product = one-more (q h) (divided h) low; rest = omega (arith, rest-most h) }
 
 pub share-by-spec : {M : Type 1} → statement M
 share-by-spec =
