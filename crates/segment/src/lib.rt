@@ -181,7 +181,8 @@ fn units(n: i32, r: u64) -> i32
     exact::nearest(e.k - 1, 100 + digit(r), 200)
 }
 
-fn convex_factor(p: Point, q: Point, area: u32) -> i32
+// Where w w may pass 64 bits, the leading bits decide as a rule.
+fn large_factor(p: Point, q: Point, area: u32) -> i32
     requires { ⌜ Inside (Good (plain Shape.convex)) (segment-of p q) area ⌝ }
     ensures { λ r. ⌜ r ≡ round (interpolant Shape.convex (segment-of p q) area) ⌝ }
 {
@@ -191,6 +192,18 @@ fn convex_factor(p: Point, q: Point, area: u32) -> i32
         if near.sure {
             return near.k;
         }
+    }
+    let e = excess(x.t, x.u, x.h, x.a, x.b);
+    units(hundredths(p.value, p.slope, x.t, e.q), e.r)
+}
+
+fn convex_factor(p: Point, q: Point, area: u32) -> i32
+    requires { ⌜ Inside (Good (plain Shape.convex)) (segment-of p q) area ⌝ }
+    ensures { λ r. ⌜ r ≡ round (interpolant Shape.convex (segment-of p q) area) ⌝ }
+{
+    let x = bent_at(p, q, area);
+    if x.b * x.h >= LARGE {
+        return large_factor(p, q, area);
     }
     let e = excess(x.t, x.u, x.h, x.a, x.b);
     units(hundredths(p.value, p.slope, x.t, e.q), e.r)
