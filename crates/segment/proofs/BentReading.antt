@@ -6,7 +6,7 @@
 -- Assumes nothing.
 use mathlib.Core.Path.{_≡_, sym, _∙_, ap}
 use mathlib.Core.List.{[], _∷_}
-use Prim.Native.Nat.{ℕ, _+_, _*_, _<_}
+use Prim.Native.Nat.{ℕ, _+_, _*_, _≤_, _<_}
 use native.Mathlib.Omega.{arith}
 use lib.Dec.{lit<}
 use lib.IntN.{ℤ, pos, natAbs, _+ℤ_, _-ℤ_, _*ℤ_, *ℤ-comm, +ℤ-invr}
@@ -33,6 +33,7 @@ use Rattle.model.proofs.Curves.{bent, straight, bend-kind}
 use Rattle.model.proofs.Segments.{gap, rise, distance, v₀, v₁, d₀, d₁, S, g, e₀, e₁, a, b}
 use Rattle.model.proofs.Segments.{segment-normal, gap-positive, distance-in}
 use Rattle.point.proofs.Figures.{slope-size}
+use Rattle.shape.specs.Inner.{over-most}
 use Rattle.shape.proofs.Figures.{h, gap-is, a-size, b-size}
 use Rattle.segment.specs.Inner.{BentAt, BentInput, Excess, Large, Around, SumInput, hundredths-of, About}
 use Rattle.segment.specs.declared.Bent.{Bent}
@@ -219,18 +220,22 @@ module _ {s : Segment} {x : ℕ} {y : Bent} (i : Inside (Good (plain convex)) s 
         below = omega (arith, ap natAbs (k .b), b-size n);
       }
 
+  -- so many hundredths above the left tangent
+  sum-of : {m : ℕ} → m ≤ 2 * over-most + 1 → SumInput (s .left .value) (s .left .slope) (y .t) m
+  sum-of most =
+      let n = i .good .ends in
+      record {
+        value = n .left .value;
+        steep = slope-size (n .left);
+        near = omega (arith, bent-input .distances .most);
+        size = most;
+      }
+
   -- by leading bits
-  module _ {m : ℕ} (large : Large (y .t) (y .h) (y .b))
-      (e : Around (y .b * y .t * (y .b * y .t)) ((y .a * y .u + y .b * y .t) * y .h) m) where
-    pub near-input : SumInput (s .left .value) (s .left .slope) (y .t) m
-    near-input =
-        let n = i .good .ends in
-        record {
-          value = n .left .value;
-          steep = slope-size (n .left);
-          near = omega (arith, bent-input .distances .most);
-          size = around-most bent-input e (omega (arith, large-positive bent-input large));
-        }
+  pub near-input : {m : ℕ} → Large (y .t) (y .h) (y .b) →
+      Around (y .b * y .t * (y .b * y .t)) ((y .a * y .u + y .b * y .t) * y .h) m →
+      SumInput (s .left .value) (s .left .slope) (y .t) m
+  near-input large e = sum-of (around-most bent-input e (omega (arith, large-positive bent-input large)))
 
   pub near-reads : {m : ℕ} → Around (y .b * y .t * (y .b * y .t)) ((y .a * y .u + y .b * y .t) * y .h) m →
       (k : ℤ) → ((v : Fraction) → About (hundredths-of (pos (s .left .value)) (s .left .slope) (y .t) m) v → round v ≡ k) →
@@ -240,14 +245,7 @@ module _ {s : Segment} {x : ℕ} {y : Bent} (i : Inside (Good (plain convex)) s 
 
   module _ {q r : ℕ} (e : Excess (y .t) (y .u) (y .h) (y .a) (y .b) q r) where
     pub sum-input : SumInput (s .left .value) (s .left .slope) (y .t) q
-    sum-input =
-        let n = i .good .ends in
-        record {
-          value = n .left .value;
-          steep = slope-size (n .left);
-          near = omega (arith, bent-input .distances .most);
-          size = omega (arith, excess-most bent-input e);
-        }
+    sum-input = let m = excess-most bent-input e in sum-of (omega arith)
 
     pub bent-reads :
         round ((pos 2 *ℤ hundredths-of (pos (s .left .value)) (s .left .slope) (y .t) q +ℤ pos (sticky r)) over pos 200)
