@@ -14,7 +14,8 @@ use lib.Dec.{T, eqb, eqb→eq, eqb-refl, lit<}
 use lib.IntN.{ℤ, pos, negsuc, negℤ, natAbs, _+ℤ_, _-ℤ_, _*ℤ_}
 use lib.Signed.{_≤ℤ_, _<ℤ_, clashℤ}
 use Rattle.exact.specs.Fraction.{Fraction, Proper, whole, _+ℚ_, _-ℚ_, _≈ℚ_, _≤ℚ_, _<ℚ_, eqℚ}
-use Rattle.exact.specs.Rounding.{floorDiv, floor, half, even, even-from, round, Greatest, HalfEven, Rounding, RoundIsRounding}
+use Rattle.exact.specs.Rounding.{floorDiv, floor, half, even, even-from, round}
+use Rattle.exact.specs.Rounding.{Greatest, HalfEven, Rounding, RoundIsRounding}
 use Rattle.exact.proofs.Tests.{true-or-false}
 use Rattle.exact.proofs.Ring.{ring, terms}
 use Rattle.exact.proofs.Order as Z
@@ -110,7 +111,8 @@ module _ {v w : Fraction} {j k : ℤ}
 
   j-≤-next : j ≤ℤ (k +ℤ pos 1)
   j-≤-next =
-      Q.≤-of-whole-≤ j (k +ℤ pos 1) (Q.≤-trans (search propers) (search (propers, proper-half)) (search propers) j-below next-above)
+      Q.≤-of-whole-≤ j (k +ℤ pos 1)
+      (Q.≤-trans (search propers) (search (propers, proper-half)) (search propers) j-below next-above)
 
   -- where j is k + 1, both are one half off, and so even
   j-not-next : j ≡ k +ℤ pos 1 → ⊥
@@ -121,7 +123,8 @@ module _ {v w : Fraction} {j k : ℤ}
     where
       k-below : whole k ≤ℚ w -ℚ half
       k-below =
-          Q.≤-by (search propers) (search (propers, proper-half)) (w +ℚ half -ℚ whole (k +ℤ pos 1)) (search (propers, proper-half))
+          Q.≤-by (search propers) (search (propers, proper-half))
+          (w +ℚ half -ℚ whole (k +ℤ pos 1)) (search (propers, proper-half))
           (field (w ∷ℚ k ∷ []) (search ratios depth 20 fits 9999) tt)
           (Q.nonneg-difference (rw e at j-below))
 
@@ -210,17 +213,22 @@ even-from-even k =
 -- half way from k to k + 1 both are one half off
 at-half : {x : Fraction} {k j : ℤ} → Proper x → x ≈ℚ whole k +ℚ half → EvenFrom k j → HalfEven x j
 at-half {x} {k} {j} px e f = record {
-  low = Q.≤-trans (search (propers, proper-half)) (search propers) (search propers) (Q.≤-of-≈ below) (Q.whole-≤-of-≤ k j (f .low));
+  low = Q.≤-trans (search (propers, proper-half)) (search propers) (search propers) (Q.≤-of-≈ below)
+      (Q.whole-≤-of-≤ k j (f .low));
   high = Q.≤-trans (search propers) (search propers) (search (propers, proper-half)) (Q.whole-≤-of-≤ j (k +ℤ pos 1) (f .high))
       (Q.≤-of-≈ (Q.≈-sym above));
   even-at-half = λ _. f .test;
 }
   where
     below : x -ℚ half ≈ℚ whole k
-    below = Q.≈-trans (search (propers, proper-half)) (Q.≈-- e (Q.≈-refl half)) (field (k ∷ []) (search ratios depth 20 fits 9999) tt)
+    below =
+        Q.≈-trans (search (propers, proper-half)) (Q.≈-- e (Q.≈-refl half))
+        (field (k ∷ []) (search ratios depth 20 fits 9999) tt)
 
     above : x +ℚ half ≈ℚ whole (k +ℤ pos 1)
-    above = Q.≈-trans (search (propers, proper-half)) (Q.≈-+ e (Q.≈-refl half)) (field (k ∷ []) (search ratios depth 20 fits 9999) tt)
+    above =
+        Q.≈-trans (search (propers, proper-half)) (Q.≈-+ e (Q.≈-refl half))
+        (field (k ∷ []) (search ratios depth 20 fits 9999) tt)
 
 -- elsewhere the floor of x + ½ is less than one half off, or is one half above x and x half way from its floor
 module _ (x : Fraction) (px : Proper x) where

@@ -16,8 +16,8 @@ pub fn floor_div(n: i32, d: u32) -> i32
     (above as u32 / d) as i32 - 1000000
 }
 
-// k + r / d, rounded. Nowhere else is a tie decided: 2 r is d there, and k goes to k + 1 if it is odd. A million is added to k, so
-// that the remainder by 2 is that of a number that is not negative.
+// k + r / d, rounded. Nowhere else is a tie decided: 2 r is d there, and k goes to k + 1 if it is odd. A million is added to k,
+// so that the remainder by 2 is that of a number that is not negative.
 pub fn nearest(k: i32, r: u64, d: u64) -> i32
     requires { ⌜ Mixed k r d ⌝ }
     ensures { λ n. ⌜ n ≡ round ((k *ℤ pos d +ℤ pos r) over pos d) ⌝ }
@@ -35,8 +35,8 @@ pub struct Quotient {
     pub r: u64,
 }
 
-// Quotient and remainder of x * y by c, by one division though x * y may pass 64 bits. In base k the product is n and a digit, and
-// c is d * k less g; n / d is the quotient or one less.
+// Quotient and remainder of x * y by c, by one division though x * y may pass 64 bits. In base k the product is n and a digit,
+// and c is d * k less g; n / d is the quotient or one less.
 pub fn share_by(x: u64, y: u64, c: u64, k: u64) -> Quotient
     requires { ⌜ Shared x y c k ⌝ }
     ensures { λ s. ⌜ Divided (x * y) c (s .q) (s .r) ⌝ }

@@ -295,7 +295,8 @@ module _ (c : Curve) (m : 2 < c .code) where
 pub factor-from-mirror : (c : Curve) (m : 2 < c .code) (x : ℕ) → Area c x →
     factor c x ≡ pos value-most -ℤ factor (mirror c m) x
 unfolding reading
-factor-from-mirror c m x k = ap round (exact-is c m x) ∙ round-rounding .from-even (pos value-most) value-most-even _ (mirror-proper c m x k)
+factor-from-mirror c m x k =
+    ap round (exact-is c m x) ∙ round-rounding .from-even (pos value-most) value-most-even _ (mirror-proper c m x k)
 
 -- what is taken off stands on the other side
 ≤-from : {a b : ℤ} (m : ℤ) → a ≤ℤ b → (m -ℤ b) ≤ℤ (m -ℤ a)
@@ -333,4 +334,5 @@ concave-steps c e x k k₀ k₁ k₂ =
     let a = mirror-area c m in
     let f = factor (mirror c m) in
     rw (factor-from-mirror c m x k₀, factor-from-mirror c m (x + k) k₁, factor-from-mirror c m (x + 2 * k) k₂)
-    (steps-from (f x) (f (x + k)) (f (x + 2 * k)) (pos value-most) (convex-steps (mirror c m) (omega arith) x k (a x k₀) (a (x + k) k₁) (a (x + 2 * k) k₂)))
+    (steps-from (f x) (f (x + k)) (f (x + 2 * k)) (pos value-most)
+    (convex-steps (mirror c m) (omega arith) x k (a x k₀) (a (x + k) k₁) (a (x + 2 * k) k₂)))

@@ -177,7 +177,8 @@ module _ {s : Segment} {x : ℕ} (i : Inside (Good (plain convex)) s x) where
               round-rounding .alike (v .proper) (search (propers, signs))
               (Q.≈-trans (search (propers, signs) depth 9) (v .same)
               (bent-over (v₀ s) (s .left .slope) (pos (t s x)) (pos (h s)) (pos divisor) (pos q) (pos r)))
-              ∙ round-sticky round-rounding (hundredths-of (v₀ s) (s .left .slope) (t s x) q) r (divisor * h s) 50 (d .rest) (lit< tt);
+              ∙ round-sticky round-rounding (hundredths-of (v₀ s) (s .left .slope) (t s x) q) r (divisor * h s) 50
+              (d .rest) (lit< tt);
           nearly = λ {m} e k reads.
               let l = Z.pos-<-of-< (e .low) in
               let g = Z.pos-<-of-< (e .high) in

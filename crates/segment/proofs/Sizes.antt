@@ -103,7 +103,8 @@ module _ (w x y z : ℕ)
       let above = mul-le-mul-right z (lt-mul-div-succ (x * x) {b = y} some) in
       record {
         low = omega (arith, lt-of-mul-lt-mul-right y {m = x * x / y * z} {n = w * w} (omega (arith, leading-low, below)));
-        high = lt-of-mul-lt-mul-right y {m = w * w} {n = (x * x / y + 1 + 1) * z} (omega (arith, leading-high, above, small, large));
+        high = lt-of-mul-lt-mul-right y {m = w * w} {n = (x * x / y + 1 + 1) * z}
+            (omega (arith, leading-high, above, small, large));
       }
 
 -- ---- convex

@@ -31,8 +31,9 @@ use Rattle.sheet_text.specs.Laws.{file, dips, TextExamples, FirstBytesDe
 
 pub text-examples : TextExamples
 unfolding _over_ whole _+ℚ_ _-ℚ_ _*ℚ_ _/ℚ_ leℚ ltℚ eqℚ floorDiv floor even even-from round row _then_
-    gradient segments shape-of rule-of chord p q P Q rational r-rising r-convex rising-curve convex-curve curve interpolant exact-curve
-    rises bends fits has-shape segment-test bad-count bad-code bad-area bad-value bad-slope point-rows segment-rows curve-rows
+    gradient segments shape-of rule-of chord p q P Q rational r-rising r-convex rising-curve convex-curve curve
+    interpolant exact-curve rises bends fits has-shape segment-test
+    bad-count bad-code bad-area bad-value bad-slope point-rows segment-rows curve-rows
     last-from segment-read exact-value reading tabulate
     twos-complement little-endian record-at wrong-mark bad-head bad-size head-rows short-list open-answer
     ascii digits-within decimal signed words-line entry-line entry-lines sheet-lines file-answer answer-text sheet-text file dips

@@ -82,13 +82,16 @@ returns c =
     let s = c .before in
     let test = c .if1 .taken in
     rw (k-read s, toZ-ofZ (next-fits s))
-    (sym (round-rounding .unique (proper s) (goes-up (k s) (s .pre .above-0) (s .pre .part) (omega arith) (λ e. next-even-of-1 s (omega arith)))))
+    (sym (round-rounding .unique (proper s)
+    (goes-up (k s) (s .pre .above-0) (s .pre .part) (omega arith) (λ e. next-even-of-1 s (omega arith)))))
 
 returns-2 : tie.Need-returns-2
 returns-2 c =
     let s = c .before in
     let test = c .if1 .left in
-    rw (k-read s) (sym (round-rounding .unique (proper s) (stays (k s) (s .pre .above-0) (s .pre .part) (omega arith) (λ e. even-of-0 s (omega arith)))))
+    rw (k-read s)
+    (sym (round-rounding .unique (proper s)
+    (stays (k s) (s .pre .above-0) (s .pre .part) (omega arith) (λ e. even-of-0 s (omega arith)))))
 
 pub nearest-spec : {M : Type 1} → statement M
 nearest-spec =

@@ -120,5 +120,6 @@ share-by-spec =
     (λ c. record { fits = lt-of-le-of-lt (le-add-right _ _) (digits-most (c .pre)) }) (λ c. c .pre .base)
     (λ c. record { fits = digits-most (c .pre) }) (search needs) (search needs)
     (λ c. record { fits = omega (arith, rest-fits (c .pre)) }) (λ c. record { fits = omega (arith, rest-fits (c .pre)) })
-    (λ c. record { fits = omega (arith, rest-fits (c .pre)) }) (λ c. c .pre .base) (λ c. record { fits = rest-fits (c .pre) }) returns
+    (λ c. record { fits = omega (arith, rest-fits (c .pre)) }) (λ c. c .pre .base) (λ c. record { fits = rest-fits (c .pre) })
+    returns
     (λ c. let h = c .before .pre in record { fits = omega (arith, next-most h, h .divisor) }) returns-2)

@@ -34,7 +34,8 @@ module _ (code : ℕ) (s : Segment) (x : ℕ) (i : Inside (Good (rule-of code)) 
   abbrev reading : Bool → ℤ
   reading turned = round (interpolant (shape-of (cond turned (code - 2) code)) (facing turned) x)
 
-  inside : (turned : Bool) → ltb 2 code ≡ turned → Inside (Good (plain (shape-of (cond turned (code - 2) code)))) (facing turned) x
+  inside : (turned : Bool) → ltb 2 code ≡ turned →
+      Inside (Good (plain (shape-of (cond turned (code - 2) code)))) (facing turned) x
   inside true e = mirror-inside (rw (mirrored-of (ltb-true 2 code e)) at i)
   inside false e = rw (plain-of (ltb-false 2 code e)) at i
 

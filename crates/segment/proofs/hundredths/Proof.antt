@@ -9,7 +9,8 @@ use mir.Syntax.{w32, w64}
 use mir.Val.{toZ, ofZ}
 use mir.Facts.{toZ-ofZ}
 use Rattle.segment.specs.Inner.{hundredths-of}
-use Rattle.segment.proofs.Sizes.{slope-fits, product-fits, from-fits, from-read, distance-read, above-read, sum-fits, sum-fits-32}
+use Rattle.segment.proofs.Sizes.{slope-fits, product-fits, from-fits, from-read, distance-read, above-read}
+use Rattle.segment.proofs.Sizes.{sum-fits, sum-fits-32}
 use Rattle.segment.proofs.hundredths.Statement.{statement}
 use Rattle.segment.proofs.hundredths.Tie as tie
 

@@ -20,7 +20,8 @@ near-sum : (c : tie.After-leading) → (let b = c .before .before .before in
     let a = b .before .args in SumInput (a .p .value) (a .p .slope) (b .bent-at .result .t) (c .leading .result))
 near-sum c =
     let l = c .before .before in
-    near-input (l .before .before .pre) (l .before .bent-at .ensures) (l .is-large .ensures (c .before .if1 .taken)) (c .leading .ensures)
+    near-input (l .before .before .pre) (l .before .bent-at .ensures) (l .is-large .ensures (c .before .if1 .taken))
+    (c .leading .ensures)
 
 near-read : (c : tie.After-hundredths) → (let e = c .before .before in
     let b = e .before .before .before in
@@ -30,6 +31,11 @@ near-read : (c : tie.After-hundredths) → (let e = c .before .before in
 near-read c =
     let l = c .before .before .before .before .before .before .pre .good .ends .left in
     toZ-ofZ (record { sfits = c .hundredths .ok }) ∙ (rw (slope-read l) at (c .hundredths .ensures))
+
+leading-requires : tie.Need-leading-requires
+leading-requires c κs =
+    let l = c .before in
+    (bent-input (l .before .before .pre) (l .before .bent-at .ensures), l .is-large .ensures (c .if1 .taken))
 
 hundredths-requires : tie.Need-hundredths-requires
 hundredths-requires c κs =
@@ -85,7 +91,7 @@ pub large-factor-spec : {M : Type 1} → statement M
 large-factor-spec =
     tie.close
     (tie.spec (λ c κs. c .pre) (λ c κs. bent-input (c .before .pre) (c .bent-at .ensures))
-    (λ c κs. let l = c .before in (bent-input (l .before .before .pre) (l .before .bent-at .ensures), l .is-large .ensures (c .if1 .taken)))
+    leading-requires
     hundredths-requires nearly-requires returns
     (λ c κs. let b = c .before .before in bent-input (b .before .pre) (b .bent-at .ensures)) hundredths-requires-2 units-requires
     returns-2)

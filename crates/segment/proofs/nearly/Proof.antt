@@ -31,6 +31,10 @@ true-of-not : {b : Bool} → not b ≡ false → b ≡ true
 true-of-not {b = true} e = refl
 true-of-not {b = false} e = absurd (true≢false e)
 
+same-of-bits : {a b : ℤ} → SFits w32 a → SFits w32 b → eqb (ofZ w32 a) (ofZ w32 b) ≡ true → a ≡ b
+same-of-bits {a} {b} f g e =
+    sym (toZ-ofZ f) ∙ ap (λ (x : ℕ). toZ w32 x) (eqb-true (ofZ w32 a) (ofZ w32 b) e) ∙ toZ-ofZ g
+
 floor-size : (z : ℤ) → natAbs z ≤ 90000050 → natAbs (floorDiv z 100) ≤ 900001
 unfolding floorDiv
 floor-size (pos n) h = omega arith
@@ -98,7 +102,7 @@ returns c =
           round-rounding .unique (a .proper)
           (off-tie (n s) (λ same. true≢false (sym sure ∙ ap not (eq-eqb _ _ (ap (λ (z : ℤ). ofZ w32 z) same)))) v a),
       λ no. record {
-        half = sym (toZ-ofZ (half-fits s)) ∙ ap (λ (x : ℕ). toZ w32 x) (eqb-true (ofZ w32 (n s +ℤ pos 50)) (ofZ w32 (pos 100 *ℤ k (n s))) (true-of-not no)) ∙ toZ-ofZ (hundreds-fits s);
+        half = same-of-bits (half-fits s) (hundreds-fits s) (true-of-not no);
         size = k-size s;
       },
     )

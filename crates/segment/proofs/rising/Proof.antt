@@ -33,11 +33,13 @@ module _ (l n b q r : ℕ) (split : n + b / 2 ≡ q * b + r) where
       half-even-strict
       (record {
         cross = Z.<-by (pos (2 * (q * b) + b) -ℤ pos (2 * n))
-            (ring (pos l ∷ pos n ∷ pos b ∷ pos q ∷ []) (search terms depth 20 fits 9999) tt) (Z.positive-difference (Z.pos-<-of-< low));
+            (ring (pos l ∷ pos n ∷ pos b ∷ pos q ∷ []) (search terms depth 20 fits 9999) tt)
+            (Z.positive-difference (Z.pos-<-of-< low));
       })
       (record {
         cross = Z.<-by (pos (2 * n + b) -ℤ pos (2 * (q * b)))
-            (ring (pos l ∷ pos n ∷ pos b ∷ pos q ∷ []) (search terms depth 20 fits 9999) tt) (Z.positive-difference (Z.pos-<-of-< high));
+            (ring (pos l ∷ pos n ∷ pos b ∷ pos q ∷ []) (search terms depth 20 fits 9999) tt)
+            (Z.positive-difference (Z.pos-<-of-< high));
       })
 
   -- where nothing is left it is k − 1 and what b / 2 is short of b

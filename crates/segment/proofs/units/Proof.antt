@@ -100,4 +100,5 @@ returns-2 c =
 pub units-spec : {M : Type 1} → statement M
 units-spec =
     tie.close
-    (tie.spec (λ c κs. rw (toZ-ofZ (c .fits .n)) (c .pre)) returns sub-nearest (search needs) add-nearest nearest-requires returns-2)
+    (tie.spec (λ c κs. rw (toZ-ofZ (c .fits .n)) (c .pre)) returns sub-nearest (search needs) add-nearest nearest-requires
+    returns-2)
