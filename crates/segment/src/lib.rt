@@ -110,7 +110,7 @@ fn excess(t: u64, u: u64, h: u64, a: u64, b: u64) -> Quotient
     exact::share_by(w, w, c, 0x1000)
 }
 
-// Whether w w may pass 64 bits.
+// Whether w w may pass 64 bits, and is not 0.
 fn is_large(t: u64, u: u64, h: u64, a: u64, b: u64) -> bool
     requires { ⌜ BentInput t u h a b ⌝ }
     ensures { λ r. ⌜ (r ≡ true → Large t h b) ⌝ }
