@@ -64,13 +64,14 @@ fn fill_segment(
 {
     let p = point::point_at(areas, values, slopes, k);
     let q = point::point_at(areas, values, slopes, k + 1);
+    let x = segment::unmirrored(shape, p, q);
     let mut i = index;
     while i < out.len() {
         let area = area_of(start, step, i);
         if !lookup::takes(areas, k, area) {
             return i;
         }
-        out[i] = segment::factor(shape, p, q, area);
+        out[i] = segment::facing_factor(shape, x, p, q, area);
         i += 1;
     }
     i

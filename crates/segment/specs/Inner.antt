@@ -1,7 +1,6 @@
 -- What contracts of inner functions cite: one segment in plain numbers. Nothing here need be believed: the calls' contracts cite
 -- the definitions of documents 01 and 02.
 --   Distances        t and u, of an area from the two ends of a segment
---   faced            a point as it stands, or mirrored
 --   part             A of the rising curve, from one end; whole-part is B
 --   rising-value     the value of the rising curve
 --   BentAt           the figures of an area of a convex segment
@@ -9,24 +8,25 @@
 --   Large, Around    whether that quotient's numbers may pass 64 bits; a number less than one off it
 --   hundredths-of    the left value, the left tangent and what is above it, in whole hundredths
 --   About, HalfWay   less than one hundredth off n hundredths; half way between two numbers of units
+--   Unmirrored       a segment as its shape reads it
 --   Weights, RisingInput, BentInput, SumInput    what `part`, `rising`, `excess` and `hundredths` ask
 -- Assumes nothing.
 use mathlib.Core.Path.{_≡_}
-use mathlib.Core.Bool.{Bool, cond}
+use mathlib.Core.Bool.{cond}
+use lib.Dec.{ltb}
 use Prim.Native.Nat.{ℕ, _+_, _-_, _*_, _^_, _≤_, _<_}
 use lib.IntN.{ℤ, pos, natAbs, _+ℤ_, _-ℤ_, _*ℤ_}
 use Rattle.exact.specs.Fraction.{Fraction, Proper, _over_, _<ℚ_}
 use Rattle.exact.specs.Inner.{Divided}
-use Rattle.model.specs.Points.{gap-most, value-most, slope-most, Point, Segment, mirror}
+use Rattle.model.specs.Points.{gap-most, value-most, slope-most, Segment, mirror-segment}
+use Rattle.point.specs.Inner.{segment-of}
 use Rattle.shape.specs.Inner.{over-most}
 use Rattle.segment.specs.declared.Bent.{Bent}
+use Rattle.segment.specs.declared.Facing.{Facing}
 
 pub record Distances (t u : ℕ) : Type 0 where
   pub most : t + u ≤ gap-most
   pub least : 0 < t + u
-
-abbrev pub faced : Bool → Point → Point
-faced turned p = cond turned (mirror p) p
 
 -- ---- rising
 
@@ -114,3 +114,10 @@ pub record SumInput (left : ℕ) (slope : ℤ) (t above : ℕ) : Type 0 where
   pub steep : natAbs slope ≤ slope-most
   pub near : t ≤ gap-most
   pub size : above ≤ 2 * over-most + 1
+
+-- ---- all codes
+
+-- the code without its mirror, and the points as they stand or mirrored
+pub record Unmirrored (code : ℕ) (s : Segment) (x : Facing) : Type 0 where
+  pub code-is : x .code ≡ cond (ltb 2 code) (code - 2) code
+  pub segment-is : segment-of (x .p) (x .q) ≡ cond (ltb 2 code) (mirror-segment s) s

@@ -1,18 +1,18 @@
 // The factor at an area of one segment, by one division other than by constants.
 ghost use mathlib.Core.Path.{_≡_};
-ghost use mathlib.Core.Bool.{true, false, cond};
+ghost use mathlib.Core.Bool.{true, false};
 ghost use lib.IntN.{pos, natAbs, _+ℤ_, _*ℤ_};
-ghost use Prim.Native.Nat.{_+_, _-_, _*_, _≤_};
+ghost use Prim.Native.Nat.{_+_, _*_, _≤_};
 ghost use Rattle.segment.specs.Inner as inner;
 ghost use Rattle.segment.specs.Inner.{Weights, RisingInput, rising-value, BentAt, BentInput, Excess, Large, Around};
-ghost use Rattle.segment.specs.Inner.{SumInput, hundredths-of, About, HalfWay};
+ghost use Rattle.segment.specs.Inner.{SumInput, hundredths-of, About, HalfWay, Unmirrored};
 ghost use Rattle.exact.specs.Fraction.{Fraction, _over_};
 ghost use Rattle.exact.specs.Rounding.{round};
 ghost use Rattle.exact.specs.Inner.{sticky};
 ghost use Rattle.model.specs.Points.{Shape, Rule, plain, shape-of, rule-of};
 ghost use Rattle.model.specs.Interpolant.{interpolant, exact-curve};
-ghost use Rattle.model.specs.Inner.{Good, Inside, Limits};
-ghost use Rattle.point.specs.Inner.{point-of, segment-of};
+ghost use Rattle.model.specs.Inner.{Neighbours, Good, Inside};
+ghost use Rattle.point.specs.Inner.{segment-of};
 use exact::Quotient;
 use point::Point;
 
@@ -211,26 +211,26 @@ fn convex_factor(p: Point, q: Point, area: u32) -> i32
 
 // ---- the factor
 
-// A point as it stands, or mirrored.
-fn faced(turned: bool, p: Point) -> Point
-    requires { ⌜ Limits (point-of p) ⌝ }
-    ensures { λ r. ⌜ point-of r ≡ inner.faced turned (point-of p) ⌝ }
-{
-    if turned {
-        return point::mirror(p);
-    }
-    p
+// A segment as its shape reads it: a code without its mirror, 1 or 2, and both points as they stand or mirrored. In one function,
+// so that the compiler makes one branch of it and no choice for each number.
+pub struct Facing {
+    pub code: u32,
+    pub p: Point,
+    pub q: Point,
 }
 
-// A code without its mirror: 1 or 2.
-fn plain_code(turned: bool, code: u32) -> u32
-    requires { ⌜ (turned ≡ true → 2 ≤ code) ⌝ }
-    ensures { λ r. ⌜ r ≡ cond turned (code - 2) code ⌝ }
+pub fn unmirrored(code: u32, p: Point, q: Point) -> Facing
+    requires { ⌜ Neighbours (segment-of p q) ⌝ }
+    ensures { λ r. ⌜ Unmirrored code (segment-of p q) r ⌝ }
 {
-    if turned {
-        return code - 2;
+    if code > 2 {
+        return Facing {
+            code: code - 2,
+            p: point::mirror(p),
+            q: point::mirror(q),
+        };
     }
-    code
+    Facing { code, p, q }
 }
 
 // That of codes 1 and 2.
@@ -244,21 +244,23 @@ fn plain_factor(code: u32, p: Point, q: Point, area: u32) -> i32
     convex_factor(p, q, area)
 }
 
-// The factor at an area of a segment that has its shape. Of codes 3 and 4 it is 200,000 less that of 1 and 2 on mirrored points:
-// 200,000 is even. All codes go by one call, so that the compiler inlines it.
+// The factor at an area of the segment p q, from the segment as its shape reads it. Of codes 3 and 4 it is 200,000 less that of 1
+// and 2 on mirrored points: 200,000 is even.
+pub fn facing_factor(code: u32, x: Facing, p: Point, q: Point, area: u32) -> i32
+    requires { ⌜ Unmirrored code (segment-of p q) x × Inside (Good (rule-of code)) (segment-of p q) area ⌝ }
+    ensures { λ r. ⌜ r ≡ round (exact-curve (rule-of code) (segment-of p q) area) ⌝ }
+{
+    let f = plain_factor(x.code, x.p, x.q, area);
+    if code > 2 {
+        return point::VALUE_MOST as i32 - f;
+    }
+    f
+}
+
+// The factor at an area of a segment that has its shape.
 pub fn factor(code: u32, p: Point, q: Point, area: u32) -> i32
     requires { ⌜ Inside (Good (rule-of code)) (segment-of p q) area ⌝ }
     ensures { λ r. ⌜ r ≡ round (exact-curve (rule-of code) (segment-of p q) area) ⌝ }
 {
-    let turned = code > 2;
-    let f = plain_factor(
-        plain_code(turned, code),
-        faced(turned, p),
-        faced(turned, q),
-        area,
-    );
-    if turned {
-        return point::VALUE_MOST as i32 - f;
-    }
-    f
+    facing_factor(code, unmirrored(code, p, q), p, q, area)
 }

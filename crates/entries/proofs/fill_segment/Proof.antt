@@ -32,11 +32,11 @@ record FilledFrom (f : ℕ → ℤ) (index i : ℕ) (before after : List ℤ) : 
   pub filled : (found : List ℤ) → Filling f index found before → Filling f i found after
 
 abbrev Inv-loop : tie.InvT-loop
-Inv-loop areas values slopes shape k start step index out₀ p q i₀ out i =
+Inv-loop areas values slopes shape k start step index out₀ p q x i₀ out i =
     FilledFrom (λ j. reading (points areas values slopes) shape (entry-area start step j)) index i out₀ out
 
 abbrev μ-loop : tie.MeasureT-loop
-μ-loop areas values slopes shape k start step index out₀ p q i₀ out i = length out₀ - i
+μ-loop areas values slopes shape k start step index out₀ p q x i₀ out i = length out₀ - i
 
 abbrev entry : tie.After-shared-slice-known2 Inv-loop μ-loop → tie.Start Inv-loop μ-loop
 entry c = c .before .before
@@ -64,13 +64,25 @@ module _ (c : tie.After-point-at2 Inv-loop μ-loop) where
   segment-is : segment-of (c .before .point-at .result) (c .point-at2 .result) ≡ segment-at ps (start .args .k)
   segment-is = rw (c .before .point-at .ensures, c .point-at2 .ensures, add-one)
 
+-- the first entry takes the segment, so its ends are neighbours
+unmirrored-requires : tie.Need-unmirrored-requires Inv-loop μ-loop
+unmirrored-requires c κs =
+    let s = start c in
+    let fields = fields-of (s .args .areas .now) (s .args .values .now) (s .args .slopes .now) (s .pre .entries .alike) in
+    let r : Readable (ps c) (s .args .shape) (s .args .k) (entry-area (s .args .start) (s .args .step) (s .args .index)) = record {
+      accepted = s .pre .entries .accepted;
+      within = s .pre .entries .inside (s .args .index) (s .pre .left);
+      taken = rw (fields .areas-are) (s .pre .taken);
+    } in
+    rw (segment-is c) (inside r .good .ends)
+
 loop-holds : tie.Need-loop-holds Inv-loop μ-loop
-loop-holds c = record { least = le-refl _; most = le-of-lt (start c .pre .left); size = refl; filled = λ found k. k }
+loop-holds c = record { least = le-refl _; most = le-of-lt (start (c .before) .pre .left); size = refl; filled = λ found k. k }
 
 -- the entry in a turn
 module _ (c : tie.In-loop Inv-loop μ-loop) where
   abbrev at-points : tie.After-point-at2 Inv-loop μ-loop
-  at-points = c .before .before
+  at-points = c .before .before .before
 
   i-below : c .before .loop .i < length (start at-points .args .out .now)
   i-below = omega (arith, c .before .loop .inv .size, c .loop-test .taken)
@@ -115,22 +127,24 @@ readable c =
       taken = rw (fields .areas-are) (c .before .takes .ensures .yes (not-false _ (c .if1 .left)));
     }
 
-factor-requires : tie.Need-factor-requires Inv-loop μ-loop
-factor-requires c κs = rw (segment-is (at-points (c .before .before .before))) (inside (readable c))
+facing-factor-requires : tie.Need-facing-factor-requires Inv-loop μ-loop
+facing-factor-requires c κs =
+    let t = c .before .before .before in
+    (t .before .before .unmirrored .ensures, rw (segment-is (at-points t)) (inside (readable c)))
 
 -- what is written is the reading
-abbrev at-turn : tie.After-factor Inv-loop μ-loop → tie.In-loop Inv-loop μ-loop
+abbrev at-turn : tie.After-facing-factor Inv-loop μ-loop → tie.In-loop Inv-loop μ-loop
 at-turn c = c .before .before .before .before
 
-written-is : (c : tie.After-factor Inv-loop μ-loop) →
+written-is : (c : tie.After-facing-factor Inv-loop μ-loop) →
     (let b = at-points (at-turn c) in
     let s = start b in
-    toZ w32 (ofZ w32 (c .factor .result))
+    toZ w32 (ofZ w32 (c .facing-factor .result))
     ≡ reading (ps b) (s .args .shape) (entry-area (s .args .start) (s .args .step) (at-turn c .before .loop .i)))
 written-is c =
     let a = c .before .before .before in
     let b = at-points (at-turn c) in
-    toZ-ofZ (record { sfits = c .factor .ok }) ∙ c .factor .ensures
+    toZ-ofZ (record { sfits = c .facing-factor .ok }) ∙ c .facing-factor .ensures
     ∙ rw (segment-is b) (sym (reading-is (readable (c .before)))) ∙ ap (reading (ps b) _) (a .area-of .ensures)
 
 loop-again : tie.Need-loop-again Inv-loop μ-loop
@@ -150,14 +164,14 @@ loop-again c =
 returns-2 : tie.Need-returns-2 Inv-loop μ-loop
 returns-2 c =
     let k = c .before .loop .inv in
-    let l = start (c .before .before) .pre .left in
+    let l = start (c .before .before .before) .pre .left in
     record { more = omega (arith, k .size, c .loop-test .left); most = k .most; filled = k .filled }
 
 pub fill-segment-spec : {M : Type 1} → statement M
 fill-segment-spec =
     tie.close
-    (tie.spec Inv-loop μ-loop point-at-requires add-point-at point-at-requires-2 loop-holds area-of-requires takes-requires
-    (λ c. c .before .before .before .before .loop .inv .size) returns factor-requires
+    (tie.spec Inv-loop μ-loop point-at-requires add-point-at point-at-requires-2 unmirrored-requires loop-holds area-of-requires takes-requires
+    (λ c. c .before .before .before .before .loop .inv .size) returns facing-factor-requires
     (λ c. omega (arith, i-below (at-turn c), start (at-points (at-turn c)) .good)) (λ c. at-turn c .loop-test .taken)
     (λ c. omega (arith, i-below (at-turn c), start (at-points (at-turn c)) .good)) (λ c. omega (arith, i-below (at-turn c)))
     loop-again (λ c. c .before .loop .inv .size) returns-2)

@@ -1,104 +1,12 @@
--- `segment::factor` meets its contract. The rounding of 200,000 less a value is 200,000 less the value's, as 200,000 is even.
+-- `segment::factor` meets its contract.
 -- Assumes nothing.
-use mathlib.Core.Path.{_≡_, refl, sym, _∙_, ap}
-use mathlib.Core.Bool.{Bool, true, false, cond}
-use Prim.Native.Nat.{ℕ, _-_, _≤_}
-use native.Mathlib.Nat.{le-of-lt}
-use native.Mathlib.Omega.{arith}
-use borrow.Author.Needs.{needs}
-use borrow.Author.Tests.{ltb-true, ltb-false}
-use lib.Dec.{ltb}
-use lib.IntN.{ℤ, pos, natAbs, _-ℤ_}
-use mir.Syntax.{w32}
-use mir.Val.{SFits, toZ, ofZ}
+use mathlib.Core.Path.{_∙_}
 use mir.Facts.{toZ-ofZ}
-use Rattle.exact.specs.Rounding.{round}
-use Rattle.exact.proofs.Magnitude.{size--, sfits-of-size}
-use Rattle.exact.proofs.Rounding.{round-rounding}
-use Rattle.model.specs.Points.{value-most, Segment, between, plain, shape-of, rule-of}
-use Rattle.model.specs.Interpolant.{interpolant, exact-curve}
-use Rattle.model.specs.Inner.{Good, Inside}
-use Rattle.model.proofs.Codes.{plain-of, mirrored-of}
-use Rattle.model.proofs.Mirror.{value-most-even, mirror-inside, curve-proper}
-use Rattle.point.specs.Inner.{segment-of}
-use Rattle.segment.specs.Inner.{faced}
-use Rattle.segment.proofs.Distances.{factor-size}
 use Rattle.segment.proofs.factor.Statement.{statement}
 use Rattle.segment.proofs.factor.Tie as tie
-
-module _ (code : ℕ) (s : Segment) (x : ℕ) (i : Inside (Good (rule-of code)) s x) where
-  -- the segment as the shape of its code reads it
-  abbrev facing : Bool → Segment
-  facing turned = between (faced turned (s .left)) (faced turned (s .right))
-
-  abbrev reading : Bool → ℤ
-  reading turned = round (interpolant (shape-of (cond turned (code - 2) code)) (facing turned) x)
-
-  inside : (turned : Bool) → ltb 2 code ≡ turned →
-      Inside (Good (plain (shape-of (cond turned (code - 2) code)))) (facing turned) x
-  inside true e = mirror-inside (rw (mirrored-of (ltb-true 2 code e)) at i)
-  inside false e = rw (plain-of (ltb-false 2 code e)) at i
-
-  reading-size : (turned : Bool) → ltb 2 code ≡ turned → natAbs (reading turned) ≤ 400000
-  unfolding exact-curve
-  reading-size turned e = factor-size (inside turned e)
-
-  taken-off : ltb 2 code ≡ true → pos value-most -ℤ reading true ≡ round (exact-curve (rule-of code) s x)
-  unfolding exact-curve
-  taken-off e =
-      rw (mirrored-of (ltb-true 2 code e))
-      (sym (round-rounding .from-even (pos value-most) value-most-even _ (curve-proper (inside true e))))
-
-  as-it-stands : ltb 2 code ≡ false → reading false ≡ round (exact-curve (rule-of code) s x)
-  unfolding exact-curve
-  as-it-stands e = rw (plain-of (ltb-false 2 code e))
-
--- ---- as the code has them
-
-module _ (c : tie.Start) where
-  abbrev turned : Bool
-  turned = ltb 2 (c .args .code)
-
-  abbrev read : Bool → ℤ
-  read = reading (c .args .code) (segment-of (c .args .p) (c .args .q)) (c .args .area) (c .pre)
-
-  result-fits : SFits w32 (pos value-most -ℤ read turned)
-  result-fits =
-      let most = reading-size (c .args .code) _ (c .args .area) (c .pre) turned refl in
-      sfits-of-size w32 _ (omega (arith, size-- (pos value-most) (read turned), most))
-
-plain-factor-requires : tie.Need-plain-factor-requires
-plain-factor-requires c κs =
-    let s = c .before .before .before in
-    rw (c .before .before .plain-code .ensures, c .before .faced .ensures, c .faced2 .ensures)
-    (inside (s .args .code) _ (s .args .area) (s .pre) (turned s) refl)
-
-reading-read : (c : tie.After-plain-factor) → (let s = c .before .before .before .before in
-    toZ w32 (ofZ w32 (c .plain-factor .result)) ≡ read s (turned s))
-reading-read c =
-    let e = c .before in
-    toZ-ofZ (record { sfits = c .plain-factor .ok })
-    ∙ (rw (e .before .before .plain-code .ensures, e .before .faced .ensures, e .faced2 .ensures) at (c .plain-factor .ensures))
-
-sub-result : tie.Need-sub-result
-sub-result c = rw (reading-read (c .before)) (result-fits (c .before .before .before .before .before))
-
-returns : tie.Need-returns
-returns c =
-    let s = c .before .before .before .before .before in
-    rw (reading-read (c .before))
-    (toZ-ofZ (result-fits s)
-    ∙ ap (λ (t : Bool). pos value-most -ℤ read s t) (c .if1 .taken)
-    ∙ taken-off (s .args .code) _ (s .args .area) (s .pre) (c .if1 .taken))
-
-returns-2 : tie.Need-returns-2
-returns-2 c =
-    let s = c .before .before .before .before .before in
-    reading-read (c .before)
-    ∙ ap (λ (t : Bool). read s t) (c .if1 .left) ∙ as-it-stands (s .args .code) _ (s .args .area) (s .pre) (c .if1 .left)
 
 pub factor-spec : {M : Type 1} → statement M
 factor-spec =
     tie.close
-    (tie.spec (λ c κs e. le-of-lt (ltb-true 2 (c .args .code) e)) (λ c κs. c .before .pre .good .ends .left)
-    (λ c κs. c .before .before .pre .good .ends .right) plain-factor-requires (search needs) sub-result returns returns-2)
+    (tie.spec (λ c κs. c .pre .good .ends) (λ c κs. (c .unmirrored .ensures, c .before .pre))
+    (λ c. toZ-ofZ (record { sfits = c .facing-factor .ok }) ∙ c .facing-factor .ensures))
