@@ -69,7 +69,8 @@ unmirrored-requires : tie.Need-unmirrored-requires Inv-loop μ-loop
 unmirrored-requires c κs =
     let s = start c in
     let fields = fields-of (s .args .areas .now) (s .args .values .now) (s .args .slopes .now) (s .pre .entries .alike) in
-    let r : Readable (ps c) (s .args .shape) (s .args .k) (entry-area (s .args .start) (s .args .step) (s .args .index)) = record {
+    let area = entry-area (s .args .start) (s .args .step) (s .args .index) in
+    let r : Readable (ps c) (s .args .shape) (s .args .k) area = record {
       accepted = s .pre .entries .accepted;
       within = s .pre .entries .inside (s .args .index) (s .pre .left);
       taken = rw (fields .areas-are) (s .pre .taken);
@@ -170,8 +171,8 @@ returns-2 c =
 pub fill-segment-spec : {M : Type 1} → statement M
 fill-segment-spec =
     tie.close
-    (tie.spec Inv-loop μ-loop point-at-requires add-point-at point-at-requires-2 unmirrored-requires loop-holds area-of-requires takes-requires
-    (λ c. c .before .before .before .before .loop .inv .size) returns facing-factor-requires
+    (tie.spec Inv-loop μ-loop point-at-requires add-point-at point-at-requires-2 unmirrored-requires loop-holds
+    area-of-requires takes-requires (λ c. c .before .before .before .before .loop .inv .size) returns facing-factor-requires
     (λ c. omega (arith, i-below (at-turn c), start (at-points (at-turn c)) .good)) (λ c. at-turn c .loop-test .taken)
     (λ c. omega (arith, i-below (at-turn c), start (at-points (at-turn c)) .good)) (λ c. omega (arith, i-below (at-turn c)))
     loop-again (λ c. c .before .loop .inv .size) returns-2)

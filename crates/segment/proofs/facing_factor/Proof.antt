@@ -1,4 +1,4 @@
--- `segment::facing_factor` meets its contract. The rounding of 200,000 less a value is 200,000 less the value's, as 200,000 is even.
+-- `segment::facing_factor` meets its contract. The rounding of 200,000 less a value is 200,000 less the value's: 200,000 is even.
 -- Assumes nothing.
 use mathlib.Core.Path.{_≡_, refl, sym, _∙_, ap}
 use mathlib.Core.Bool.{Bool, true, false, cond}
