@@ -13,7 +13,7 @@ import re
 import sys
 
 NAME = r"[^\s(){}.;,@\"«»\[\]|\\]+"
-QUIET = re.compile(r'"(?:[^"\\\n]|\\.)*"|--(?=[ \n-])[^\n]*|//[^\n]*')
+QUIET = re.compile(r'"(?:[^"\\\n]|\\.)*"|(?<![^\s(){}.;,@"«»])--[^\n]*|//[^\n]*')
 MADE = re.compile(r"^(Need|After|Else|Then|Start|returns|loop|invariant|decreases|overflow|index|If|Lts|cast|div|rem|range|shr|shl)(-|$)"
                   r"|-(requires|again|spec|preserved|bounds|smaller|holds)(-\d+)?$")
 OWN_USE = re.compile(r"\buse (Rattle\.([a-z_0-9]+)\.[\w.+]*)\.\{([^}]*)\}", re.S)

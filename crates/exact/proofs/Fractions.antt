@@ -48,7 +48,7 @@ proper_+ h k = record { above_0 = Z.positive_* h.above_0 k.above_0 }
 
 pub proper-- : {x y : Fraction} → Proper x → Proper y → Proper (x -ℚ y)
 unfolding ◌-ℚ◌
-proper-- h k = record { above-0 = Z.positive-* h.above-0 k.above-0 }
+proper-- h k = record { above_0 = Z.positive_* h.above_0 k.above_0 }
 
 pub proper_* : {x y : Fraction} → Proper x → Proper y → Proper (x *ℚ y)
 unfolding ◌*ℚ◌

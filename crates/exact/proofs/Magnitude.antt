@@ -49,7 +49,7 @@ size_+ (negsuc a) (pos b) = omega (arith, size_subℕ b (suc a))
 size_+ (negsuc a) (negsuc b) = omega arith
 
 pub size-- : (x y : ℤ) → nat_abs (x -ℤ y) ≤ nat_abs x + nat_abs y
-size-- x y = rw (size-neg y) at (size-+ x (neg_ℤ y))
+size-- x y = rw (size_neg y) at (size_+ x (neg_ℤ y))
 
 pub size_* : (x y : ℤ) → nat_abs (x *ℤ y) ≡ nat_abs x * nat_abs y
 size_* (pos a) (pos b) = refl

@@ -171,10 +171,10 @@ half_even_from {x} {k} z px ez h = record {
       (field (x ∷ℚ z ∷ k ∷ []) (search ratios depth 20 fits 9999) tt) (Q.nonneg_difference h.high);
   high = Q.≤_by (search propers) (search (propers, proper_half)) (whole k -ℚ (x -ℚ half)) (search (propers, proper_half))
       (field (x ∷ℚ z ∷ k ∷ []) (search ratios depth 20 fits 9999) tt) (Q.nonneg_difference h.low);
-  even_at_half = λ at. test_of_even (even-- ez (even-of-test k (h.even-at-half (elim at [
-    | inl e ↦ inr (from_other (Q.≈_trans (search (propers, proper_half)) (Q.≈-- (Q.≈-refl (whole z)) e)
+  even_at_half = λ at. test_of_even (even-- ez (even_of_test k (h.even_at_half (elim at [
+    | inl e ↦ inr (from_other (Q.≈_trans (search (propers, proper_half)) (Q.≈-- (Q.≈_refl (whole z)) e)
         (field (x ∷ℚ z ∷ []) (search ratios depth 20 fits 9999) tt)))
-    | inr e ↦ inl (from_other (Q.≈_trans (search (propers, proper_half)) (Q.≈-- (Q.≈-refl (whole z)) e)
+    | inr e ↦ inl (from_other (Q.≈_trans (search (propers, proper_half)) (Q.≈-- (Q.≈_refl (whole z)) e)
         (field (x ∷ℚ z ∷ []) (search ratios depth 20 fits 9999) tt)))
   ]))));
 }
@@ -222,7 +222,7 @@ at_half {x} {k} {j} px e f = record {
   where
     below : x -ℚ half ≈ℚ whole k
     below =
-        Q.≈_trans (search (propers, proper_half)) (Q.≈-- e (Q.≈-refl half))
+        Q.≈_trans (search (propers, proper_half)) (Q.≈-- e (Q.≈_refl half))
         (field (k ∷ []) (search ratios depth 20 fits 9999) tt)
 
     above : x +ℚ half ≈ℚ whole (k +ℤ pos 1)
@@ -248,7 +248,7 @@ module _ (x : Fraction) (px : Proper x) where
     x_is : x ≈ℚ whole (up -ℤ pos 1) +ℚ half
     x_is =
         Q.≈_trans (search (propers, proper_half)) (field (x ∷ℚ []) (search ratios depth 20 fits 9999) tt)
-        (Q.≈_trans (search (propers, proper_half)) (Q.≈-- (Q.≈-sym e) (Q.≈-refl half))
+        (Q.≈_trans (search (propers, proper_half)) (Q.≈-- (Q.≈_sym e) (Q.≈_refl half))
         (field (up ∷ []) (search ratios depth 20 fits 9999) tt))
 
     before_up : whole (up -ℤ pos 1) ≤ℚ x

@@ -70,7 +70,7 @@ taken_back {p} {v} l c =
     let q = c.proper in
     record {
       proper = search propers;
-      same = Q.≈_trans (search propers) (Q.≈-- (Q.≈-refl _) c.same) (rw (sym (Z.difference-of-≤ l.value)) back);
+      same = Q.≈_trans (search propers) (Q.≈-- (Q.≈_refl _) c.same) (rw (sym (Z.difference_of_≤ l.value)) back);
     }
   where
     back : whole (pos value_most) -ℚ whole (pos value_most -ℤ pos p.value) ≈ℚ whole (pos p.value)

@@ -53,10 +53,10 @@ module _ {s : Segment} (n : Neighbours s) where
   g_size = omega (arith, rise_size, size_* (pos 100) (rise s))
 
   pub a_size : nat_abs (a s) ≤ 2 * over_most
-  a_size = omega (arith, size-- (e₁ s) (g s), over-size n.right, g-size)
+  a_size = omega (arith, size-- (e₁ s) (g s), over_size n.right, g_size)
 
   pub b_size : nat_abs (b s) ≤ 2 * over_most
-  b_size = omega (arith, size-- (g s) (e₀ s), over-size n.left, g-size)
+  b_size = omega (arith, size-- (g s) (e₀ s), over_size n.left, g_size)
 
   pub e₀_fits : SFits w32 (e₀ s)
   e₀_fits = over_fits (e₀ s) (omega (arith, over_size n.left))

@@ -51,7 +51,7 @@ module _ (c : tie.Start) where
   quotient_read = to_z_pos w32 (omega (arith, quotient_size))
 
   result_fits : SFits w32 (pos quotient -ℤ pos 1000000)
-  result_fits = sfits_of_size w32 _ (omega (arith, size-- (pos quotient) (pos 1000000), quotient-size))
+  result_fits = sfits_of_size w32 _ (omega (arith, size-- (pos quotient) (pos 1000000), quotient_size))
 
   floor_is : pos quotient -ℤ pos 1000000 ≡ floor_div n d
   unfolding floor_div

@@ -67,14 +67,14 @@ module _ (c : tie.Start) where
   even_of_0 : odd ≡ 0 → T (even k)
   unfolding even
   even_of_0 e =
-      test_of_even {z = k} (rw (taken_off k) at (even-- (even-of-test raised (rw (sym odd-read ∙ e) tt)) million-even))
+      test_of_even {z = k} (rw (taken_off k) at (even-- (even_of_test raised (rw (sym odd_read ∙ e) tt)) million_even))
 
   next_even_of_1 : odd ≡ 1 → T (even (k +ℤ pos 1))
   unfolding even
   next_even_of_1 e =
       elim (even_or_next raised) [
         | inl w ↦ absurd (subst T (ap (λ (n : ℕ). eqb n 0) (sym odd_read ∙ e)) (test_of_even w))
-        | inr w ↦ test_of_even {z = k +ℤ pos 1} (rw (taken_off_next k) at (even-- w million-even))
+        | inr w ↦ test_of_even {z = k +ℤ pos 1} (rw (taken_off_next k) at (even-- w million_even))
       ]
 
 returns : tie.Need-returns

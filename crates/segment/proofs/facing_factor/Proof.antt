@@ -60,7 +60,7 @@ module _ (c : tie.Start) where
   result_fits : SFits w32 (pos value_most -ℤ read turned)
   result_fits =
       let most = reading_size c.args.code _ c.args.area c.requires.1 turned refl in
-      sfits_of_size w32 _ (omega (arith, size-- (pos value-most) (read turned), most))
+      sfits_of_size w32 _ (omega (arith, size-- (pos value_most) (read turned), most))
 
 plain-factor-requires : tie.Need-plain-factor-requires
 plain-factor-requires c κs =

@@ -74,7 +74,7 @@ module _ (c : tie.Start) where
   k_read = to_z_pos w32 (omega (arith, k_size))
 
   before_fits : SFits w32 (pos k -ℤ pos 1)
-  before_fits = sfits_of_size w32 _ (omega (arith, size-- (pos k) (pos 1), k-size))
+  before_fits = sfits_of_size w32 _ (omega (arith, size-- (pos k) (pos 1), k_size))
 
   proper : Proper ((pos c.args.left *ℤ pos b +ℤ pos n) over pos b)
   proper = Q.proper_over _ _ (Z.pos_<_of_< c.requires.above_0)
@@ -113,7 +113,7 @@ nearest-requires c κs =
     let s = e.before.before in
     rw (e.before.part.ensures, e.part2.ensures, k_read s, to_z-of_z (before_fits s))
     (record {
-      size = omega (arith, size-- (pos (k s)) (pos 1), k-size s);
+      size = omega (arith, size-- (pos (k s)) (pos 1), k_size s);
       above_0 = s.requires.above_0;
       part = omega arith;
       divisor = omega (arith, whole_size s.requires);
