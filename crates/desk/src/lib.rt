@@ -1,4 +1,5 @@
 // The desk reading, for C.
+#![tactic(auto)]
 ghost use Rattle.std.specs.Prelude.{◌≡◌, ◌≤◌, ◌++◌, length, take, drop};
 ghost use Rattle.model.specs.Answer.{filled};
 ghost use Rattle.desk_answer.specs.Desk.{desk_answer, desk_number, point_records};

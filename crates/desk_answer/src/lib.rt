@@ -1,4 +1,5 @@
 // What both desk readings share: all but the scratch.
+#![tactic(auto)]
 ghost use Rattle.std.specs.Prelude.{◌≡◌, ◌≤◌, pos, neg_ℤ, ◌-ℤ◌, length};
 ghost use Rattle.model.specs.Answer.{gives};
 ghost use Rattle.model.specs.Read.{reading};

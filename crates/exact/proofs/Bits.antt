@@ -40,4 +40,4 @@ module _ {w : Width} {a b : ℤ} (fa : SFits w a) (fb : SFits w b) where
 pub to_z_of_z_get_or : (l : List ℤ) (i : ℕ) →
     mag (get_or l i (pos 0)) < 2 ^ hbits w32 →
     to_z w32 (of_z w32 (get_or l i (pos 0))) ≡ get_or l i (pos 0)
-to_z_of_z_get_or l i h = to_z-of_z (record { sfits = h })
+to_z_of_z_get_or l i h = to_z-of_z {w = w32} (record { sfits = h })

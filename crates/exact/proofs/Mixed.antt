@@ -3,16 +3,16 @@
 --   stays, goes_up    k + r / d is rounded to k, or to k + 1
 --   round_sticky      of what two divisions left, the rounding asks of the first only whether it left anything
 -- Assumes nothing.
-use mathlib.Core.Path.{◌≡◌, sym, ◌∙◌, ap}
+use mathlib.Core.Path.{◌≡◌, sym, ◌∙◌}
 use mathlib.Core.List.{List, [], ◌∷◌}
-use mathlib.Core.Logic.{◌⊎◌, inl, inr}
+use mathlib.Core.Logic.{inl, inr}
 use Prim.Native.Nat.{ℕ, ◌*◌, ◌≤◌, ◌<◌}
 use native.Mathlib.Omega.{arith}
 use borrow.Author.Tests.{eqb-true, eqb-false}
 use lib.Dec.{T, eqb}
 use lib.IntN.{ℤ, pos, ◌+ℤ◌, ◌-ℤ◌, ◌*ℤ◌, +ℤ_invr}
 use lib.Signed.{◌≤ℤ◌, ◌<ℤ◌, clash_ℤ}
-use Rattle.exact.specs.Fraction.{Fraction, Proper, ◌over◌, whole, ◌+ℚ◌, ◌-ℚ◌, ◌≈ℚ◌, ◌≤ℚ◌, ◌<ℚ◌}
+use Rattle.exact.specs.Fraction.{Fraction, ◌over◌, whole, ◌+ℚ◌, ◌-ℚ◌, ◌≈ℚ◌, ◌≤ℚ◌, ◌<ℚ◌}
 use Rattle.exact.specs.Rounding.{half, even, HalfEven, Rounding}
 use Rattle.exact.specs.Inner.{sticky}
 use Rattle.exact.proofs.Tests.{true_or_false}

@@ -5,12 +5,12 @@
 --   rounding_at_whole    what is the whole number k is rounded to k
 -- Assumes nothing.
 use mathlib.Core.Path.{◌≡◌, refl, sym, ◌∙◌, ap, ap₂, subst, ◌≡⟨◌⟩◌, ◌∎}
-use mathlib.Core.Bool.{Bool, true, false, cond}
+use mathlib.Core.Bool.{Bool, false, cond}
 use mathlib.Core.List.{[], ◌∷◌}
 use mathlib.Core.Logic.{◌⊎◌, inl, inr}
 use Prim.Native.Nat.{ℕ, suc, ◌*◌, ◌/◌, ◌%◌}
 use native.Mathlib.Omega.{arith}
-use lib.Dec.{T, eqb, eqb→eq, eqb_refl, lit<}
+use lib.Dec.{T, eqb→eq, eqb_refl, lit<}
 use lib.IntN.{ℤ, pos, negsuc, neg_ℤ, nat_abs, ◌+ℤ◌, ◌-ℤ◌, ◌*ℤ◌}
 use lib.Signed.{◌≤ℤ◌, ◌<ℤ◌, clash_ℤ}
 use Rattle.exact.specs.Fraction.{Fraction, Proper, whole, ◌+ℚ◌, ◌-ℚ◌, ◌≈ℚ◌, ◌≤ℚ◌, ◌<ℚ◌, eqℚ}

@@ -1,4 +1,6 @@
 // Exact arithmetic: floor division, the rounding of k + r / d, and quotient and remainder of a product that may pass 64 bits.
+#![tactic(auto)]
+
 ghost use Rattle.std.specs.Prelude.{◌≡◌, pos, ◌+ℤ◌, ◌*ℤ◌, ◌*◌};
 ghost use Rattle.exact.specs.Fraction.{◌over◌};
 ghost use Rattle.exact.specs.Rounding.{floor_div, round};

@@ -1,4 +1,5 @@
 // Open, for C.
+#![tactic(auto)]
 ghost use Rattle.std.specs.Prelude.{◌≡◌, map, length};
 ghost use Rattle.model.specs.Answer.{filled};
 ghost use Rattle.layout.specs.Layout.{points_of};

@@ -1,1 +1,2 @@
 // Slopes by the harmonic rule in definitions (specs/) and their laws (proofs/); no code.
+#![tactic(auto)]

@@ -4,7 +4,8 @@
 --   mirror_curve, mirror_area    that curve; it has the same areas
 -- Assumes nothing.
 use mathlib.Core.Path.{◌≡◌, refl, ◌∙◌, ap}
-use mathlib.Core.Bool.{false}
+use mathlib.Core.Bool.{false, cond}
+use lib.Dec.{leb}
 use mathlib.Core.List.{List, [], ◌∷◌, map}
 use mathlib.Core.Option.{Option, none, some}
 use Prim.Native.Nat.{ℕ, zero, suc, ◌-◌, ◌≤◌, ◌<◌}
@@ -62,7 +63,7 @@ rows_mirror i shape (s ∷ ss) = rw (rows_mirror (suc i) shape ss)
 last_mirror : (x last i : ℕ) (ss : List Segment) → last_from x last i (map mirror_segment ss) ≡ last_from x last i ss
 unfolding last_from mirror
 last_mirror x last i [] = refl
-last_mirror x last i (s ∷ ss) = last_mirror x _ (suc i) ss
+last_mirror x last i (s ∷ ss) = last_mirror x (cond (leb s.left.area x) i last) (suc i) ss
 
 read_mirror : (ps : List Point) (x : ℕ) → segment_read (map mirror ps) x ≡ segment_read ps x
 unfolding segment_read

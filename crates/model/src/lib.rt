@@ -1,1 +1,2 @@
 // Document 01 in definitions (specs/) and their laws (proofs/); no code.
+#![tactic(auto)]

@@ -1,4 +1,5 @@
 // The factors at two areas of one curve, from the reading's promise alone.
+#![tactic(auto)]
 ghost use Rattle.std.specs.Prelude.{◌≡◌};
 ghost use Rattle.model.specs.Check.{on_lists};
 ghost use Rattle.pair.specs.Pair.{pair_answer};

@@ -1,1 +1,2 @@
 // The third demand: theorems over the definitions of all the calls. No code.
+#![tactic(auto)]

@@ -1,4 +1,5 @@
 // Prints the sheet of the curve file on standard input.
+#![tactic(auto)]
 ghost use Rattle.ratesheet.specs.Inner.{Came};
 
 use libc::{STDERR_FILENO, STDIN_FILENO, STDOUT_FILENO};

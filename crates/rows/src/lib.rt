@@ -1,4 +1,5 @@
 // Rows 1 to 6 of the refusal table, of points in three lists.
+#![tactic(auto)]
 ghost use Rattle.std.specs.Prelude.{◌≡◌, true, false, length};
 ghost use Rattle.std.proofs.Math.Option.{none};
 ghost use Rattle.model.specs.Answer.{gives};

@@ -1,4 +1,5 @@
 // The text of a curve file's sheet, in a lent buffer.
+#![tactic(auto)]
 ghost use Rattle.std.specs.Prelude.{◌≡◌, ◌++◌, ◌+◌, ◌*◌, ◌≤◌, length, take};
 ghost use Rattle.io.specs.Counts.{IsPrefixLen};
 ghost use Rattle.model.specs.Answer.{gives, ◌then◌};

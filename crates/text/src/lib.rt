@@ -1,5 +1,6 @@
 // Text put into a lent buffer, piece after piece. `at` says how many bytes of the buffer are text already; each function puts
 // its piece after them, and gives how many are text then.
+#![tactic(auto)]
 ghost use Rattle.std.specs.Prelude.{◌≡◌, ◌+◌, ◌≤◌, nat_abs, length};
 ghost use Rattle.text.specs.Text.{decimal as Text·decimal, signed as Text·signed};
 ghost use Rattle.text.specs.Inner.{Put};

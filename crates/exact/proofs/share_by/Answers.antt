@@ -1,19 +1,17 @@
 -- `exact::share_by` meets its contract. With c = d k − g and x y = n k + l, the product is q c + r for r = (n mod d) k + q g + l,
 -- which is less than 2 c.
 -- Assumes nothing.
-use mathlib.Core.Path.{◌≡◌, sym, ap, ◌∙◌, ◌≡⟨◌⟩◌, ◌∎}
+use mathlib.Core.Path.{◌≡◌, sym, ap, ◌≡⟨◌⟩◌, ◌∎}
 use mathlib.Core.List.{[], ◌∷◌}
 use Prim.Native.Nat.{ℕ, ◌+◌, ◌-◌, ◌*◌, ◌/◌, ◌%◌, ◌^◌, ◌≤◌, ◌<◌}
 use native.Mathlib.Nat.{mod-lt, mul-le-mul_left, mul-le-mul_right, le-mul_of_pos_right, div-add-mod', le-div_iff_mul-le}
 use native.Mathlib.Nat.{le_trans, le_of_lt, le-add_right, lt_of_lt_of_le, lt_of_le_of_lt, sub-le, div-le_self}
 use native.Mathlib.Omega.{arith}
-use borrow.Author.Rules.{rules}
 use Rattle.exact.specs.Inner.{Shared}
 use mathlib.Core.Logic.{inl, inr}
 use Rattle.exact.proofs.Tests.{compare}
 use Rattle.exact.proofs.Ring.{ring_ℕ, terms}
-use Rattle.exact.proofs.share_by.Statement.{statement}
-use Rattle.exact.proofs.share_by.Tie as tie
+use Rattle.exact.proofs.share_by.Goals as goal
 
 module _ {x y c k : ℕ} (h : Shared x y c k) where
   abbrev d : ℕ
@@ -102,24 +100,75 @@ module _ {x y c k : ℕ} (h : Shared x y c k) where
 one_more : {n c r : ℕ} (q : ℕ) → n ≡ q * c + r → c ≤ r → n ≡ (q + 1) * c + (r - c)
 one_more q e h = omega arith
 
-returns : tie.Need-returns
-returns c = record { product = divided c.before.requires; rest = c.if1.true }
+pub returns-then-r-c : goal.returns-then-r-c
+returns-then-r-c c = record { product = divided c.before.requires; rest = c.if-r-c.true }
 
-returns-2 : tie.Need-returns-2
-returns-2 c =
+pub returns : goal.returns
+returns c =
     let h = c.before.requires in
-    let low = c.if1.false in
+    let low = c.if-r-c.false in
     record { product = one_more (q h) (divided h) low; rest = omega (arith, rest_most h) }
 
-pub share-by-spec : {M : Type 1} → statement M
-share-by-spec =
-    tie.close
-    (tie.spec (λ c. c.requires.base) (λ c. record { fits = omega (arith, div-le_self c.args.c c.args.k, c.requires.divisor) })
-    (λ c. c.requires.base) (λ c. le_of_lt (mod-lt _ c.requires.base)) (λ c. c.requires.base)
-    (λ c. record { fits = digit_most c.requires }) (λ c. c.requires.base)
-    (λ c. record { fits = lt_of_le_of_lt (le-add_right _ _) (digits_most c.requires) }) (λ c. c.requires.base)
-    (λ c. record { fits = digits_most c.requires }) (search rules) (search rules)
-    (λ c. record { fits = omega (arith, rest_fits c.requires) }) (λ c. record { fits = omega (arith, rest_fits c.requires) })
-    (λ c. record { fits = omega (arith, rest_fits c.requires) }) (λ c. c.requires.base) (λ c. record { fits = rest_fits c.requires })
-    returns
-    (λ c. let h = c.before.requires in record { fits = omega (arith, next_most h, h.divisor) }) returns-2)
+pub nonzero_div-d : goal.nonzero_div-d
+nonzero_div-d c =
+    c.requires.base
+
+pub overflow_add-d : goal.overflow_add-d
+overflow_add-d c =
+    record { fits = omega (arith, div-le_self c.args.c c.args.k, c.requires.divisor) }
+
+pub nonzero_rem-g : goal.nonzero_rem-g
+nonzero_rem-g c =
+    c.requires.base
+
+pub overflow_sub-g : goal.overflow_sub-g
+overflow_sub-g c =
+    le_of_lt (mod-lt _ c.requires.base)
+
+pub nonzero_rem-p : goal.nonzero_rem-p
+nonzero_rem-p c =
+    c.requires.base
+
+pub overflow_mul-p : goal.overflow_mul-p
+overflow_mul-p c =
+    record { fits = digit_most c.requires }
+
+pub nonzero_div-n : goal.nonzero_div-n
+nonzero_div-n c =
+    c.requires.base
+
+pub overflow_mul-n : goal.overflow_mul-n
+overflow_mul-n c =
+    record { fits = lt_of_le_of_lt (le-add_right _ _) (digits_most c.requires) }
+
+pub nonzero_div-n-2 : goal.nonzero_div-n-2
+nonzero_div-n-2 c =
+    c.requires.base
+
+pub overflow_add-n : goal.overflow_add-n
+overflow_add-n c =
+    record { fits = digits_most c.requires }
+
+pub overflow_mul-r : goal.overflow_mul-r
+overflow_mul-r c =
+    record { fits = omega (arith, rest_fits c.requires) }
+
+pub overflow_mul-r-2 : goal.overflow_mul-r-2
+overflow_mul-r-2 c =
+    record { fits = omega (arith, rest_fits c.requires) }
+
+pub overflow_add-r : goal.overflow_add-r
+overflow_add-r c =
+    record { fits = omega (arith, rest_fits c.requires) }
+
+pub nonzero_rem-r-2 : goal.nonzero_rem-r-2
+nonzero_rem-r-2 c =
+    c.requires.base
+
+pub overflow_add-r-2 : goal.overflow_add-r-2
+overflow_add-r-2 c =
+    record { fits = rest_fits c.requires }
+
+pub overflow_add-result : goal.overflow_add-result
+overflow_add-result c =
+    let h = c.before.requires in record { fits = omega (arith, next_most h, h.divisor) }

@@ -13,10 +13,10 @@ use Rattle.exact.proofs.Order as Z
 use Rattle.exact.proofs.Floor.{floor_div_above}
 use Rattle.exact.proofs.Magnitude.{size_+, size--, sfits_of_size, nonneg_above}
 use Rattle.exact.proofs.Signed.{cast-of-natural}
-use Rattle.exact.proofs.floor_div.Statement.{statement}
-use Rattle.exact.proofs.floor_div.Tie as tie
+use Rattle.exact.proofs.floor_div.Goals as goal
+use Rattle.exact.proofs.floor_div.Goals.{Start}
 
-module _ (c : tie.Start) where
+module _ (c : Start) where
   abbrev n : ℤ
   n = c.args.n
 
@@ -61,11 +61,34 @@ module _ (c : tie.Start) where
   result_read : to_z w32 (of_z w32 (to_z w32 quotient -ℤ pos 1000000)) ≡ floor_div n d
   result_read = rw quotient_read (to_z-of_z result_fits ∙ floor_is)
 
-pub floor-div-spec : {M : Type 1} → statement M
-floor-div-spec =
-    tie.close
-    (tie.spec (λ c. omega (arith, c.requires.small)) (λ c. omega (arith, c.requires.small)) (λ c. rw (added c) (above_fits c))
-    (λ c. rw (added c, to_z-of_z (above_fits c)) (cast-of-natural tt (above_fits c) (natural c))) (λ c. c.requires.above_0)
-    (λ c. rw (added c, to_z-of_z (above_fits c)) (sfits_of_size w32 (pos (quotient c)) (omega (arith, quotient_size c))))
-    (λ c. rw (added c, to_z-of_z (above_fits c), quotient_read c) (result_fits c))
-    (λ c. rw (added c, to_z-of_z (above_fits c)) (result_read c)))
+pub overflow_mul-above : goal.overflow_mul-above
+overflow_mul-above c =
+    omega (arith, c.requires.small)
+
+pub overflow_cast-above : goal.overflow_cast-above
+overflow_cast-above c =
+    omega (arith, c.requires.small)
+
+pub overflow_add-above : goal.overflow_add-above
+overflow_add-above c =
+    rw (added c) (above_fits c)
+
+pub overflow_cast-result : goal.overflow_cast-result
+overflow_cast-result c =
+    rw (added c, to_z-of_z (above_fits c)) (cast-of-natural tt (above_fits c) (natural c))
+
+pub nonzero_div-result : goal.nonzero_div-result
+nonzero_div-result c =
+    c.requires.above_0
+
+pub overflow_cast-result-2 : goal.overflow_cast-result-2
+overflow_cast-result-2 c =
+    rw (added c, to_z-of_z (above_fits c)) (sfits_of_size w32 (pos (quotient c)) (omega (arith, quotient_size c)))
+
+pub overflow_sub-result : goal.overflow_sub-result
+overflow_sub-result c =
+    rw (added c, to_z-of_z (above_fits c), quotient_read c) (result_fits c)
+
+pub returns : goal.returns
+returns c =
+    rw (added c, to_z-of_z (above_fits c)) (result_read c)

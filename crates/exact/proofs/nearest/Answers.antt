@@ -3,9 +3,8 @@
 use mathlib.Core.Path.{◌≡◌, sym, ◌∙◌, ap, subst}
 use mathlib.Core.List.{[], ◌∷◌}
 use mathlib.Core.Logic.{inl, inr}
-use Prim.Native.Nat.{ℕ, ◌%◌, ◌*◌, ◌<◌}
+use Prim.Native.Nat.{ℕ, ◌%◌}
 use native.Mathlib.Omega.{arith}
-use borrow.Author.Rules.{rules}
 use lib.Dec.{T, eqb}
 use lib.IntN.{ℤ, pos, nat_abs, ◌+ℤ◌, ◌-ℤ◌, ◌*ℤ◌, +ℤ_comm}
 use mir.Syntax.{w32}
@@ -13,7 +12,6 @@ use mir.Val.{SFits, to_z, of_z}
 use mir.Facts.{to_z-of_z}
 use Rattle.exact.specs.Fraction.{Proper, ◌over◌}
 use Rattle.exact.specs.Rounding.{even}
-use Rattle.exact.specs.Inner.{Mixed}
 use Rattle.exact.proofs.Ring.{ring, terms}
 use Rattle.exact.proofs.Order as Z
 use Rattle.exact.proofs.Fractions as Q
@@ -21,8 +19,8 @@ use Rattle.exact.proofs.Magnitude.{size_+, sfits_of_size, nonneg_above}
 use Rattle.exact.proofs.Signed.{cast-of-natural}
 use Rattle.exact.proofs.Rounding.{Even, even_of_test, test_of_even, even--, even_or_next, round_rounding}
 use Rattle.exact.proofs.Mixed.{stays, goes_up}
-use Rattle.exact.proofs.nearest.Statement.{statement}
-use Rattle.exact.proofs.nearest.Tie as tie
+use Rattle.exact.proofs.nearest.Goals as goal
+use Rattle.exact.proofs.nearest.Goals.{Start}
 
 million_even : Even (pos 1000000)
 unfolding even
@@ -34,10 +32,10 @@ taken_off k = ring (k ∷ []) (search terms depth 20 fits 9999) tt
 taken_off_next : (k : ℤ) → k +ℤ pos 1000000 +ℤ pos 1 -ℤ pos 1000000 ≡ k +ℤ pos 1
 taken_off_next k = ring (k ∷ []) (search terms depth 20 fits 9999) tt
 
-proper : (c : tie.Start) → Proper ((c.args.k *ℤ pos c.args.d +ℤ pos c.args.r) over pos c.args.d)
+proper : (c : Start) → Proper ((c.args.k *ℤ pos c.args.d +ℤ pos c.args.r) over pos c.args.d)
 proper c = Q.proper_over _ _ (Z.pos_<_of_< c.requires.above_0)
 
-module _ (c : tie.Start) where
+module _ (c : Start) where
   abbrev k : ℤ
   k = c.args.k
 
@@ -77,25 +75,30 @@ module _ (c : tie.Start) where
         | inr w ↦ test_of_even {z = k +ℤ pos 1} (rw (taken_off_next k) at (even-- w million_even))
       ]
 
-returns : tie.Need-returns
-returns c =
+pub returns-then-d-r : goal.returns-then-d-r
+returns-then-d-r c =
     let s = c.before in
-    let test = c.if1.true in
+    let test = c.if-d-r.true in
     rw (k_read s, to_z-of_z (next_fits s))
     (sym (round_rounding.unique (proper s)
     (goes_up (k s) s.requires.above_0 s.requires.part (omega arith) (λ e. next_even_of_1 s (omega arith)))))
 
-returns-2 : tie.Need-returns-2
-returns-2 c =
+pub returns : goal.returns
+returns c =
     let s = c.before in
-    let test = c.if1.false in
+    let test = c.if-d-r.false in
     rw (k_read s)
     (sym (round_rounding.unique (proper s)
     (stays (k s) s.requires.above_0 s.requires.part (omega arith) (λ e. even_of_0 s (omega arith)))))
 
-pub nearest-spec : {M : Type 1} → statement M
-nearest-spec =
-    tie.close
-    (tie.spec (λ c. rw (k_read c) (raised_fits c))
-    (λ c. rw (k_read c, to_z-of_z (raised_fits c)) (cast-of-natural tt (raised_fits c) (natural c))) (search rules) (search rules)
-    (λ c. rw (k_read c.before) (next_fits c.before)) returns returns-2)
+pub overflow_add-odd : goal.overflow_add-odd
+overflow_add-odd c =
+    rw (k_read c) (raised_fits c)
+
+pub overflow_cast-odd : goal.overflow_cast-odd
+overflow_cast-odd c =
+    rw (k_read c, to_z-of_z (raised_fits c)) (cast-of-natural tt (raised_fits c) (natural c))
+
+pub overflow_add-result : goal.overflow_add-result
+overflow_add-result c =
+    rw (k_read c.before) (next_fits c.before)
