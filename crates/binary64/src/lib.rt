@@ -1,5 +1,6 @@
 // Binary64 numbers: of a bit pattern, and as whole numbers.
 #![tactic(auto)]
+
 ghost use Rattle.std.specs.Prelude.{◌≡◌, false, pos, T};
 ghost use Rattle.std.specs.Float.{binary64, fin};
 ghost use Rattle.std.specs.Float.Ieee.{fits, of_bits, lt};

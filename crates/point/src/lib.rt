@@ -1,5 +1,6 @@
 // A rated point and its limits.
 #![tactic(auto)]
+
 ghost use Rattle.std.specs.Prelude.{◌≡◌, ℕ, ◌≤◌, [], ◌∷◌};
 ghost use Rattle.model.specs.Points.{area_most, points, mirror};
 ghost use Rattle.model.specs.Check.{bad_area, point_rows};

@@ -7,20 +7,20 @@ use Rattle.point.proofs.Area.{bad_area_of_large, wrapped_gap_test}
 use Rattle.point.proofs.bad_area.Statement.{statement}
 use Rattle.point.proofs.bad_area.Tie as tie
 
-returns : tie.Need-returns
-returns c = sym (bad_area_of_large _ _ c.if1.true)
+returns : tie.Need-returns-then-area-gt-AREA_MOST
+returns c = sym (bad_area_of_large _ _ c.if-area-gt-AREA_MOST.true)
 
-returns-2 : tie.Need-returns-2
+returns-2 : tie.Need-returns-then-first
 unfolding bad_area earlier
-returns-2 c = rw (c.if2.true, le-ltb _ _ c.before.if1.false)
+returns-2 c = rw (c.if-first.true, le-ltb _ _ c.before.if-area-gt-AREA_MOST.false)
 
-returns-3 : tie.Need-returns-3
+returns-3 : tie.Need-returns-then-area-gt-AREA_MOST
 unfolding bad_area earlier
 returns-3 c =
     let b = c.before in
-    rw (b.if2.false, le-ltb _ _ b.before.if1.false)
-    (wrapped_gap_test b.before.before.requires b.before.if1.false c.wrapping-sub-u32.type-inv c.wrapping-sub-u32.ensures)
+    rw (b.if-first.false, le-ltb _ _ b.before.if-area-gt-AREA_MOST.false)
+    (wrapped_gap_test b.before.before.requires b.before.if-area-gt-AREA_MOST.false c.wrapping_sub_u32.type_inv c.wrapping_sub_u32.ensures)
 
-pub bad-area-spec : {M : Type 1} → statement M
-bad-area-spec =
+pub bad_area_spec : {M : Type 1} → statement M
+bad_area_spec =
     tie.close (tie.spec returns returns-2 (search rules) (search rules) returns-3)

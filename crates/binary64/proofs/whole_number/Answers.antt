@@ -2,7 +2,6 @@
 -- Assumes nothing.
 use mathlib.Core.Path.{◌≡◌, sym, ◌∙◌, ap}
 use native.Mathlib.Omega.{arith}
-use borrow.Author.Rules.{rules}
 use mathlib.Core.Option.{some}
 use Prim.Native.Nat.{◌≤◌}
 use lib.IntN.{ℤ, pos, neg_ℤ, nat_abs, ◌-ℤ◌, +ℤ_idl}
@@ -15,31 +14,31 @@ use Rattle.exact.proofs.Magnitude.{size_neg, sfits_of_size}
 use Rattle.binary64.specs.Inner.{clamped, figure_of}
 use Rattle.binary64.specs.Value.{whole_number}
 use Rattle.binary64.proofs.Figures.{clamped_size, negated, clamped_neg, negated_is_not_below}
-use Rattle.binary64.proofs.whole_number.Statement.{statement}
-use Rattle.binary64.proofs.whole_number.Tie as tie
+use Rattle.binary64.proofs.whole_number.Goals as goal
+use Rattle.binary64.proofs.whole_number.Goals.{In-Whole}
 
-whole-size-requires : tie.Need-whole-size-requires
+pub whole_size-requires : goal.whole_size-requires
 unfolding of_bits
-whole-size-requires c κs =
-    let x = c.before.args.x in (neg-fits binary64 x c.before.requires, negated_is_not_below x c.if1.true)
+whole_size-requires c =
+    let x = c.args.x in (neg-fits binary64 x c.requires, negated_is_not_below x c.if-x.true)
 
-returns : tie.Need-returns
+pub returns-in_default : goal.returns-in_default
 unfolding figure_of negated
-returns c =
-    let x = c.before.before.before.before.args.x in
-    let None_found = sym c.before.before.whole_size.ensures ∙ ap figure_of c.enum_told.given.1 in
+returns-in_default c =
+    let x = c.args.x in
+    let None_found = sym c.whole_size.ensures ∙ ap figure_of c.in_default.is in
     sym (clamped_neg x ∙ ap negated None_found)
 
 -- the number with its sign changed, as it was found
-found : (c : tie.After-known-told) → clamped (whole_number (neg c.before.before.before.before.before.args.x))
-    ≡ some c.before.size.given.0.0
+found : (c : In-Whole) → clamped (whole_number (neg c.args.x))
+    ≡ some c.in-Whole.size
 unfolding figure_of
-found c = sym c.before.before.before.whole_size.ensures ∙ ap figure_of c.before.size.given.1
+found c = sym c.whole_size.ensures ∙ ap figure_of c.in-Whole.is
 
 -- a number of 32 bits, and so is the number with its sign changed
-module _ (c : tie.After-known-told) where
+module _ (c : In-Whole) where
   abbrev size : ℤ
-  size = c.before.size.given.0.0
+  size = c.in-Whole.size
 
   small : nat_abs size ≤ 1000000
   small = clamped_size _ size (found c)
@@ -53,21 +52,19 @@ module _ (c : tie.After-known-told) where
   changed_fits : SFits w32 (neg_ℤ size)
   changed_fits = sfits_of_size w32 (neg_ℤ size) (omega (arith, small, size_neg size))
 
-sub_t6 : tie.Need-overflow-sub-t6
-sub_t6 c = rw (size_is c, changed c) (changed_fits c)
+pub overflow_sub-result : goal.overflow_sub-result
+overflow_sub-result c = rw (size_is c, changed c) (changed_fits c)
 
-returns-2 : tie.Need-returns-2
+pub returns-then-x : goal.returns-then-x
 unfolding figure_of negated
-returns-2 c =
-    let x = c.before.before.before.before.before.args.x in
+returns-then-x c =
+    let x = c.args.x in
     rw (size_is c, changed c, to_z-of_z {w = w32} (changed_fits c)) (sym (clamped_neg x ∙ ap negated (found c)))
 
-whole-size-requires-2 : tie.Need-whole-size-requires-2
+pub whole_size-requires-2 : goal.whole_size-requires-2
 unfolding of_bits
-whole-size-requires-2 c κs = (c.before.requires, c.if1.false)
+whole_size-requires-2 c = (c.requires, c.if-x.false)
 
-pub whole-number-spec : {M : Type 1} → statement M
-whole-number-spec =
-    tie.close
-    (tie.spec whole-size-requires (search rules) (search rules) returns sub_t6 returns-2 whole-size-requires-2
-    (λ c. c.whole-size2.ensures))
+pub returns : goal.returns
+returns c =
+    c.whole_size-2.ensures
