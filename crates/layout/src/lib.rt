@@ -1,5 +1,6 @@
 // The curve file: its head and its points.
 #![tactic(auto)]
+
 ghost use Rattle.std.specs.Prelude.{◌≡◌, suc, ◌+◌, ◌*◌, ◌≤◌, length};
 ghost use Rattle.model.specs.Inner.{fault_answer};
 ghost use Rattle.point.specs.Inner.{point_of};

@@ -1,5 +1,6 @@
 // The shape of one segment: row 6.
 #![tactic(auto)]
+
 ghost use Rattle.std.specs.Prelude.{◌≡◌, ◌&&◌, pos};
 ghost use Rattle.std.specs.Int.Signed.{le_z};
 ghost use Rattle.model.specs.Points.{Shape, shape_of, mirror_segment, rule_of};

@@ -14,7 +14,7 @@ returns-2 : tie.Need-returns-then-first
 unfolding bad_area earlier
 returns-2 c = rw (c.if-first.true, le-ltb _ _ c.before.if-area-gt-AREA_MOST.false)
 
-returns-3 : tie.Need-returns-then-area-gt-AREA_MOST
+returns-3 : tie.Need-returns
 unfolding bad_area earlier
 returns-3 c =
     let b = c.before in

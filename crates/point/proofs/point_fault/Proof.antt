@@ -53,7 +53,7 @@ returns-4 c i =
     let steep : lt_z (pos slope_most) (entry l.before).args.p.slope ≡ true = rw f at c.if-p-gt-SLOPE_MOST.true in
     rw (area_passed b.before.before, le-ltb _ _ b.if-p-gt-VALUE_MOST.false, rw f at l.if-p-lt-SLOPE_LEAST.false, steep)
 
-returns-5 : tie.Need-returns-then-bad_area
+returns-5 : tie.Need-returns
 unfolding fault_answer point_rows row ◌then◌ bad_value bad_slope
 returns-5 c i =
     let l = not_low c.before in
