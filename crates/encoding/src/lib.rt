@@ -1,5 +1,6 @@
 // The file of a curve, written into a lent buffer.
 #![tactic(auto)]
+
 ghost use Rattle.std.specs.Prelude.{◌≡◌, ◌+◌, ◌≤◌, ◌<◌, length};
 ghost use Rattle.model.specs.Points.{points};
 ghost use Rattle.point.specs.Inner.{point_of};

@@ -43,12 +43,12 @@ invariant-loop areas values slopes code out₀ n i₀ out i = Encoding (points a
 abbrev decreases-loop : tie.decreases-loop
 decreases-loop areas values slopes code out₀ n i₀ out i = n - i
 
-loop-holds : tie.Need-loop-init invariant-loop decreases-loop
+loop-holds : tie.Need-loop-i-init invariant-loop decreases-loop
 unfolding flat_map
 loop-holds c = record { most = omega arith; size = refl; is = put_none head_size _ }
 
-module _ (c : tie.At-loop invariant-loop decreases-loop) where
-  abbrev headed : tie.After-put-head invariant-loop decreases-loop
+module _ (c : tie.At-loop-i invariant-loop decreases-loop) where
+  abbrev headed : tie.After-put_head invariant-loop decreases-loop
   headed = c.before.before.before
 
   abbrev entry : tie.Start invariant-loop decreases-loop
@@ -58,54 +58,54 @@ module _ (c : tie.At-loop invariant-loop decreases-loop) where
   ps = points entry.args.areas.now entry.args.values.now entry.args.slopes.now
 
   count : length ps ≡ length entry.args.areas.now
-  count = fields_length (fields_of _ _ _ entry.pre.alike)
+  count = fields_length (fields_of _ _ _ entry.requires.alike)
 
   -- the buffer keeps its length
-  room : length headed.put-head.last.0 ≡ length entry.args.out.now
-  room = headed.put-head.kept.0
+  room : length headed.put_head.last.0 ≡ length entry.args.out-1.now
+  room = headed.put_head.kept.0
 
-point-at-requires : tie.Need-point-at-requires invariant-loop decreases-loop
-point-at-requires c κs = record { alike = (entry c.before.before).pre.alike; index = c.before.loop-test.true }
+point-at-requires : tie.Need-point_at-requires invariant-loop decreases-loop
+point-at-requires c κs = record { alike = (entry c.before.before).requires.alike; index = c.before.loop-i-test.true }
 
-put-point-requires : tie.Need-put-point-requires invariant-loop decreases-loop
+put-point-requires : tie.Need-put_point-requires invariant-loop decreases-loop
 put-point-requires c κs =
     let l = c.before.before.before in
-    omega (arith, c.before.before.loop-test.true, l.loop.invariant.size, room l, (entry l).requires.fits)
+    omega (arith, c.before.before.loop-i-test.true, l.loop-i.invariant.size, room l, (entry l).requires.fits)
 
-loop-again : tie.Need-loop-preserved invariant-loop decreases-loop
+loop-again : tie.Need-loop-i-preserved invariant-loop decreases-loop
 loop-again c =
     let put = c.before.before in
     let read = put.before in
     let l = read.before.before.before in
-    let i = l.loop.i in
-    let h : i < length (ps l) = omega (arith, read.before.before.loop-test.true, count l) in
+    let i = l.loop-i.i in
+    let h : i < length (ps l) = omega (arith, read.before.before.loop-i-test.true, count l) in
     record {
       most = omega arith;
-      size = put.put-point.auto.0 ∙ l.loop.invariant.size;
+      size = put.put_point.auto.0 ∙ l.loop-i.invariant.size;
       is =
-          next (ps l) i _ (headed l).put-head.new.0 l.loop.out h (omega (arith, room l, (entry l).requires.fits))
-          read.point_at.ensures l.loop.invariant.is put.put-point.ensures;
+          next (ps l) i _ (headed l).put_head.new.0 l.loop-i.out-1 h (omega (arith, room l, (entry l).requires.fits))
+          read.point_at.ensures l.loop-i.invariant.is put.put_point.ensures;
     }
 
 returns : tie.Need-returns invariant-loop decreases-loop
 unfolding in_bytes head_bytes file_bytes
 returns c =
     let l = c.before in
-    let found = (entry l).args.out.now in
+    let found = (entry l).args.out-1.now in
     let head = head_bytes (entry l).args.code (length (entry l).args.areas.now) in
-    let e : l.loop.i ≡ length (ps l) = omega (arith, c.loop-test.false, l.loop.invariant.most, count l) in
-    let all : take l.loop.i (ps l) ≡ ps l = ap (λ (k : ℕ). take k (ps l)) e ∙ take-length (ps l) in
-    let headed_is : (headed l).put-head.new.0 ≡ put 0 head found = (headed l).put-head.ensures in
-    l.loop.invariant.is
-    ∙ ap (λ (qs : List Point). put head_size (flat_map record_bytes qs) (headed l).put-head.new.0) all
+    let e : l.loop-i.i ≡ length (ps l) = omega (arith, c.loop-i-test.false, l.loop-i.invariant.most, count l) in
+    let all : take l.loop-i.i (ps l) ≡ ps l = ap (λ (k : ℕ). take k (ps l)) e ∙ take-length (ps l) in
+    let headed_is : (headed l).put_head.new.0 ≡ put 0 head found = (headed l).put_head.ensures in
+    l.loop-i.invariant.is
+    ∙ ap (λ (qs : List Point). put head_size (flat_map record_bytes qs) (headed l).put_head.new.0) all
     ∙ ap (put head_size (flat_map record_bytes (ps l))) headed_is
     ∙ put_put 0 head (flat_map record_bytes (ps l)) found (omega arith)
     ∙ ap (λ (n : ℕ). put 0 (head_bytes (entry l).args.code n ++ flat_map record_bytes (ps l)) found) (sym (count l))
 
-pub encode-spec : {M : Type 1} → statement M
-encode-spec =
+pub encode_spec : {M : Type 1} → statement M
+encode_spec =
     tie.close
     (tie.spec invariant-loop decreases-loop (search rules) (search rules)
     (λ c κs. omega (arith, c.before.before.before.before.requires.fits)) loop-holds
     (λ c. omega arith) (λ c. omega arith) point-at-requires put-point-requires (λ c. omega arith) (λ c. omega arith) loop-again
-    (λ c. c.before.loop.invariant.size ∙ room c.before) returns)
+    (λ c. c.before.loop-i.invariant.size ∙ room c.before) returns)

@@ -22,9 +22,9 @@ returns : tie.Need-returns
 unfolding in_bytes head_bytes
 returns c = sets-eq (head c) c.args.out.now 0 c.requires
 
-pub put-head-spec : {M : Type 1} → statement M
+pub put_head_spec : {M : Type 1} → statement M
 unfolding in_bytes head_bytes
-put-head-spec =
+put_head_spec =
     tie.close
     (tie.spec (search rules) (λ c. inside c 1 (omega arith)) (λ c. inside c 2 (omega arith)) (λ c. inside c 3 (omega arith))
     (λ c. inside c 4 (omega arith)) (λ c. inside c 5 (omega arith)) (λ c. inside c 6 (omega arith)) (search rules) returns)

@@ -34,14 +34,14 @@ returns c =
     let first = second.before.before.before.before in
     let start = first.before.before.before in
     let told = slope.unsigned.ensures in
-    let read = to_z-of_z {w = w32} {z = start.args.p.slope} (record { sfits = slope.before.struct_told.given.1.1.0.1 }) in
+    let read = to_z-of_z {w = w32} {z = start.args.p.slope} (record { sfits = slope.before.struct_told-1.given.1.1.0.1 }) in
     let all =
-    three start.args.at _ _ _ start.args.out.now (omega (arith, start.requires))
-    first.put_word.ensures second.put-word2.ensures third.put-word3.ensures in
+    three start.args.at _ _ _ start.args.out-1.now (omega (arith, start.requires))
+    first.put_word.ensures second.put_word-2.ensures third.put_word-3.ensures in
     rw (told, read) at all
 
-pub put-point-spec : {M : Type 1} → statement M
-put-point-spec =
+pub put_point_spec : {M : Type 1} → statement M
+put_point_spec =
     tie.close
     (tie.spec (λ c κs. search rules) (search rules) (λ c κs. search rules) (search rules) (λ c κs. search rules)
     (λ c κs. search rules) (search rules) returns)

@@ -32,8 +32,8 @@ returns c =
     let x = c.args.x in
     stored c.args.out.now c.args.at (x % 256) (x / 256 % 256) (x / 256 / 256 % 256) (x / 256 / 256 / 256 % 256) c.requires
 
-pub put-word-spec : {M : Type 1} → statement M
-put-word-spec =
+pub put_word_spec : {M : Type 1} → statement M
+put_word_spec =
     tie.close
     (tie.spec (search rules) (search rules) (search rules) (search rules) (λ c. rw length-set (omega (arith, c.requires)))
     (search rules) (search rules) (λ c. rw (length-set, length-set) (omega (arith, c.requires)))

@@ -48,13 +48,13 @@ module _ (c : tie.Start) where
   above_fits : SFits w64 (x +ℤ pos 4294967296)
   above_fits = sfits_of_size w64 _ (rw above.is (omega (arith, above.small)))
 
-cast-above : tie.Need-overflow-cast-above
+cast-above : tie.Need-overflow_cast-above
 cast-above c = rw (to_z-of_z c.ranges.x) (wide (x c) c.ranges.x)
 
-add_above : tie.Need-overflow-add-above
+add_above : tie.Need-overflow_add-above
 add_above c = rw (to_z-of_z c.ranges.x, to_z-of_z (wide (x c) c.ranges.x)) (above_fits c)
 
-cast-above-2 : tie.Need-overflow-cast-above-2
+cast-above-2 : tie.Need-overflow_cast-above-2
 cast-above-2 c =
     rw (to_z-of_z c.ranges.x, to_z-of_z (wide (x c) c.ranges.x), to_z-of_z (above_fits c))
     (cast-of-natural tt (above_fits c) (rw (above c).is refl))
@@ -63,5 +63,5 @@ returns : tie.Need-returns
 returns c =
     rw (to_z-of_z c.ranges.x, to_z-of_z (wide (x c) c.ranges.x), to_z-of_z (above_fits c), (above c).is) (above c).rest
 
-pub unsigned-spec : {M : Type 1} → statement M
-unsigned-spec = tie.close (tie.spec cast-above add_above cast-above-2 (search rules) returns)
+pub unsigned_spec : {M : Type 1} → statement M
+unsigned_spec = tie.close (tie.spec cast-above add_above cast-above-2 (search rules) returns)

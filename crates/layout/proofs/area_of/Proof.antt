@@ -9,5 +9,5 @@ returns : tie.Need-returns
 unfolding record_at
 returns c = c.unsigned.ensures
 
-pub area-of-spec : {M : Type 1} → statement M
-area-of-spec = tie.close (tie.spec (search rules) (search rules) (search rules) returns)
+pub area_of_spec : {M : Type 1} → statement M
+area_of_spec = tie.close (tie.spec (search rules) (search rules) (search rules) returns)

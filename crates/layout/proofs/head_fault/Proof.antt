@@ -13,28 +13,28 @@ use Rattle.layout.proofs.Heads.{head_is_there}
 use Rattle.layout.proofs.head_fault.Statement.{statement}
 use Rattle.layout.proofs.head_fault.Tie as tie
 
-returns : tie.Need-returns
+returns : tie.Need-returns-then-bad_head
 unfolding head_rows fault_answer row ◌then◌
-returns c = rw (sym c.before.bad_head.ensures ∙ c.if1.true)
+returns c = rw (sym c.before.bad_head.ensures ∙ c.if-bad_head.true)
 
 -- row 9 is passed
-passed : (c : tie.Else1) → bad_head c.before.before.before.args.bytes.now ≡ false
-passed c = sym c.before.bad_head.ensures ∙ c.if1.false
+passed : (c : tie.Else-bad_head) → bad_head c.before.before.before.args.bytes.now ≡ false
+passed c = sym c.before.bad_head.ensures ∙ c.if-bad_head.false
 
-shared_slice_read_if2 : tie.Need-shared-slice-read-if2
+shared_slice_read_if2 : tie.Need-bounds-bytes-6
 shared_slice_read_if2 c = omega (arith, head_is_there _ (passed c.before))
 
-returns-2 : tie.Need-returns-2
+returns-2 : tie.Need-returns-then-bytes
 unfolding head_rows bad_size fault_answer row ◌then◌
-returns-2 c = rw (passed c.before.before, ne_eqb _ (point_offset _) c.if2.true)
+returns-2 c = rw (passed c.before.before, ne_eqb _ (point_offset _) c.if-bytes.true)
 
-returns-3 : tie.Need-returns-3
+returns-3 : tie.Need-returns
 unfolding head_rows bad_size fault_answer row ◌then◌
-returns-3 c = rw (passed c.before.before, eq-eqb _ (point_offset _) c.if2.false)
+returns-3 c = rw (passed c.before.before, eq-eqb _ (point_offset _) c.if-bytes.false)
 
-pub head-fault-spec : {M : Type 1} → statement M
-head-fault-spec =
+pub head_fault_spec : {M : Type 1} → statement M
+head_fault_spec =
     tie.close
     (tie.spec (search rules) returns shared_slice_read_if2
-    (λ c. omega (arith, c.shared-slice-known2.given 6)) (λ c. omega (arith, c.shared-slice-known2.given 6))
-    (λ c. omega (arith, c.shared-slice-known2.given 6)) returns-2 returns-3)
+    (λ c. omega (arith, c.shared_slice_known-2-1.given 6)) (λ c. omega (arith, c.shared_slice_known-2-1.given 6))
+    (λ c. omega (arith, c.shared_slice_known-2-1.given 6)) returns-2 returns-3)

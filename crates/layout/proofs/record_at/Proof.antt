@@ -11,14 +11,14 @@ unfolding record_at
 returns c =
     rw (
       c.before.before.before.unsigned.ensures,
-      c.before.before.unsigned2.ensures,
-      to_z-of_z (record { sfits = c.signed.type-inv }),
+      c.before.before.unsigned-2.ensures,
+      to_z-of_z (record { sfits = c.signed.type_inv }),
       c.signed.ensures,
-      c.before.unsigned3.ensures,
+      c.before.unsigned-3.ensures,
     )
 
-pub record-at-spec : {M : Type 1} → statement M
-record-at-spec =
+pub record_at_spec : {M : Type 1} → statement M
+record_at_spec =
     tie.close
     (tie.spec (search rules) (search rules) (search rules) (search rules)
     (search rules) (search rules) (search rules) (search rules) returns)

@@ -13,23 +13,23 @@ use Rattle.layout.proofs.Numbers.{low_half, high_half}
 use Rattle.layout.proofs.signed.Statement.{statement}
 use Rattle.layout.proofs.signed.Tie as tie
 
-returns : tie.Need-returns
-returns c = to_z_pos w32 c.if1.true ∙ sym (low_half c.if1.true)
+returns : tie.Need-returns-then-x-lt2147483648
+returns c = to_z_pos w32 c.if-x-lt2147483648.true ∙ sym (low_half c.if-x-lt2147483648.true)
 
-module _ (c : tie.Else1) where
+module _ (c : tie.Else-x-lt2147483648) where
   lacks : to_z w32 (4294967295 - c.before.args.x) ≡ pos (4294967295 - c.before.args.x)
-  lacks = to_z_pos w32 (omega (arith, c.if1.false))
+  lacks = to_z_pos w32 (omega (arith, c.if-x-lt2147483648.false))
 
   complement_fits : SFits w32 (complement (pos (4294967295 - c.before.args.x)))
   complement_fits =
-      sfits_complement {z = pos (4294967295 - c.before.args.x)} (record { sfits = omega (arith, c.if1.false) })
+      sfits_complement {z = pos (4294967295 - c.before.args.x)} (record { sfits = omega (arith, c.if-x-lt2147483648.false) })
 
-sub_result_2 : tie.Need-overflow-sub-result-2
+sub_result_2 : tie.Need-overflow_sub-result-2
 sub_result_2 c = rw (lacks c) (complement_fits c)
 
-returns-2 : tie.Need-returns-2
+returns-2 : tie.Need-returns
 returns-2 c =
-    rw (lacks c, to_z-of_z (complement_fits c)) (sym (high_half c.if1.false (omega (arith, c.before.ranges.x))))
+    rw (lacks c, to_z-of_z (complement_fits c)) (sym (high_half c.if-x-lt2147483648.false (omega (arith, c.before.ranges.x))))
 
-pub signed-spec : {M : Type 1} → statement M
-signed-spec = tie.close (tie.spec (search rules) returns (search rules) (search rules) sub_result_2 returns-2)
+pub signed_spec : {M : Type 1} → statement M
+signed_spec = tie.close (tie.spec (search rules) returns (search rules) (search rules) sub_result_2 returns-2)

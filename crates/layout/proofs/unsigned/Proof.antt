@@ -9,8 +9,8 @@ use Rattle.layout.proofs.unsigned.Tie as tie
 returns : tie.Need-returns
 returns c = c.word.ensures ∙ sym (four_bytes _ _)
 
-pub unsigned-spec : {M : Type 1} → statement M
-unsigned-spec =
+pub unsigned_spec : {M : Type 1} → statement M
+unsigned_spec =
     tie.close
     (tie.spec (search rules) (search rules) (search rules) (search rules)
     (search rules) (search rules) (search rules) (search rules) returns)

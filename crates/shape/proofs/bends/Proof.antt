@@ -6,20 +6,20 @@ use Rattle.shape.proofs.Tests.{order_test}
 use Rattle.shape.proofs.bends.Statement.{statement}
 use Rattle.shape.proofs.bends.Tie as tie
 
-returns : tie.Need-returns
+returns : tie.Need-returns-then-left-chord
 returns c =
     let s = c.before in
-    sym (order_test s.ranges.left s.ranges.chord s.ranges.right ∙ rw c.if1.true)
+    sym (order_test s.ranges.left s.ranges.chord s.ranges.right ∙ rw c.if-left-chord.true)
 
-returns-2 : tie.Need-returns-2
+returns-2 : tie.Need-returns-then-left-chord-2
 returns-2 c =
     let s = c.before.before in
-    sym (order_test s.ranges.left s.ranges.chord s.ranges.right ∙ rw (c.before.if1.false, ne_eqb _ _ c.if2.true))
+    sym (order_test s.ranges.left s.ranges.chord s.ranges.right ∙ rw (c.before.if-left-chord.false, ne_eqb _ _ c.if-left-chord-2.true))
 
-returns-3 : tie.Need-returns-3
+returns-3 : tie.Need-returns
 returns-3 c =
     let s = c.before.before in
-    sym (order_test s.ranges.left s.ranges.chord s.ranges.right ∙ rw (c.before.if1.false, eq-eqb _ _ c.if2.false))
+    sym (order_test s.ranges.left s.ranges.chord s.ranges.right ∙ rw (c.before.if-left-chord.false, eq-eqb _ _ c.if-left-chord-2.false))
 
-pub bends-spec : {M : Type 1} → statement M
-bends-spec = tie.close (tie.spec returns returns-2 returns-3)
+pub bends_spec : {M : Type 1} → statement M
+bends_spec = tie.close (tie.spec returns returns-2 returns-3)

@@ -9,19 +9,19 @@ use Rattle.shape.proofs.has_shape.Statement.{statement}
 use Rattle.shape.proofs.has_shape.Tie as tie
 
 -- after the slopes
-abbrev at_slopes : tie.After-struct-told3 → tie.After-slopes-of
+abbrev at_slopes : tie.After-struct_told-3-1 → tie.After-slopes_of-e
 at_slopes c = c.before.before.before
 
-returns : tie.Need-returns
-returns c = rw (rising_of_1 c.before.if1.true) c.rises.ensures
+returns : tie.Need-returns-then-code-eq1
+returns c = rw (rising_of_1 c.before.if-code-eq1.true) c.rises.ensures
 
-returns-2 : tie.Need-returns-2
+returns-2 : tie.Need-returns
 returns-2 c =
     let s = at_slopes c.before in
-    let n = s.before.before.pre in
-    let k = s.slopes-of.ensures in
-    rw (convex_of_not_1 s.before.if1.left)
+    let n = s.before.before.requires in
+    let k = s.slopes_of-e.ensures in
+    rw (convex_of_not_1 s.before.if-code-eq1.false)
     (rw (left_read n k, chord_read n k, right_read n k) at c.bends.ensures ∙ sym (convex_test n k))
 
-pub has-shape-spec : {M : Type 1} → statement M
-has-shape-spec = tie.close (tie.spec (λ c κs. c.before.requires) returns (λ c κs. c.before.requires) (search rules) returns-2)
+pub has_shape_spec : {M : Type 1} → statement M
+has_shape_spec = tie.close (tie.spec (λ c κs. c.before.requires) returns (λ c κs. c.before.requires) (search rules) returns-2)

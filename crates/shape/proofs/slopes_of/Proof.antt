@@ -8,28 +8,28 @@ use Rattle.shape.proofs.slopes_of.Statement.{statement}
 use Rattle.shape.proofs.slopes_of.Tie as tie
 
 -- the places
-abbrev at_rise : tie.After-struct-known4 → tie.Start
+abbrev at_rise : tie.After-struct_known-4-1 → tie.Start
 at_rise c = c.before.before.before.before
 
-abbrev at_left : tie.After-struct-told → tie.Start
+abbrev at_left : tie.After-struct_told-1 → tie.Start
 at_left c = at_rise c.before.before
 
-sub_rise : tie.Need-overflow-sub-rise
+sub_rise : tie.Need-overflow_sub-rise
 sub_rise c =
     let n = (at_rise c).requires in
     rw (rise_read n) (rise_fits n)
 
-mul_left : tie.Need-overflow-mul-left
+mul_left : tie.Need-overflow_mul-left
 mul_left c =
     let n = (at_left c).requires in
     rw (gap_read n, slope_read n.left) (e₀_fits n)
 
-mul_chord : tie.Need-overflow-mul-chord
+mul_chord : tie.Need-overflow_mul-chord
 mul_chord c =
     let n = (at_left c).requires in
     rw (rise_read n, to_z-of_z (rise_fits n)) (g_fits n)
 
-mul_right : tie.Need-overflow-mul-right
+mul_right : tie.Need-overflow_mul-right
 mul_right c =
     let n = (at_left c.before.before).requires in
     rw (gap_read n, slope_read n.right) (e₁_fits n)
@@ -43,7 +43,7 @@ returns c =
       right = rw (gap_read n, slope_read n.right) (to_z-of_z (e₁_fits n));
     }
 
-pub slopes-of-spec : {M : Type 1} → statement M
-slopes-of-spec =
+pub slopes_of_spec : {M : Type 1} → statement M
+slopes_of_spec =
     tie.close
     (tie.spec (search rules) (search rules) (search rules) (search rules) sub_rise mul_left mul_chord mul_right returns)
