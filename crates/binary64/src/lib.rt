@@ -35,7 +35,7 @@ fn is_whole_size(x: f64) -> bool
 }
 
 // A number as a whole number, if it is finite and whole; one beyond a million in size as a million, with its sign.
-#[derive(Drop)]
+#[derive(Clone, Copy)]
 pub enum Figure {
     Whole(i32),
     NotWhole,

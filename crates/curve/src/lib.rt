@@ -8,7 +8,7 @@ ghost use Rattle.model.specs.Sheet.{sheet_answer, sheet_list};
 ghost use Rattle.curve.specs.Calls.{checked_answer, reading_answer, filled_answer, InRange};
 
 // What Check answers: the number of segments, or a refusal's number and place.
-#[derive(Drop)]
+#[derive(Clone, Copy)]
 pub enum Checked {
     Segments(u32),
     Refused(u32, u32),
@@ -26,7 +26,7 @@ pub fn check(areas: &[u32], values: &[u32], slopes: &[i32], shape: u32) -> Check
 }
 
 // What Read answers: the factor, or a refusal's number and place.
-#[derive(Drop)]
+#[derive(Clone, Copy)]
 pub enum Reading {
     Factor(i32),
     Refused(u32, u32),
@@ -49,7 +49,7 @@ pub fn read(areas: &[u32], values: &[u32], slopes: &[i32], shape: u32, area: u32
 }
 
 // What Sheet answers: the number of entries, or a refusal's number and place.
-#[derive(Drop)]
+#[derive(Clone, Copy)]
 pub enum Filled {
     Entries(u32),
     Refused(u32, u32),

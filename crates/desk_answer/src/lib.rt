@@ -11,7 +11,7 @@ ghost use Rattle.desk_answer.specs.Inner.{Fits, copied, room as room_of, answer_
 use layout::RECORD_SIZE;
 
 // A refusal's number as the desk gives it; or 0, the file's shape code and the index of the segment read.
-#[derive(Drop)]
+#[derive(Clone, Copy)]
 pub struct Found {
     pub number: i32,
     pub shape: u32,

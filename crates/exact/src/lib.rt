@@ -30,7 +30,7 @@ pub fn nearest(k: i32, r: u64, d: u64) -> i32
 }
 
 // Quotient and remainder of a division.
-#[derive(Drop)]
+#[derive(Clone, Copy)]
 pub struct Quotient {
     pub q: u64,
     pub r: u64,

@@ -26,7 +26,7 @@ pub fn short_list(n: usize, areas: usize, values: usize, slopes: usize) -> bool
 }
 
 // What Open answers: shape and count, or a refusal's number and place.
-#[derive(Drop)]
+#[derive(Clone, Copy)]
 pub enum Opened {
     Curve(u32, u32),
     Refused(u32, u32),
@@ -61,7 +61,7 @@ pub fn open(bytes: &[u8], areas: &mut [u32], values: &mut [u32], slopes: &mut [i
 }
 
 // What Write answers: the length of the file, or a refusal's number and place.
-#[derive(Drop)]
+#[derive(Clone, Copy)]
 pub enum Written {
     Length(u32),
     Refused(u32, u32),

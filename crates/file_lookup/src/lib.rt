@@ -55,7 +55,7 @@ fn find(bytes: &[u8], n: usize, area: u32) -> usize
 }
 
 // A refusal, or number 0 and the index of the segment read.
-#[derive(Drop)]
+#[derive(Clone, Copy)]
 pub struct Located {
     pub number: u32,
     pub place: u32,

@@ -35,7 +35,7 @@ fn copy(
 }
 
 // What Import answers: the count, or a refusal's number and place.
-#[derive(Drop)]
+#[derive(Clone, Copy)]
 pub enum Imported {
     Points(u32),
     Refused(u32, u32),

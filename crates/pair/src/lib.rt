@@ -6,7 +6,7 @@ ghost use Rattle.pair.specs.Pair.{pair_answer};
 ghost use Rattle.pair.specs.Calls.{factors_answer};
 
 // What Pair answers: the form and plan factors and the plan factor less the form factor, or a refusal's number and place.
-#[derive(Drop)]
+#[derive(Clone, Copy)]
 pub enum Pair {
     Factors(i32, i32, i32),
     Refused(u32, u32),

@@ -19,7 +19,7 @@ pub const SLOPE_MOST: i32 = 10000;
 pub const SLOPE_LEAST: i32 = -SLOPE_MOST;
 
 // Area in tenths of a square metre, value in units, slope in hundredths of a unit for each tenth.
-#[derive(Drop)]
+#[derive(Clone, Copy)]
 pub struct Point {
     pub area: u32,
     pub value: u32,

@@ -5,7 +5,7 @@ ghost use Rattle.ratesheet.specs.Inner.{Came};
 use libc::{STDERR_FILENO, STDIN_FILENO, STDOUT_FILENO};
 
 // What the arguments ask for.
-#[derive(Drop)]
+#[derive(Clone, Copy)]
 enum Request {
     Sheet,
     Help,
@@ -60,7 +60,7 @@ fn print_help() {
 }
 
 // What reading gave.
-#[derive(Drop)]
+#[derive(Clone, Copy)]
 enum Input {
     Bytes(usize),
     Failed,

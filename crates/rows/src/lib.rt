@@ -1,5 +1,6 @@
 // Rows 1 to 6 of the refusal table, of points in three lists.
 #![tactic(auto)]
+
 ghost use Rattle.std.specs.Prelude.{◌≡◌, true, false, length};
 ghost use Rattle.std.proofs.Math.Option.{none};
 ghost use Rattle.model.specs.Answer.{gives};
@@ -17,7 +18,7 @@ pub const POINTS_LEAST: usize = 2;
 pub const POINTS_MOST: usize = 64;
 
 // A fault's number and place; the number 0 is no fault.
-#[derive(Drop)]
+#[derive(Clone, Copy)]
 pub struct Fault {
     pub number: u32,
     pub place: u32,

@@ -1,5 +1,6 @@
 // The factor at an area of one segment, by one division other than by constants.
 #![tactic(auto)]
+
 ghost use Rattle.std.specs.Prelude.{◌≡◌, true, false, pos, nat_abs, ◌+ℤ◌, ◌*ℤ◌, ◌+◌, ◌*◌, ◌≤◌};
 ghost use Rattle.segment.specs.Inner as inner;
 ghost use Rattle.segment.specs.Inner.{Weights, RisingInput, rising_value, BentAt, BentInput, Excess, Large, Around};
@@ -63,7 +64,7 @@ fn rising_factor(p: Point, q: Point, area: u32) -> i32
 
 // An area of such a segment: t and u are its distances from the two ends, h their sum; a and b are the end slopes' distances from
 // the chord, over 100 h.
-#[derive(Drop)]
+#[derive(Clone, Copy)]
 struct Bent {
     t: u64,
     u: u64,
@@ -141,7 +142,7 @@ fn hundredths(left: u32, slope: i32, t: u64, above: u64) -> i32
 }
 
 // A number of units. `sure` is false where a tie is not ruled out.
-#[derive(Drop)]
+#[derive(Clone, Copy)]
 struct Near {
     k: i32,
     sure: bool,
@@ -214,7 +215,7 @@ fn convex_factor(p: Point, q: Point, area: u32) -> i32
 
 // A segment as its shape reads it: a code without its mirror, 1 or 2, and both points as they stand or mirrored. In one function,
 // so that the compiler makes one branch of it and no choice for each number.
-#[derive(Drop)]
+#[derive(Clone, Copy)]
 pub struct Facing {
     pub code: u32,
     pub p: Point,

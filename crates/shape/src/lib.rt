@@ -12,7 +12,7 @@ ghost use Rattle.shape.specs.Inner.{SlopesOver, in_order};
 use point::Point;
 
 // The slopes of a segment over the denominator 100 h: left end, chord, right end, in the order of (3.22).
-#[derive(Drop)]
+#[derive(Clone, Copy)]
 pub struct Slopes {
     pub left: i32,
     pub chord: i32,

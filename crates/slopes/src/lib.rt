@@ -17,7 +17,7 @@ use rows::{Fault, POINTS_MOST};
 const FIGURE_MOST: u64 = SLOPE_MOST as u64;
 
 // A chord, by its rise and the gap that it spans.
-#[derive(Drop)]
+#[derive(Clone, Copy)]
 pub struct Chord {
     pub rise: u64,
     pub gap: u64,
@@ -187,7 +187,7 @@ fn rated_fault(areas: &[u32], values: &[u32]) -> Fault
 }
 
 // What the filling answers: the number of points, or a refusal's number and place.
-#[derive(Drop)]
+#[derive(Clone, Copy)]
 pub enum Supplied {
     Points(u32),
     Refused(u32, u32),

@@ -29,7 +29,7 @@ fn figure(bytes: &[u8], at: usize) -> f64
 }
 
 // The figures of a point, of whatever value.
-#[derive(Drop)]
+#[derive(Clone, Copy)]
 pub struct Triple {
     pub area: f64,
     pub value: f64,
@@ -60,7 +60,7 @@ fn unsigned(z: i32) -> u32
 }
 
 // A point of whole figures, those beyond a million in size as a million; or row 14.
-#[derive(Drop)]
+#[derive(Clone, Copy)]
 pub enum Taken {
     Whole(Point),
     NotWhole,

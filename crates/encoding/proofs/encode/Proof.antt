@@ -37,10 +37,10 @@ record Encoding (ps : List Point) (found out : List ℕ) (i : ℕ) : Type 0 wher
   pub size : length out ≡ length found
   pub is : out ≡ put head_size (flat_map record_bytes (take i ps)) found
 
-abbrev invariant-loop : tie.invariant-loop
+abbrev invariant-loop : tie.invariant-loop-i
 invariant-loop areas values slopes code out₀ n i₀ out i = Encoding (points areas values slopes) out₀ out i
 
-abbrev decreases-loop : tie.decreases-loop
+abbrev decreases-loop : tie.decreases-loop-i
 decreases-loop areas values slopes code out₀ n i₀ out i = n - i
 
 loop-holds : tie.Need-loop-i-init invariant-loop decreases-loop
@@ -61,8 +61,8 @@ module _ (c : tie.At-loop-i invariant-loop decreases-loop) where
   count = fields_length (fields_of _ _ _ entry.requires.alike)
 
   -- the buffer keeps its length
-  room : length headed.put_head.last.0 ≡ length entry.args.out-1.now
-  room = headed.put_head.kept.0
+  room : length headed.put_head.new.out ≡ length entry.args.out.now
+  room = headed.put_head.auto.out
 
 point-at-requires : tie.Need-point_at-requires invariant-loop decreases-loop
 point-at-requires c κs = record { alike = (entry c.before.before).requires.alike; index = c.before.loop-i-test.true }
@@ -81,9 +81,9 @@ loop-again c =
     let h : i < length (ps l) = omega (arith, read.before.before.loop-i-test.true, count l) in
     record {
       most = omega arith;
-      size = put.put_point.auto.0 ∙ l.loop-i.invariant.size;
+      size = put.put_point.auto.out ∙ l.loop-i.invariant.size;
       is =
-          next (ps l) i _ (headed l).put_head.new.0 l.loop-i.out-1 h (omega (arith, room l, (entry l).requires.fits))
+          next (ps l) i _ (headed l).put_head.new.out l.loop-i.out h (omega (arith, room l, (entry l).requires.fits))
           read.point_at.ensures l.loop-i.invariant.is put.put_point.ensures;
     }
 
@@ -91,13 +91,13 @@ returns : tie.Need-returns invariant-loop decreases-loop
 unfolding in_bytes head_bytes file_bytes
 returns c =
     let l = c.before in
-    let found = (entry l).args.out-1.now in
+    let found = (entry l).args.out.now in
     let head = head_bytes (entry l).args.code (length (entry l).args.areas.now) in
     let e : l.loop-i.i ≡ length (ps l) = omega (arith, c.loop-i-test.false, l.loop-i.invariant.most, count l) in
     let all : take l.loop-i.i (ps l) ≡ ps l = ap (λ (k : ℕ). take k (ps l)) e ∙ take-length (ps l) in
-    let headed_is : (headed l).put_head.new.0 ≡ put 0 head found = (headed l).put_head.ensures in
+    let headed_is : (headed l).put_head.new.out ≡ put 0 head found = (headed l).put_head.ensures in
     l.loop-i.invariant.is
-    ∙ ap (λ (qs : List Point). put head_size (flat_map record_bytes qs) (headed l).put_head.new.0) all
+    ∙ ap (λ (qs : List Point). put head_size (flat_map record_bytes qs) (headed l).put_head.new.out) all
     ∙ ap (put head_size (flat_map record_bytes (ps l))) headed_is
     ∙ put_put 0 head (flat_map record_bytes (ps l)) found (omega arith)
     ∙ ap (λ (n : ℕ). put 0 (head_bytes (entry l).args.code n ++ flat_map record_bytes (ps l)) found) (sym (count l))

@@ -36,7 +36,7 @@ returns c =
     let told = slope.unsigned.ensures in
     let read = to_z-of_z {w = w32} {z = start.args.p.slope} (record { sfits = slope.before.struct_told-1.given.1.1.0.1 }) in
     let all =
-    three start.args.at _ _ _ start.args.out-1.now (omega (arith, start.requires))
+    three start.args.at _ _ _ start.args.out.now (omega (arith, start.requires))
     first.put_word.ensures second.put_word-2.ensures third.put_word-3.ensures in
     rw (told, read) at all
 

@@ -16,16 +16,16 @@ use Rattle.rows.proofs.Passing.{Passing, passing_starts, passing_goes_on, accept
 use Rattle.rows.proofs.all_pass.Statement.{statement}
 use Rattle.rows.proofs.all_pass.Tie as tie
 
-abbrev invariant-loop : tie.invariant-loop
+abbrev invariant-loop : tie.invariant-loop-left
 invariant-loop areas values slopes shape p₀ last left₀ p left =
     let ps = points areas values slopes in
     (left ≤ last) × (last + 1 ≡ length areas) × (point_of p ≡ point_at ps left) × Passing ps shape left
 
-abbrev decreases-loop : tie.decreases-loop
+abbrev decreases-loop : tie.decreases-loop-left
 decreases-loop areas values slopes shape p₀ last left₀ p left = last - left
 
 -- the points, and that they are as many as the areas
-module _ (c : tie.Else1 invariant-loop decreases-loop) where
+module _ (c : tie.Else-point_fault-ne0 invariant-loop decreases-loop) where
   abbrev start : tie.Start invariant-loop decreases-loop
   start = c.before.before.before.before.before
 
@@ -33,42 +33,42 @@ module _ (c : tie.Else1 invariant-loop decreases-loop) where
   ps = points start.args.areas.now start.args.values.now start.args.slopes.now
 
   size : length ps ≡ length start.args.areas.now
-  size = fields_length (fields_of _ _ _ start.pre.0.alike)
+  size = fields_length (fields_of _ _ _ start.requires.0.alike)
 
-point-at-requires : tie.Need-point-at-requires invariant-loop decreases-loop
+point-at-requires : tie.Need-point_at-p-requires invariant-loop decreases-loop
 point-at-requires c κs = record { alike = c.before.before.requires.0.alike; index = omega arith }
 
-loop-holds : tie.Need-loop-init invariant-loop decreases-loop
+loop-holds : tie.Need-loop-left-init invariant-loop decreases-loop
 unfolding earlier
 loop-holds c =
-    let p = c.before.before.point_at.ensures in
-    let f = rw p at (c.before.point-fault.ensures 0) in
-    (omega arith, omega arith, p, passing_starts (ps c) _ (omega (arith, size c)) c.if1.false f)
+    let p = c.before.before.point_at-p.ensures in
+    let f = rw p at (c.before.point_fault.ensures 0) in
+    (omega arith, omega arith, p, passing_starts (ps c) _ (omega (arith, size c)) c.if-point_fault-ne0.false f)
 
-point-at-requires-2 : tie.Need-point-at-requires-2 invariant-loop decreases-loop
-point-at-requires-2 c κs = record { alike = (start c.before.before).pre.0.alike; index = omega arith }
+point-at-requires-2 : tie.Need-point_at-q-requires invariant-loop decreases-loop
+point-at-requires-2 c κs = record { alike = (start c.before.before).requires.0.alike; index = omega arith }
 
 follows-requires : tie.Need-follows-requires invariant-loop decreases-loop
-follows-requires c κs = let k = c.before.before.loop.invariant in rw k.2 k.3.limits
+follows-requires c κs = let k = c.before.before.loop-left.invariant in rw k.2 k.3.limits
 
-loop-again : tie.Need-loop-preserved invariant-loop decreases-loop
+loop-again : tie.Need-loop-left-preserved invariant-loop decreases-loop
 loop-again c =
-    let q = c.before.before.point-at2.ensures in
+    let q = c.before.before.point_at-q.ensures in
     let l = c.before.before.before.before in
-    let k = l.loop.invariant in
-    let t = c.before.before.before.loop-test.true in
-    let f = rw (k.2, q) at (c.before.follows.ensures (not-false _ c.if2.false)) in
+    let k = l.loop-left.invariant in
+    let t = c.before.before.before.loop-left-test.true in
+    let f = rw (k.2, q) at (c.before.follows.ensures (not-false _ c.if-not-follows.false)) in
     (omega arith, k.1, q, passing_goes_on (ps l.before) _ (omega (arith, size l.before)) f k.3)
 
-returns-3 : tie.Need-returns-3 invariant-loop decreases-loop
+returns-3 : tie.Need-returns invariant-loop decreases-loop
 returns-3 c = λ e.
     let s = c.before.before in
     let k = (start s).requires.0 in
     accepted_of (ps s) _ (rw (size s) k.least) (rw (size s) k.most) (start s).requires.1 (omega (arith, size s))
-    c.before.loop.invariant.3
+    c.before.loop-left.invariant.3
 
-pub all-pass-spec : {M : Type 1} → statement M
-all-pass-spec =
+pub all_pass_spec : {M : Type 1} → statement M
+all_pass_spec =
     tie.close
     (tie.spec invariant-loop decreases-loop point-at-requires (search rules) (λ c e. absurd (true≢false (sym e))) (λ c. omega arith)
     loop-holds (λ c. omega arith) point-at-requires-2

@@ -5,13 +5,13 @@ use Rattle.model.specs.Check.{bad_code}
 use Rattle.rows.proofs.bad_code.Statement.{statement}
 use Rattle.rows.proofs.bad_code.Tie as tie
 
-returns : tie.Need-returns
+returns : tie.Need-returns-then-shape-lt1
 unfolding bad_code
-returns c = rw (lt-ltb _ _ c.if1.true)
+returns c = rw (lt-ltb _ _ c.if-shape-lt1.true)
 
-returns-2 : tie.Need-returns-2
+returns-2 : tie.Need-returns
 unfolding bad_code
-returns-2 c = rw (le-ltb _ _ c.if1.false)
+returns-2 c = rw (le-ltb _ _ c.if-shape-lt1.false)
 
-pub bad-code-spec : {M : Type 1} → statement M
-bad-code-spec = tie.close (tie.spec returns returns-2)
+pub bad_code_spec : {M : Type 1} → statement M
+bad_code_spec = tie.close (tie.spec returns returns-2)

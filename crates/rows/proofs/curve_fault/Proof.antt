@@ -6,8 +6,8 @@ use Rattle.rows.proofs.Faults.{no_fault}
 use Rattle.rows.proofs.curve_fault.Statement.{statement}
 use Rattle.rows.proofs.curve_fault.Tie as tie
 
-returns : tie.Need-returns
-returns c = no_fault 0 refl ∙ sym (c.before.accepted.ensures c.if1.true)
+returns : tie.Need-returns-then-accepted
+returns c = no_fault 0 refl ∙ sym (c.before.accepted.ensures c.if-accepted.true)
 
-pub curve-fault-spec : {M : Type 1} → statement M
-curve-fault-spec = tie.close (tie.spec (search rules) returns (search rules) (λ c. c.first-fault.ensures))
+pub curve_fault_spec : {M : Type 1} → statement M
+curve_fault_spec = tie.close (tie.spec (search rules) returns (search rules) (λ c. c.first_fault.ensures))

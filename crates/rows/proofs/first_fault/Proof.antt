@@ -17,12 +17,12 @@ use Rattle.rows.proofs.Faults.{no_fault, passes, fault_then}
 use Rattle.rows.proofs.first_fault.Statement.{statement}
 use Rattle.rows.proofs.first_fault.Tie as tie
 
-returns : tie.Need-returns
+returns : tie.Need-returns-then-lengths_differ
 unfolding on_lists fault_answer row ◌then◌
-returns c = rw (sym c.before.lengths_differ.ensures ∙ c.if1.true)
+returns c = rw (sym c.before.lengths_differ.ensures ∙ c.if-lengths_differ.true)
 
 -- row 1 of the lists is passed
-module _ (c : tie.Else1) where
+module _ (c : tie.Else-lengths_differ) where
   abbrev start : tie.Start
   start = c.before.before.before.before
 
@@ -30,7 +30,7 @@ module _ (c : tie.Else1) where
   ps = points start.args.areas.now start.args.values.now start.args.slopes.now
 
   alike : Alike (length start.args.areas.now) (length start.args.values.now) (length start.args.slopes.now)
-  alike = alike_of_row_1 _ _ _ (sym c.before.lengths_differ.ensures ∙ c.if1.false)
+  alike = alike_of_row_1 _ _ _ (sym c.before.lengths_differ.ensures ∙ c.if-lengths_differ.false)
 
   size : length ps ≡ length start.args.areas.now
   size = fields_length (fields_of _ _ _ alike)
@@ -42,27 +42,27 @@ module _ (c : tie.Else1) where
 
   after_lengths : all_rows ≡ curve_rows ps start.args.shape
   unfolding on_lists row ◌then◌
-  after_lengths = rw (sym c.before.lengths_differ.ensures ∙ c.if1.false)
+  after_lengths = rw (sym c.before.lengths_differ.ensures ∙ c.if-lengths_differ.false)
 
-returns-2 : tie.Need-returns-2
+returns-2 : tie.Need-returns-then-bad_count
 unfolding curve_rows fault_answer row ◌then◌
 returns-2 c =
     let b = c.before in
-    rw (after_lengths b.before, size b.before, sym b.bad_count.ensures ∙ c.if2.true)
+    rw (after_lengths b.before, size b.before, sym b.bad_count.ensures ∙ c.if-bad_count.true)
 
 -- row 1 of the points, too
-count_passed : (c : tie.Else2) → bad_count (length (ps c.before.before)) ≡ false
-count_passed c = rw (size c.before.before) (sym c.before.bad_count.ensures ∙ c.if2.false)
+count_passed : (c : tie.Else-bad_count) → bad_count (length (ps c.before.before)) ≡ false
+count_passed c = rw (size c.before.before) (sym c.before.bad_count.ensures ∙ c.if-bad_count.false)
 
-returns-3 : tie.Need-returns-3
+returns-3 : tie.Need-returns-then-bad_code
 unfolding curve_rows fault_answer row ◌then◌
 returns-3 c =
     let b = c.before in
-    rw (after_lengths b.before.before.before, count_passed b.before, sym b.bad_code.ensures ∙ c.if3.true)
+    rw (after_lengths b.before.before.before, count_passed b.before, sym b.bad_code.ensures ∙ c.if-bad_code.true)
 
 -- rows 1 and 2 are passed
-module _ (c : tie.Else3) where
-  abbrev alike_at : tie.Else1
+module _ (c : tie.Else-bad_code) where
+  abbrev alike_at : tie.Else-lengths_differ
   alike_at = c.before.before.before.before
 
   lengths : Lengths (length (start alike_at).args.areas.now) (length (start alike_at).args.values.now)
@@ -75,36 +75,36 @@ module _ (c : tie.Else3) where
       ≡ (point_rows 0 none (ps alike_at) then segment_rows 0 (rule_of (start alike_at).args.shape) (segments (ps alike_at)))
   unfolding curve_rows row ◌then◌
   after_code =
-      rw (after_lengths alike_at, count_passed c.before.before, sym c.before.bad_code.ensures ∙ c.if3.false)
+      rw (after_lengths alike_at, count_passed c.before.before, sym c.before.bad_code.ensures ∙ c.if-bad_code.false)
 
-points-fault-requires : tie.Need-points-fault-requires
+points-fault-requires : tie.Need-points_fault-fault-requires
 points-fault-requires c κs = let k = lengths c in record { alike = k.alike; most = k.most }
 
 -- the points' fault is known
-after_points : (c : tie.After-points-fault) →
+after_points : (c : tie.After-points_fault-fault) →
     (let f = alike_at c.before in
     all_rows f
-    ≡ (fault_answer c.points-fault.result.number c.points-fault.result.place
+    ≡ (fault_answer c.points_fault-fault.result.number c.points_fault-fault.result.place
     then segment_rows 0 (rule_of (start f).args.shape) (segments (ps f))))
-after_points c = rw (after_code c.before, sym c.points-fault.ensures)
+after_points c = rw (after_code c.before, sym c.points_fault-fault.ensures)
 
-returns-4 : tie.Need-returns-4
+returns-4 : tie.Need-returns-then-fault-ne0
 returns-4 c =
     let p = c.before.before in
-    rw (after_points p, fault_then p.points-fault.result.place _ c.if4.true)
+    rw (after_points p, fault_then p.points_fault-fault.result.place _ c.if-fault-ne0.true)
 
-segments-fault-requires : tie.Need-segments-fault-requires
+segments-fault-requires : tie.Need-segments_fault-requires
 segments-fault-requires c κs =
     let p = c.before.before in
-    record { lengths = lengths p.before; points_pass = sym p.points-fault.ensures ∙ no_fault _ c.if4.false }
+    record { lengths = lengths p.before; points_pass = sym p.points_fault-fault.ensures ∙ no_fault _ c.if-fault-ne0.false }
 
-returns-5 : tie.Need-returns-5
+returns-5 : tie.Need-returns
 returns-5 c =
     let p = c.before.before.before in
-    rw (after_points p, passes p.points-fault.result.place _ c.before.if4.false) c.segments-fault.ensures
+    rw (after_points p, passes p.points_fault-fault.result.place _ c.before.if-fault-ne0.false) c.segments_fault.ensures
 
-pub first-fault-spec : {M : Type 1} → statement M
-first-fault-spec =
+pub first_fault_spec : {M : Type 1} → statement M
+first_fault_spec =
     tie.close
     (tie.spec (search rules) returns (search rules) returns-2 (search rules) returns-3 points-fault-requires returns-4
     segments-fault-requires returns-5)

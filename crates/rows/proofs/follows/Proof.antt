@@ -13,13 +13,13 @@ use Rattle.rows.proofs.Faults.{no_fault}
 use Rattle.rows.proofs.follows.Statement.{statement}
 use Rattle.rows.proofs.follows.Tie as tie
 
-point_passes : (c : tie.Else1) (i : ℕ) →
+point_passes : (c : tie.Else-point_fault-ne0) (i : ℕ) →
     (let k = c.before.before.args in point_rows i (some k.p.area) (point_of k.q ∷ []) ≡ gives tt)
 unfolding earlier
-point_passes c i = sym (c.before.point-fault.ensures i) ∙ no_fault i c.if1.false
+point_passes c i = sym (c.before.point_fault.ensures i) ∙ no_fault i c.if-point_fault-ne0.false
 
-pub follows-spec : {M : Type 1} → statement M
-follows-spec =
+pub follows_spec : {M : Type 1} → statement M
+follows_spec =
     tie.close
     (tie.spec (λ c κs. c.requires.area) (λ c e. absurd (true≢false (sym e)))
     (λ c κs. neighbours c.before.before.requires (passed 0 _ _ [] (point_passes c 0)))

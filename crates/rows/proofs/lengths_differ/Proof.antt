@@ -6,13 +6,13 @@ use Rattle.model.specs.Check.{lengths_differ}
 use Rattle.rows.proofs.lengths_differ.Statement.{statement}
 use Rattle.rows.proofs.lengths_differ.Tie as tie
 
-returns : tie.Need-returns
+returns : tie.Need-returns-then-areas-values
 unfolding lengths_differ
-returns c = rw (ne_eqb _ _ c.if1.true)
+returns c = rw (ne_eqb _ _ c.if-areas-values.true)
 
-returns-2 : tie.Need-returns-2
+returns-2 : tie.Need-returns
 unfolding lengths_differ
-returns-2 c = rw (eq-eqb _ _ c.if1.false) refl
+returns-2 c = rw (eq-eqb _ _ c.if-areas-values.false) refl
 
-pub lengths-differ-spec : {M : Type 1} → statement M
-lengths-differ-spec = tie.close (tie.spec returns returns-2)
+pub lengths_differ_spec : {M : Type 1} → statement M
+lengths_differ_spec = tie.close (tie.spec returns returns-2)

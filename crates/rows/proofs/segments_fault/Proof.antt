@@ -18,19 +18,19 @@ use Rattle.rows.proofs.Faults.{segments_from, segment_turn, segment_end}
 use Rattle.rows.proofs.segments_fault.Statement.{statement}
 use Rattle.rows.proofs.segments_fault.Tie as tie
 
-abbrev invariant-loop : tie.invariant-loop
+abbrev invariant-loop : tie.invariant-loop-left
 invariant-loop areas values slopes shape last left₀ left =
     let ps = points areas values slopes in
     (left ≤ last) × (last + 1 ≡ length areas) × (segments_from ps (rule_of shape) left ≡ segments_from ps (rule_of shape) 0)
 
-abbrev decreases-loop : tie.decreases-loop
+abbrev decreases-loop : tie.decreases-loop-left
 decreases-loop areas values slopes shape last left₀ left = last - left
 
-loop-holds : tie.Need-loop-init invariant-loop decreases-loop
+loop-holds : tie.Need-loop-left-init invariant-loop decreases-loop
 loop-holds c = (omega arith, omega arith, refl)
 
 -- the points, and that they are as many as the areas
-module _ (c : tie.At-loop invariant-loop decreases-loop) where
+module _ (c : tie.At-loop-left invariant-loop decreases-loop) where
   abbrev entry : tie.Start invariant-loop decreases-loop
   entry = c.before.before.before
 
@@ -38,52 +38,52 @@ module _ (c : tie.At-loop invariant-loop decreases-loop) where
   ps = points entry.args.areas.now entry.args.values.now entry.args.slopes.now
 
   size : length ps ≡ length entry.args.areas.now
-  size = fields_length (fields_of _ _ _ entry.pre.lengths.alike)
+  size = fields_length (fields_of _ _ _ entry.requires.lengths.alike)
 
-point-at-requires : tie.Need-point-at-requires invariant-loop decreases-loop
-point-at-requires c κs = record { alike = (entry c.before).pre.lengths.alike; index = omega arith }
+point-at-requires : tie.Need-point_at-p-requires invariant-loop decreases-loop
+point-at-requires c κs = record { alike = (entry c.before).requires.lengths.alike; index = omega arith }
 
-point-at-requires-2 : tie.Need-point-at-requires-2 invariant-loop decreases-loop
-point-at-requires-2 c κs = record { alike = (entry c.before.before).pre.lengths.alike; index = omega arith }
+point-at-requires-2 : tie.Need-point_at-q-requires invariant-loop decreases-loop
+point-at-requires-2 c κs = record { alike = (entry c.before.before).requires.lengths.alike; index = omega arith }
 
-abbrev loop-of : tie.After-point-at2 invariant-loop decreases-loop → tie.At-loop invariant-loop decreases-loop
+abbrev loop-of : tie.After-point_at-q invariant-loop decreases-loop → tie.At-loop-left invariant-loop decreases-loop
 loop-of c = c.before.before.before
 
-segment-test-requires : tie.Need-segment-test-requires invariant-loop decreases-loop
+segment-test-requires : tie.Need-segment_test-requires invariant-loop decreases-loop
 segment-test-requires c κs =
     let l = loop-of c in
-    let k = (entry l).pre in
+    let k = (entry l).requires in
     let n = neighbours_of_rows (ps l) (rw (size l) k.lengths.least) k.points_pass in
-    rw (c.before.point_at.ensures, c.point-at2.ensures, add-one)
-    (chained_at Neighbours (λ s g. g.ordered) n l.loop.left (omega (arith, size l)))
+    rw (c.before.point_at-p.ensures, c.point_at-q.ensures, add-one)
+    (chained_at Neighbours (λ s g. g.ordered) n l.loop-left.left (omega (arith, size l)))
 
 -- after the call: this segment's row, then those of the segments after it
-turn : (c : tie.After-segment-test invariant-loop decreases-loop) →
+turn : (c : tie.After-segment_test invariant-loop decreases-loop) →
     (let l = loop-of c.before in
     let rows = segments_from (ps l) (rule_of (entry l).args.shape) in
-    (row (not c.segment_test.result) 6 l.loop.left then rows (l.loop.left + 1)) ≡ rows 0)
+    (row (not c.segment_test.result) 6 l.loop-left.left then rows (l.loop-left.left + 1)) ≡ rows 0)
 turn c =
     let l = loop-of c.before in
-    segment_turn (ps l) (rule_of (entry l).args.shape) l.loop.left (point_of _) (point_of _) (omega (arith, size l))
-    c.before.before.point_at.ensures c.before.point-at2.ensures c.segment_test.ensures
-    ∙ l.loop.inv.2
+    segment_turn (ps l) (rule_of (entry l).args.shape) l.loop-left.left (point_of _) (point_of _) (omega (arith, size l))
+    c.before.before.point_at-p.ensures c.before.point_at-q.ensures c.segment_test.ensures
+    ∙ l.loop-left.inv.2
 
-returns : tie.Need-returns invariant-loop decreases-loop
+returns : tie.Need-returns-then-not-segment_test invariant-loop decreases-loop
 unfolding fault_answer row ◌then◌
-returns c = rw c.if1.true at (turn c.before)
+returns c = rw c.if-not-segment_test.true at (turn c.before)
 
-loop-again : tie.Need-loop-preserved invariant-loop decreases-loop
+loop-again : tie.Need-loop-left-preserved invariant-loop decreases-loop
 unfolding row ◌then◌
-loop-again c = (omega arith, omega arith, rw c.if1.false at (turn c.before))
+loop-again c = (omega arith, omega arith, rw c.if-not-segment_test.false at (turn c.before))
 
-returns-2 : tie.Need-returns-2 invariant-loop decreases-loop
+returns-2 : tie.Need-returns invariant-loop decreases-loop
 unfolding fault_answer row
 returns-2 c =
     let l = c.before in
-    sym (segment_end (ps l) (rule_of (entry l).args.shape) l.loop.left (omega (arith, size l))) ∙ l.loop.invariant.2
+    sym (segment_end (ps l) (rule_of (entry l).args.shape) l.loop-left.left (omega (arith, size l))) ∙ l.loop-left.invariant.2
 
-pub segments-fault-spec : {M : Type 1} → statement M
-segments-fault-spec =
+pub segments_fault_spec : {M : Type 1} → statement M
+segments_fault_spec =
     tie.close
     (tie.spec invariant-loop decreases-loop (λ c. omega arith) loop-holds (λ c. omega arith) point-at-requires point-at-requires-2
     segment-test-requires (λ c. omega arith) returns (λ c. omega arith) loop-again returns-2)

@@ -22,19 +22,19 @@ module _ (c : tie.Start) where
 positive : (c : tie.Start) → 0 < w c → 0 < denominator c
 positive c some = denominator_positive c.requires (omega (arith, some))
 
-returns : tie.Need-returns
+returns : tie.Need-returns-then-w-eq0
 returns c =
     let s = c.before in
-    let none = c.if1.true in
+    let none = c.if-w-eq0.true in
     record {
       divided = λ some. record { product = ap (λ (n : ℕ). n * n) none ∙ omega arith; rest = denominator_positive s.requires some };
       none = λ _. (refl, refl);
     }
 
-mul_c : tie.Need-overflow-mul-c-2
+mul_c : tie.Need-overflow_mul-c-2
 mul_c c = let k = c.before.requires in rw (← k.sum) (omega (arith, denominator_size k))
 
-mul_n : tie.Need-overflow-mul-n
+mul_n : tie.Need-overflow_mul-n
 mul_n c =
     let n = w_most c.before.before.requires in
     record { fits = product_size 32 32 (omega arith) (omega arith) }
@@ -50,32 +50,32 @@ module _ (c : tie.Start) (some : 0 < w c) where
   excess_of : {q r : ℕ} → Divided (w c * w c) (denominator c) q r → divided q r
   excess_of d = record { divided = λ _. d; none = λ e. absurd (omega (arith, some)) }
 
-returns-2 : tie.Need-returns-2
+returns-2 : tie.Need-returns-then-b-h-lt-LARGE
 returns-2 c =
     let s = c.before.before in
-    let some : 0 < w s = omega (arith, c.before.if1.false) in
+    let some : 0 < w s = omega (arith, c.before.if-w-eq0.false) in
     rw (← s.requires.sum)
     (excess_of s some (record {
       product = sym (div-add-mod' (w s * w s) (denominator s));
       rest = mod-lt (w s * w s) (positive s some);
     }))
 
-share-by-requires : tie.Need-share-by-requires
+share-by-requires : tie.Need-share_by-requires
 share-by-requires c κs =
     let s = c.before.before in
-    rw (← s.requires.sum) (shared s.requires (omega (arith, c.if2.false)) (omega (arith, c.before.if1.false)))
+    rw (← s.requires.sum) (shared s.requires (omega (arith, c.if-b-h-lt-LARGE.false)) (omega (arith, c.before.if-w-eq0.false)))
 
-returns-3 : tie.Need-returns-3
+returns-3 : tie.Need-returns
 returns-3 c =
     let e = c.before in
     let s = e.before.before in
-    excess_of s (omega (arith, e.before.if1.false)) (rw (← s.requires.sum) at c.share-by.ensures)
+    excess_of s (omega (arith, e.before.if-w-eq0.false)) (rw (← s.requires.sum) at c.share_by.ensures)
 
-pub excess-spec : {M : Type 1} → statement M
-excess-spec =
+pub excess_spec : {M : Type 1} → statement M
+excess_spec =
     tie.close
     (tie.spec (λ c. omega (arith, w_most c.requires, w_most_size c.requires)) returns
     (λ c. omega (arith, divisor_size c.before.requires)) (λ c. omega (arith, divisor_size c.before.requires)) (search rules) mul_c
     (λ c. omega (arith, w_most_size c.before.requires)) mul_n
-    (λ c. sum_positive c.before.before (omega (arith, c.before.if1.false)))
-    (λ c. sum_positive c.before.before (omega (arith, c.before.if1.false))) returns-2 share-by-requires returns-3)
+    (λ c. sum_positive c.before.before (omega (arith, c.before.if-w-eq0.false)))
+    (λ c. sum_positive c.before.before (omega (arith, c.before.if-w-eq0.false))) returns-2 share-by-requires returns-3)

@@ -62,33 +62,33 @@ module _ (c : tie.Start) where
       let most = reading_size c.args.code _ c.args.area c.requires.1 turned refl in
       sfits_of_size w32 _ (omega (arith, size-- (pos value_most) (read turned), most))
 
-plain-factor-requires : tie.Need-plain-factor-requires
+plain-factor-requires : tie.Need-plain_factor-f-requires
 plain-factor-requires c κs =
     let e = c.requires.0 in
-    rw (e.code_is, e.segment_is) (inside c.args.code _ c.args.area c.requires.1 (turned c) refl)
+    rw (e.code_is, e.segment_is) (inside c.args.code _ c.args.area c.requires.1 (turned c.before.before) refl)
 
-reading_read : (c : tie.After-plain-factor) → to_z w32 (of_z w32 c.plain-factor.result) ≡ read c.before (turned c.before)
+reading_read : (c : tie.After-plain_factor-f) → to_z w32 (of_z w32 c.plain_factor-f.result) ≡ read c.before.before.before (turned c.before.before.before)
 reading_read c =
     let e = c.before.requires.0 in
-    to_z-of_z (record { sfits = c.plain-factor.type-inv }) ∙ (rw (e.code_is, e.segment_is) at c.plain-factor.ensures)
+    to_z-of_z {w = w32} (record { sfits = c.plain_factor-f.type_inv }) ∙ (rw (e.code_is, e.segment_is) at c.plain_factor-f.ensures)
 
-sub_result : tie.Need-overflow-sub-result
-sub_result c = rw (reading_read c.before) (result_fits c.before.before)
+sub_result : tie.Need-overflow_sub-result
+sub_result c = rw (reading_read c.before) (result_fits c.before.before.before.before)
 
-returns : tie.Need-returns
+returns : tie.Need-returns-then-code-gt2
 returns c =
-    let s = c.before.before in
-    let e = lt-ltb 2 s.args.code c.if1.true in
+    let s = c.before.before.before.before in
+    let e = lt-ltb 2 s.args.code c.if-code-gt2.true in
     rw (reading_read c.before)
     (to_z-of_z (result_fits s)
     ∙ ap (λ (t : Bool). pos value_most -ℤ read s t) e
     ∙ taken_off s.args.code _ s.args.area s.requires.1 e)
 
-returns-2 : tie.Need-returns-2
+returns-2 : tie.Need-returns
 returns-2 c =
-    let s = c.before.before in
-    let e = le-ltb 2 s.args.code c.if1.false in
+    let s = c.before.before.before.before in
+    let e = le-ltb 2 s.args.code c.if-code-gt2.false in
     reading_read c.before ∙ ap (λ (t : Bool). read s t) e ∙ as_it_stands s.args.code _ s.args.area s.requires.1 e
 
-pub facing-factor-spec : {M : Type 1} → statement M
-facing-factor-spec = tie.close (tie.spec plain-factor-requires (search rules) sub_result returns returns-2)
+pub facing_factor_spec : {M : Type 1} → statement M
+facing_factor_spec = tie.close (tie.spec plain-factor-requires (search rules) sub_result returns returns-2)

@@ -33,27 +33,27 @@ module _ (c : tie.Start) where
       first +ℤ to_z w64 a.above ≡ hundredths_of (pos a.left) a.slope a.t a.above)
   sum_read = rw (first_read, above_read c.requires)
 
-cast-result-2 : tie.Need-overflow-cast-result-2
+cast-result-2 : tie.Need-overflow_cast-result-2
 cast-result-2 c = rw (to_z-of_z c.ranges.slope) (slope_fits c.requires)
 
-mul_result : tie.Need-overflow-mul-result
+mul_result : tie.Need-overflow_mul-result
 mul_result c = rw (slope_read c, distance_read c.requires) (product_fits c.requires)
 
-add_result : tie.Need-overflow-add-result
+add_result : tie.Need-overflow_add-result
 add_result c =
     rw (slope_read c, distance_read c.requires, to_z-of_z (product_fits c.requires), from_read c.requires) (from_fits c.requires)
 
-add_result_2 : tie.Need-overflow-add-result-2
+add_result_2 : tie.Need-overflow_add-result-2
 add_result_2 c = rw (sum_read c) (sum_fits c.requires)
 
-cast-result-5 : tie.Need-overflow-cast-result-5
+cast-result-5 : tie.Need-overflow_cast-result-5
 cast-result-5 c = rw (sum_read c, to_z-of_z (sum_fits c.requires)) (sum_fits_32 c.requires)
 
 returns : tie.Need-returns
 returns c = rw (sum_read c, to_z-of_z (sum_fits c.requires)) (to_z-of_z (sum_fits_32 c.requires))
 
-pub hundredths-spec : {M : Type 1} → statement M
-hundredths-spec =
+pub hundredths_spec : {M : Type 1} → statement M
+hundredths_spec =
     tie.close
     (tie.spec (λ c. omega (arith, c.requires)) (λ c. omega (arith, c.requires)) cast-result-2 (search rules)
     mul_result add_result (search rules) add_result_2 cast-result-5 returns)

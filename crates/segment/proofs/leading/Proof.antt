@@ -19,11 +19,11 @@ module _ (c : tie.Start) where
   result_size : w / 32 * (w / 32) / ((c.args.a * c.args.u + w) * c.args.h / 1024 + 1) + 1 ≤ 2 * over_most + 1
   result_size = around_most c.requires.0 (leads c.requires.0 c.requires.1) (omega (arith, large_positive c.requires.0 c.requires.1))
 
-mul_result : tie.Need-overflow-mul-result
+mul_result : tie.Need-overflow_mul-result
 mul_result c = let n = w_size c in record { fits = product_size 32 32 (omega arith) (omega arith) }
 
-pub leading-spec : {M : Type 1} → statement M
-leading-spec =
+pub leading_spec : {M : Type 1} → statement M
+leading_spec =
     tie.close
     (tie.spec (λ c. omega (arith, w_size c)) mul_result (λ c. omega (arith, divisor_size c.requires.0))
     (λ c. omega (arith, divisor_size c.requires.0)) (λ c. omega (arith, denominator_size c.requires.0))

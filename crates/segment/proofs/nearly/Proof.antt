@@ -90,9 +90,9 @@ module _ (c : tie.Start) where
   hundreds_fits : SFits w32 (pos 100 *ℤ k n)
   hundreds_fits = sfits_of_size w32 _ (omega (arith, size_* (pos 100) (k n), k_size))
 
-k_read : (c : tie.After-floor-div) → to_z w32 (of_z w32 c.floor-div.result) ≡ k (n c.before)
+k_read : (c : tie.After-floor_div-k) → to_z w32 (of_z w32 c.floor_div-k.result) ≡ k (n c.before)
 k_read c =
-    to_z-of_z (record { sfits = c.floor-div.type-inv }) ∙ (rw (half_read c.before) at c.floor-div.ensures)
+    to_z-of_z {w = w32} (record { sfits = c.floor_div-k.type_inv }) ∙ (rw (half_read c.before) at c.floor_div-k.ensures)
 
 returns : tie.Need-returns
 returns c =
@@ -107,8 +107,8 @@ returns c =
       },
     )
 
-pub nearly-spec : {M : Type 1} → statement M
-nearly-spec =
+pub nearly_spec : {M : Type 1} → statement M
+nearly_spec =
     tie.close
     (tie.spec (λ c. rw (n_read c) (half_fits c))
     (λ c κs. rw (half_read c) (record { above_0 = lit< tt; small = omega arith; size = omega (arith, half_size c) }))

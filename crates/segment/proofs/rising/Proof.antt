@@ -79,39 +79,39 @@ module _ (c : tie.Start) where
   proper : Proper ((pos c.args.left *ℤ pos b +ℤ pos n) over pos b)
   proper = Q.proper_over _ _ (Z.pos_<_of_< c.requires.above_0)
 
-add_n : tie.Need-overflow-add-n
-add_n c = rw (c.before.part.ensures, c.part2.ensures) (omega (arith, share_size))
+add_n : tie.Need-overflow_add-n
+add_n c = rw (c.before.part-a.ensures, c.part.ensures) (omega (arith, share_size))
 
-mul_n : tie.Need-overflow-mul-n
-mul_n c = rw c.before.part.ensures (omega (arith, share_size))
+mul_n : tie.Need-overflow_mul-n
+mul_n c = rw c.before.part-a.ensures (omega (arith, share_size))
 
-add_k : tie.Need-overflow-add-k
-add_k c = rw (c.before.part.ensures, c.part2.ensures) (omega (arith, k_size c.before.before))
+add_k : tie.Need-overflow_add-k
+add_k c = rw (c.before.part-a.ensures, c.part.ensures) (omega (arith, k_size c.before.before))
 
-cast-k : tie.Need-overflow-cast-k
+cast-k : tie.Need-overflow_cast-k
 cast-k c =
-    rw (c.before.part.ensures, c.part2.ensures) (sfits_of_size w32 _ (omega (arith, k_size c.before.before)))
+    rw (c.before.part-a.ensures, c.part.ensures) (sfits_of_size w32 _ (omega (arith, k_size c.before.before)))
 
-returns : tie.Need-returns
+returns : tie.Need-returns-then-n-b-ne0
 returns c =
     let e = c.before in
     let s = e.before.before in
     let split = sym (div-add-mod' (m s) (b s)) in
-    let some = rw (e.before.part.ensures, e.part2.ensures) at c.if1.true in
-    rw (e.before.part.ensures, e.part2.ensures, k_read s)
+    let some = rw (e.before.part-a.ensures, e.part.ensures) at c.if-n-b-ne0.true in
+    rw (e.before.part-a.ensures, e.part.ensures, k_read s)
     (sym (round_rounding.unique (proper s)
     (off_tie s.args.left (n s) (b s) (m s / b s) (m s % b s) split (omega arith) (mod-lt (m s) s.requires.above_0))))
 
-sub_nearest : tie.Need-overflow-sub-nearest
+sub_nearest : tie.Need-overflow_sub-k
 sub_nearest c =
     let e = c.before in
-    rw (e.before.part.ensures, e.part2.ensures, k_read e.before.before) (before_fits e.before.before)
+    rw (e.before.part-a.ensures, e.part.ensures, k_read e.before.before) (before_fits e.before.before)
 
 nearest-requires : tie.Need-nearest-requires
 nearest-requires c κs =
     let e = c.before in
     let s = e.before.before in
-    rw (e.before.part.ensures, e.part2.ensures, k_read s, to_z-of_z (before_fits s))
+    rw (e.before.part-a.ensures, e.part.ensures, k_read s, to_z-of_z (before_fits s))
     (record {
       size = omega (arith, size-- (pos (k s)) (pos 1), k_size s);
       above_0 = s.requires.above_0;
@@ -119,18 +119,18 @@ nearest-requires c κs =
       divisor = omega (arith, whole_size s.requires);
     })
 
-returns-2 : tie.Need-returns-2
+returns-2 : tie.Need-returns
 returns-2 c =
     let e = c.before.before in
     let s = e.before.before in
-    let none = rw (e.before.part.ensures, e.part2.ensures) at c.before.if1.false in
-    to_z-of_z (record { sfits = c.nearest.type-inv })
-    ∙ (rw (e.before.part.ensures, e.part2.ensures, k_read s, to_z-of_z (before_fits s)) at c.nearest.ensures)
+    let none = rw (e.before.part-a.ensures, e.part.ensures) at c.before.if-n-b-ne0.false in
+    to_z-of_z {w = w32} (record { sfits = c.nearest.type_inv })
+    ∙ (rw (e.before.part-a.ensures, e.part.ensures, k_read s, to_z-of_z (before_fits s)) at c.nearest.ensures)
     ∙ ap (λ (z : ℤ). round (z over pos (b s)))
     (at_tie s.args.left (n s) (b s) (m s / b s) (m s % b s) (sym (div-add-mod' (m s) (b s))) none)
 
-pub rising-spec : {M : Type 1} → statement M
-rising-spec =
+pub rising_spec : {M : Type 1} → statement M
+rising_spec =
     tie.close
     (tie.spec (search rules) (search rules) (omega (arith, left_size)) (λ c κs. left_weights c.requires) (omega (arith, right_size))
     (λ c κs. right_weights c.before.requires) (omega (arith, whole_size)) mul_n add_n (search rules) add_k cast-k (search rules)

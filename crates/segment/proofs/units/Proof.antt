@@ -57,23 +57,23 @@ module _ {n k : ℤ} (e : HalfWay n k) where
   k_fits : SFits w32 k
   k_fits = sfits_of_size w32 _ (omega (arith, e.size))
 
-returns : tie.Need-returns
+returns : tie.Need-returns-then-e
 returns c =
     let e = c.before.before in
     let a = e.before.args in
     let n_read = to_z-of_z e.before.ranges.n in
-    to_z-of_z (record { sfits = c.struct_told.given.0.1 })
-    ∙ sym (e.nearly.ensures.0 c.before.if1.true _ (rw n_read (about a.n (sticky a.r) (sticky_most a.r))))
+    to_z-of_z {w = w32} (record { sfits = c.struct_told-1.given.0.1 })
+    ∙ sym (e.nearly-e.ensures.0 c.before.if-e.true _ (rw n_read (about a.n (sticky a.r) (sticky_most a.r))))
 
-half_way : (c : tie.Else1) → (let e = c.before in HalfWay e.before.args.n e.nearly.result.k)
-half_way c = rw (to_z-of_z c.before.before.ranges.n) at (c.before.nearly.ensures.1 c.if1.false)
+half_way : (c : tie.Else-e) → (let e = c.before in HalfWay e.before.args.n e.nearly-e.result.k)
+half_way c = rw (to_z-of_z c.before.before.ranges.n) at (c.before.nearly-e.ensures.1 c.if-e.false)
 
-sub_nearest : tie.Need-overflow-sub-nearest
+sub_nearest : tie.Need-overflow_sub-e
 sub_nearest c =
     let h = half_way c.before.before in
     rw (to_z-of_z (k_fits h)) (before_fits h)
 
-add_nearest : tie.Need-overflow-add-nearest
+add_nearest : tie.Need-overflow_add-digit
 add_nearest c =
     rw c.digit.ensures (omega (arith, sticky_most c.before.before.before.before.before.args.r))
 
@@ -89,16 +89,16 @@ nearest-requires c κs =
       divisor = lit< tt;
     })
 
-returns-2 : tie.Need-returns-2
+returns-2 : tie.Need-returns
 returns-2 c =
     let e = c.before.before.before.before in
     let h = half_way e in
-    to_z-of_z (record { sfits = c.nearest.type-inv })
+    to_z-of_z {w = w32} (record { sfits = c.nearest.type_inv })
     ∙ (rw (to_z-of_z (k_fits h), to_z-of_z (before_fits h), c.before.digit.ensures) at c.nearest.ensures)
     ∙ ap (λ (z : ℤ). round (z over pos 200)) (at_tie (sticky e.before.before.args.r) h)
 
-pub units-spec : {M : Type 1} → statement M
-units-spec =
+pub units_spec : {M : Type 1} → statement M
+units_spec =
     tie.close
     (tie.spec (λ c κs. rw (to_z-of_z c.ranges.n) c.requires) returns sub_nearest (search rules) add_nearest nearest-requires
     returns-2)
