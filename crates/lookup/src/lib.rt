@@ -1,5 +1,6 @@
 // The segment that an area takes, of points in three lists.
 #![tactic(auto)]
+
 ghost use Rattle.std.specs.Prelude.{◌≡◌, List, ◌≤◌, ◌<◌, length};
 ghost use Rattle.model.specs.Points.{points_most, Point, points};
 ghost use Rattle.model.specs.Read.{outside as lies_outside, reading};

@@ -9,27 +9,27 @@ use Rattle.model.specs.Inner.{Reached}
 use Rattle.lookup.proofs.find.Statement.{statement}
 use Rattle.lookup.proofs.find.Tie as tie
 
-abbrev invariant-loop : tie.invariant-loop
+abbrev invariant-loop : tie.invariant-loop-i
 invariant-loop areas from area i₀ i = Reached areas i area
 
-abbrev decreases-loop : tie.decreases-loop
+abbrev decreases-loop : tie.decreases-loop-i
 decreases-loop areas from area i₀ i = length areas - i
 
-module _ (c : tie.Then1 invariant-loop decreases-loop) where
+module _ (c : tie.In-loop-i invariant-loop decreases-loop) where
   abbrev entry : tie.Start invariant-loop decreases-loop
   entry = c.before.before.before.before
 
-  next_reached : Reached entry.args.areas.now (suc c.before.before.loop.i) entry.args.area
-  next_reached = c.before.takes.ensures.no (not-true _ c.if1.true)
+  next_reached : Reached entry.args.areas.now (suc c.before.before.loop-i.i) entry.args.area
+  next_reached = c.before.takes.ensures.no (not-true _ c.loop-i-test.true)
 
-add_i : tie.Need-overflow-add-i invariant-loop decreases-loop
+add_i : tie.Need-overflow_add-i invariant-loop decreases-loop
 add_i c = let n = (next_reached c).inner in omega (arith, (entry c).well-formed)
 
-loop-less : tie.Need-loop-smaller invariant-loop decreases-loop
+loop-less : tie.Need-loop-i-smaller invariant-loop decreases-loop
 loop-less c = let n = (next_reached c).inner in omega arith
 
 pub find_spec : {M : Type 1} → statement M
 find_spec =
     tie.close
-    (tie.spec invariant-loop decreases-loop (λ c. c.before.requires) (λ c κs. c.loop.invariant) add_i loop-less
-    (λ c. rw add-one (next_reached c)) (λ c. c.before.takes.ensures.yes (not-false _ c.if1.false)))
+    (tie.spec invariant-loop decreases-loop (λ c. c.before.requires) (λ c κs. c.loop-i.invariant) add_i loop-less
+    (λ c. rw add-one (next_reached c)) (λ c. c.before.takes.ensures.yes (not-false _ c.loop-i-test.false)))

@@ -9,23 +9,23 @@ use Rattle.model.proofs.Search.{Looking, looking_starts, looking_takes, looking_
 use Rattle.lookup.proofs.last_not_above.Statement.{statement}
 use Rattle.lookup.proofs.last_not_above.Tie as tie
 
-abbrev invariant-loop : tie.invariant-loop
+abbrev invariant-loop : tie.invariant-loop-i
 invariant-loop areas from step end area last₀ i₀ last i = Looking areas step end area last i
 
-abbrev decreases-loop : tie.decreases-loop
+abbrev decreases-loop : tie.decreases-loop-i
 decreases-loop areas from step end area last₀ i₀ last i = end - i
 
-loop-again : tie.Need-loop-preserved invariant-loop decreases-loop
+loop-again : tie.Need-loop-i-preserved invariant-loop decreases-loop
 loop-again c =
     let l = c.before.before.before in
     let k = l.before.requires.0.inner in
-    let t = c.before.before.loop-test.true in
-    ⊎_elim (λ w. rw w.1 (looking_takes k t w.0.taken)) (λ w. rw w.1 (looking_passes l.loop.invariant w.0.left))
-    c.if1.branch
+    let t = c.before.before.loop-i-test.true in
+    ⊎_elim (λ w. rw w.1 (looking_takes k t w.0.taken)) (λ w. rw w.1 (looking_passes l.loop-i.invariant w.0.left))
+    c.if-areas-i.branch
 
-pub last-not-above-spec : {M : Type 1} → statement M
-last-not-above-spec =
+pub last_not_above_spec : {M : Type 1} → statement M
+last_not_above_spec =
     tie.close
     (tie.spec invariant-loop decreases-loop (λ c. omega arith) (λ c. looking_starts c.requires.1 c.requires.0.before) (search rules)
     (search rules) (λ c. omega arith) (λ c. omega arith) (λ c. omega arith) loop-again
-    (λ c. looked c.before.loop.invariant c.loop-test.false))
+    (λ c. looked c.before.loop-i.invariant c.loop-i-test.false))

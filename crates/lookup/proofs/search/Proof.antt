@@ -8,26 +8,26 @@ use Rattle.model.proofs.Search.{Near, near_next, near_last, taken_of, taken_of_t
 use Rattle.lookup.proofs.search.Statement.{statement}
 use Rattle.lookup.proofs.search.Tie as tie
 
-abbrev entry : tie.After-last-not-above → tie.Start
+abbrev entry : tie.After-last_not_above-from → tie.Start
 entry c = c.before.before.before
 
 -- where the second search ends
-near : (c : tie.Joined2) →
+near : (c : tie.Joined-from-end) →
     (let s = (entry c.before).args in
-    Near s.areas.now (length s.areas.now) c.before.last-not-above.result c.if2.end s.area)
+    Near s.areas.now (length s.areas.now) c.before.last_not_above-from.result c.if-from-end.end s.area)
 near c =
-    let l = c.before.last-not-above.ensures in
+    let l = c.before.last_not_above-from.ensures in
     let most = (entry c.before).requires.0 in
-    ⊎_elim (λ w. rw w.1 (near_next refl most l w.0.taken)) (λ w. rw w.1 (near_last refl most l)) c.if2.branch
+    ⊎_elim (λ w. rw w.1 (near_next refl most l w.0.taken)) (λ w. rw w.1 (near_last refl most l)) c.if-from-end.branch
 
-last-not-above-requires-2 : tie.Need-last-not-above-requires-2
-last-not-above-requires-2 c κs = ((near c).strides, c.before.last-not-above.ensures.reached)
+last-not-above-requires-2 : tie.Need-last_not_above-requires
+last-not-above-requires-2 c κs = ((near c).strides, c.before.last_not_above-from.ensures.reached)
 
-returns-2 : tie.Need-returns-2
-returns-2 c = taken_of (near c.before) c.last-not-above2.ensures
+returns-2 : tie.Need-returns
+returns-2 c = taken_of (near c.before) c.last_not_above.ensures
 
-pub search-spec : {M : Type 1} → statement M
-search-spec =
+pub search_spec : {M : Type 1} → statement M
+search_spec =
     tie.close
-    (tie.spec (λ c. taken_of_two c.before.before.requires.1 c.if1.true) (search rules) (search rules) (search rules)
+    (tie.spec (λ c. taken_of_two c.before.before.requires.1 c.if-areas-eq2.true) (search rules) (search rules) (search rules)
     (search rules) (search rules) last-not-above-requires-2 (search rules) returns-2)

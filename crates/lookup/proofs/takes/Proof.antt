@@ -9,19 +9,19 @@ use borrow.Author.Tests.{ltb-true, ltb-false}
 use Rattle.lookup.proofs.takes.Statement.{statement}
 use Rattle.lookup.proofs.takes.Tie as tie
 
-returns : tie.Need-returns
+returns : tie.Need-returns-then-i-areas
 returns c =
     record {
       yes = λ e. record { reached = c.before.requires; high = inr (omega arith) };
       no = λ e. absurd (true≢false e);
     }
 
-returns-2 : tie.Need-returns-2
+returns-2 : tie.Need-returns
 returns-2 c =
     rw add-one (record {
       yes = λ e. record { reached = c.before.before.requires; high = inl (ltb-true _ _ e) };
       no = λ e. record { inner = (let n = c.before.before.requires.inner in omega arith); low = ltb-false _ _ e };
     })
 
-pub takes-spec : {M : Type 1} → statement M
-takes-spec = tie.close (tie.spec (search rules) returns (search rules) (search rules) (search rules) returns-2)
+pub takes_spec : {M : Type 1} → statement M
+takes_spec = tie.close (tie.spec (search rules) returns (search rules) (search rules) (search rules) returns-2)

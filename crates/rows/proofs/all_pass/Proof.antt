@@ -57,7 +57,7 @@ loop-again c =
     let l = c.before.before.before.before in
     let k = l.loop-left.invariant in
     let t = c.before.before.before.loop-left-test.true in
-    let f = rw (k.2, q) at (c.before.follows.ensures (not-false _ c.if-not-follows.false)) in
+    let f = rw (k.2, q) at (c.before.follows.ensures c.if-not-follows.false) in
     (omega arith, k.1, q, passing_goes_on (ps l.before) _ (omega (arith, size l.before)) f k.3)
 
 returns-3 : tie.Need-returns invariant-loop decreases-loop

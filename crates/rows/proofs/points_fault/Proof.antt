@@ -1,23 +1,24 @@
 -- `rows::points_fault` meets its contract. The loop's invariant: the rows from point i on decide as those from the first.
 -- Assumes nothing.
 use mathlib.Core.Path.{◌≡◌, refl, sym, ◌∙◌, ap}
-use mathlib.Core.List.{List}
-use mathlib.Core.Logic.{inl, inr}
+use mathlib.Core.List.{List, [], ◌∷◌}
 use mathlib.Core.Option.{none, some}
-use Prim.Native.Nat.{ℕ, ◌+◌, ◌-◌, ◌≤◌}
+use Prim.Native.Nat.{ℕ, ◌+◌, ◌-◌, ◌≤◌, ◌<◌}
 use native.Mathlib.Omega.{arith}
 use borrow.Author.Rules.{rules}
 use lib.Dec.{eqb}
 use lib.ListN.{length}
 use Rattle.model.specs.Answer.{◌then◌}
 use Rattle.model.specs.Points.{area_most, Point, points}
-use Rattle.model.specs.Inner.{fault_answer}
+use Rattle.model.specs.Check.{point_rows}
+use Rattle.model.specs.Inner.{fault_answer, point_at}
 use Rattle.model.proofs.Lists.{fields_of, fields_length}
 use Rattle.point.specs.Inner.{earlier, point_of}
 use Rattle.rows.proofs.Faults.{no_fault, passes, fault_then, limits_of_no_fault}
 use Rattle.rows.proofs.Faults.{points_from, earlier_of_next, point_turn, point_end}
 use Rattle.rows.proofs.points_fault.Statement.{statement}
 use Rattle.rows.proofs.points_fault.Tie as tie
+use Rattle.rows.proofs.points_fault.Lts.{else-loop-i-test, then-loop-i-test+then-number-ne0}
 
 abbrev invariant-loop : tie.invariant-loop-i
 invariant-loop areas values slopes number₀ before₀ i₀ number before i =
@@ -48,25 +49,24 @@ module _ (c : tie.At-loop-i invariant-loop decreases-loop) where
 abbrev loop-of : tie.After-point_fault-number invariant-loop decreases-loop → tie.At-loop-i invariant-loop decreases-loop
 loop-of c = c.before.before.before
 
--- after the call: this point's fault, then the rows of the points after it
-turn : (c : tie.After-point_fault-number invariant-loop decreases-loop) →
-    (let l = loop-of c in
-    let i = l.loop-i.i in
-    (fault_answer c.point_fault-number.result i then points_from (ps l) (some c.before.point_at-p.result.area) (i + 1))
-    ≡ points_from (ps l) none 0)
-turn c =
-    let l = loop-of c in
-    let here = c.before.before.loop-i-test.true in
-    point_turn (ps l) (earlier (eqb l.loop-i.i 0) l.loop-i.before) l.loop-i.i _ (point_of c.before.point_at-p.result)
-    (omega (arith, size l)) c.before.point_at-p.ensures (c.point_fault-number.ensures l.loop-i.i)
-    ∙ l.loop-i.inv.3
+-- a point's fault, then the rows of the points after it
+turn : (l : tie.At-loop-i invariant-loop decreases-loop) (number : ℕ) (p : Point) → l.loop-i.i < length l.args.areas.now →
+    p ≡ point_at (ps l) l.loop-i.i →
+    ((i : ℕ) → fault_answer number i ≡ point_rows i (earlier (eqb l.loop-i.i 0) l.loop-i.before) (p ∷ [])) →
+    (fault_answer number l.loop-i.i then points_from (ps l) (some p.area) (l.loop-i.i + 1)) ≡ points_from (ps l) none 0
+turn l number p here is fault =
+    point_turn (ps l) (earlier (eqb l.loop-i.i 0) l.loop-i.before) l.loop-i.i number p (omega (arith, size l)) is
+    (fault l.loop-i.i)
+    ∙ l.loop-i.invariant.3
 
 loop-again : tie.Need-loop-i-preserved invariant-loop decreases-loop
 loop-again c =
     let a = c.before in
     let i = (loop-of a).loop-i.i in
     let limits = limits_of_no_fault i _ (point_of a.before.point_at-p.result) (a.point_fault-number.ensures i) c.if-number-ne0.false in
-    (omega arith, c.if-number-ne0.false, limits.area, rw (earlier_of_next _ i) (sym (passes i _ c.if-number-ne0.false) ∙ turn a))
+    let next = turn (loop-of a) _ (point_of a.before.point_at-p.result) c.loop-i-test.true a.before.point_at-p.ensures
+    a.point_fault-number.ensures in
+    (omega arith, c.if-number-ne0.false, limits.area, rw (earlier_of_next _ i) (sym (passes i _ c.if-number-ne0.false) ∙ next))
 
 returns : tie.Need-returns invariant-loop decreases-loop
 returns c =
@@ -74,15 +74,12 @@ returns c =
     let i = l.loop-i.i in
     let before = earlier (eqb i 0) l.loop-i.before in
     elim c.loop-i-test.branch [
-      | inl w ↦
-          no_fault i (w.1 ∙ l.loop-i.invariant.1)
-          ∙ sym (point_end (ps l) before i (omega (arith, w.0.left, size l))) ∙ l.loop-i.invariant.3
-      | inr w ↦
-          let a : tie.After-point_fault-number invariant-loop decreases-loop = record {
-            before = record { before = record { before = l; loop-test = w.0 }; point_at = w.1 };
-            point-fault = w.2;
-          } in
-          ap (λ (n : ℕ). fault_answer n i) w.4 ∙ sym (fault_then i _ w.3.taken) ∙ turn a
+      | else-loop-i-test w ↦
+          no_fault i (w.number-is ∙ l.loop-i.invariant.1)
+          ∙ sym (point_end (ps l) before i (omega (arith, w.loop-i-test.false, size l))) ∙ l.loop-i.invariant.3
+      | then-loop-i-test+then-number-ne0 w ↦
+          ap (λ (n : ℕ). fault_answer n i) w.number-is ∙ sym (fault_then i _ w.if-number-ne0.true)
+          ∙ turn l _ (point_of w.point_at-p.result) w.loop-i-test.true w.point_at-p.ensures w.point_fault-number.ensures
     ]
 
 pub points_fault_spec : {M : Type 1} → statement M

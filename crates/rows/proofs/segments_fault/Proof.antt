@@ -66,7 +66,7 @@ turn c =
     let l = loop-of c.before in
     segment_turn (ps l) (rule_of (entry l).args.shape) l.loop-left.left (point_of _) (point_of _) (omega (arith, size l))
     c.before.before.point_at-p.ensures c.before.point_at-q.ensures c.segment_test.ensures
-    ∙ l.loop-left.inv.2
+    ∙ l.loop-left.invariant.2
 
 returns : tie.Need-returns-then-not-segment_test invariant-loop decreases-loop
 unfolding fault_answer row ◌then◌
