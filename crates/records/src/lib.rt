@@ -1,5 +1,6 @@
 // Rows 1 to 6, of the points of a curve file where they stand.
 #![tactic(auto)]
+
 ghost use Rattle.std.specs.Prelude.{◌≡◌, true, false, map, ◌++◌, length, drop};
 ghost use Rattle.model.specs.Check.{bad_code, curve_rows};
 ghost use Rattle.model.specs.Inner.{Accepted, fault_answer};

@@ -1,5 +1,6 @@
 -- `lookup::factor_at` meets its contract.
 -- Assumes nothing.
+use mir.Syntax.{w32}
 use mathlib.Core.Path.{◌≡◌, sym, ◌∙◌}
 use mathlib.Core.List.{List}
 use Prim.Native.Nat.{◌+◌, ◌<◌}
@@ -29,7 +30,7 @@ point-at-requires : tie.Need-point_at-p-requires
 point-at-requires c κs = record { alike = (entry c).requires.0; index = omega (arith, next_index c) }
 
 add_point_at : tie.Need-overflow_add-i
-add_point_at c = omega (arith, next_index c.before, (entry c.before).well-formed)
+add_point_at c = omega (arith, next_index c.before, (entry c.before).well_formed)
 
 point-at-requires-2 : tie.Need-point_at-q-requires
 point-at-requires-2 c κs = record { alike = (entry c.before).requires.0; index = next_index c.before }
@@ -51,7 +52,7 @@ factor-requires c κs = rw (segment_is c) (inside (start c).requires.1)
 returns : tie.Need-returns
 returns c =
     let b = c.before in
-    to_z-of_z (record { sfits = c.factor.type_inv }) ∙ c.factor.ensures ∙ rw (segment_is b) (sym (reading_is (start b).requires.1))
+    to_z-of_z {w = w32} (record { sfits = c.factor.type_inv }) ∙ c.factor.ensures ∙ rw (segment_is b) (sym (reading_is (start b).requires.1))
 
 pub factor_at_spec : {M : Type 1} → statement M
 factor_at_spec = tie.close (tie.spec point-at-requires add_point_at point-at-requires-2 factor-requires returns)

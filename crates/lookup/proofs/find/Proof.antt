@@ -20,10 +20,10 @@ module _ (c : tie.In-loop-i invariant-loop decreases-loop) where
   entry = c.before.before.before.before
 
   next_reached : Reached entry.args.areas.now (suc c.before.before.loop-i.i) entry.args.area
-  next_reached = c.before.takes.ensures.no (not-true _ c.loop-i-test.true)
+  next_reached = c.before.takes.ensures.no c.loop-i-test.true
 
 add_i : tie.Need-overflow_add-i invariant-loop decreases-loop
-add_i c = let n = (next_reached c).inner in omega (arith, (entry c).well-formed)
+add_i c = let n = (next_reached c).inner in omega (arith, (entry c).well_formed)
 
 loop-less : tie.Need-loop-i-smaller invariant-loop decreases-loop
 loop-less c = let n = (next_reached c).inner in omega arith
@@ -32,4 +32,4 @@ pub find_spec : {M : Type 1} → statement M
 find_spec =
     tie.close
     (tie.spec invariant-loop decreases-loop (λ c. c.before.requires) (λ c κs. c.loop-i.invariant) add_i loop-less
-    (λ c. rw add-one (next_reached c)) (λ c. c.before.takes.ensures.yes (not-false _ c.loop-i-test.false)))
+    (λ c. rw add-one (next_reached c)) (λ c. c.before.takes.ensures.yes c.loop-i-test.false))

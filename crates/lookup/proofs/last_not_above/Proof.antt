@@ -1,13 +1,13 @@
 -- `lookup::last_not_above` meets its contract. The invariant: `last` is such an index, and a step after it is above the area
 -- read, or is the next to be looked at.
 -- Assumes nothing.
-use mathlib.Core.Logic.{⊎_elim}
 use Prim.Native.Nat.{◌-◌}
 use native.Mathlib.Omega.{arith}
 use borrow.Author.Rules.{rules}
 use Rattle.model.proofs.Search.{Looking, looking_starts, looking_takes, looking_passes, looked}
 use Rattle.lookup.proofs.last_not_above.Statement.{statement}
 use Rattle.lookup.proofs.last_not_above.Tie as tie
+use Rattle.lookup.proofs.last_not_above.Lts.{then-areas-i, else-areas-i}
 
 abbrev invariant-loop : tie.invariant-loop-i
 invariant-loop areas from step end area last₀ i₀ last i = Looking areas step end area last i
@@ -20,8 +20,10 @@ loop-again c =
     let l = c.before.before.before in
     let k = l.before.requires.0.inner in
     let t = c.before.before.loop-i-test.true in
-    ⊎_elim (λ w. rw w.1 (looking_takes k t w.0.taken)) (λ w. rw w.1 (looking_passes l.loop-i.invariant w.0.left))
-    c.if-areas-i.branch
+    elim c.if-areas-i.branch [
+      | then-areas-i w ↦ rw w.last-is (looking_takes k t w.if-areas-i.true)
+      | else-areas-i w ↦ rw w.last-is (looking_passes l.loop-i.invariant w.if-areas-i.false)
+    ]
 
 pub last_not_above_spec : {M : Type 1} → statement M
 last_not_above_spec =

@@ -1,12 +1,12 @@
 -- `lookup::search` meets its contract: the last of every eighth area, then of those up to the next such one or to the last.
 -- Assumes nothing.
 use mathlib.Core.Path.{refl}
-use mathlib.Core.Logic.{⊎_elim}
 use borrow.Author.Rules.{rules}
 use lib.ListN.{length}
 use Rattle.model.proofs.Search.{Near, near_next, near_last, taken_of, taken_of_two}
 use Rattle.lookup.proofs.search.Statement.{statement}
 use Rattle.lookup.proofs.search.Tie as tie
+use Rattle.lookup.proofs.search.Lts.{then-from-end, else-from-end}
 
 abbrev entry : tie.After-last_not_above-from → tie.Start
 entry c = c.before.before.before
@@ -18,7 +18,10 @@ near : (c : tie.Joined-from-end) →
 near c =
     let l = c.before.last_not_above-from.ensures in
     let most = (entry c.before).requires.0 in
-    ⊎_elim (λ w. rw w.1 (near_next refl most l w.0.taken)) (λ w. rw w.1 (near_last refl most l)) c.if-from-end.branch
+    elim c.if-from-end.branch [
+      | then-from-end w ↦ rw w.end-is (near_next refl most l w.if-from-end.true)
+      | else-from-end w ↦ rw w.end-is (near_last refl most l)
+    ]
 
 last-not-above-requires-2 : tie.Need-last_not_above-requires
 last-not-above-requires-2 c κs = ((near c).strides, c.before.last_not_above-from.ensures.reached)

@@ -14,37 +14,37 @@ use Rattle.records.specs.Inner.{CurvePoints}
 use Rattle.records.proofs.curve_fault.Statement.{statement}
 use Rattle.records.proofs.curve_fault.Tie as tie
 
-returns : tie.Need-returns
+returns : tie.Need-returns-then-bad_count
 unfolding curve_rows fault_answer row ◌then◌
 returns c =
     let k = c.before.before.before.args in
-    rw (size_of_first k.bytes.now k.n, sym c.before.bad_count.ensures ∙ c.if1.true)
+    rw (size_of_first k.bytes.now k.n, sym c.before.bad_count.ensures ∙ c.if-bad_count.true)
 
 -- row 1 is passed
-count_passed : (c : tie.Else1) → bad_count c.before.before.before.args.n ≡ false
-count_passed c = sym c.before.bad_count.ensures ∙ c.if1.false
+count_passed : (c : tie.Else-bad_count) → bad_count c.before.before.before.args.n ≡ false
+count_passed c = sym c.before.bad_count.ensures ∙ c.if-bad_count.false
 
-counted : (c : tie.Else1) → (let k = c.before.before.before.args in CurvePoints k.n (length k.bytes.now))
+counted : (c : tie.Else-bad_count) → (let k = c.before.before.before.args in CurvePoints k.n (length k.bytes.now))
 counted c =
     let k = count_of_row_1 _ (count_passed c) in
     record { file = c.before.before.before.requires; least = k.0; most = k.1 }
 
-returns-2 : tie.Need-returns-2
+returns-2 : tie.Need-returns-then-bad_code
 unfolding curve_rows fault_answer row ◌then◌
 returns-2 c =
     let b = c.before.before in
     let k = b.before.before.before.args in
-    let code = sym c.before.bad_code.ensures ∙ c.if2.true in
+    let code = sym c.before.bad_code.ensures ∙ c.if-bad_code.true in
     rw (size_of_first k.bytes.now k.n, count_passed b, code)
 
-all-pass-requires : tie.Need-all-pass-requires
-all-pass-requires c κs = (counted c.before.before, sym c.before.bad_code.ensures ∙ c.if2.false)
+all-pass-requires : tie.Need-all_pass-requires
+all-pass-requires c κs = (counted c.before.before, sym c.before.bad_code.ensures ∙ c.if-bad_code.false)
 
-returns-3 : tie.Need-returns-3
-returns-3 c = no_fault 0 refl ∙ sym (c.before.all_pass.ensures c.if3.true).none_applies
+returns-3 : tie.Need-returns-then-all_pass
+returns-3 c = no_fault 0 refl ∙ sym (c.before.all_pass.ensures c.if-all_pass.true).none_applies
 
-pub curve-fault-spec : {M : Type 1} → statement M
-curve-fault-spec =
+pub curve_fault_spec : {M : Type 1} → statement M
+curve_fault_spec =
     tie.close
     (tie.spec (search rules) returns (search rules) returns-2 all-pass-requires returns-3
-    (λ c κs. counted c.before.before.before.before) (λ c. c.listed-fault.ensures))
+    (λ c κs. counted c.before.before.before.before) (λ c. c.listed_fault.ensures))

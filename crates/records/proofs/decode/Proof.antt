@@ -21,13 +21,13 @@ record Decoding (bytes : List ℕ) (n : ℕ) (areas₀ values₀ : List ℕ) (sl
   pub values_are : Filling (λ i. (record_at bytes i).value) i values₀ values
   pub slopes_are : Filling (λ i. (record_at bytes i).slope) i slopes₀ slopes
 
-abbrev invariant-loop : tie.invariant-loop
+abbrev invariant-loop : tie.invariant-loop-i
 invariant-loop bytes n areas₀ values₀ slopes₀ i₀ areas values slopes i = Decoding bytes n areas₀ values₀ slopes₀ areas values slopes i
 
-abbrev decreases-loop : tie.decreases-loop
+abbrev decreases-loop : tie.decreases-loop-i
 decreases-loop bytes n areas₀ values₀ slopes₀ i₀ areas values slopes i = n - i
 
-loop-holds : tie.Need-loop-init invariant-loop decreases-loop
+loop-holds : tie.Need-loop-i-init invariant-loop decreases-loop
 loop-holds c =
     record {
       most = omega arith;
@@ -36,11 +36,11 @@ loop-holds c =
       slopes_are = filling_starts _ _;
     }
 
-loop-again : tie.Need-loop-preserved invariant-loop decreases-loop
+loop-again : tie.Need-loop-i-preserved invariant-loop decreases-loop
 loop-again c =
-    let k = c.before.before.before.loop.invariant in
-    let p = c.before.record_at in
-    let h = c.before.before.loop-test.true in
+    let k = c.before.before.before.loop-i.invariant in
+    let p = c.before.record_at-p in
+    let h = c.before.before.loop-i-test.true in
     record {
       most = omega arith;
       areas_are = filling_goes_on _ 0 _ k.areas_are (omega arith) (ap (λ (p : Point). p.area) p.ensures);
@@ -52,17 +52,17 @@ loop-again c =
 
 returns : tie.Need-returns invariant-loop decreases-loop
 returns c =
-    let k = c.before.loop.invariant in
+    let k = c.before.loop-i.invariant in
     let s = c.before.before.before.before.before.args in
-    let e : c.before.loop.i ≡ s.n = omega arith in
+    let e : c.before.loop-i.i ≡ s.n = omega arith in
     let f = record_at s.bytes.now in
     rw (map_tabulate f (λ p. p.area) 0 s.n, map_tabulate f (λ p. p.value) 0 s.n, map_tabulate f (λ p. p.slope) 0 s.n)
     (filled_up _ k.areas_are e, (filled_up _ k.values_are e, filled_up _ k.slopes_are e))
 
-pub decode-spec : {M : Type 1} → statement M
-decode-spec =
+pub decode_spec : {M : Type 1} → statement M
+decode_spec =
     tie.close
     (tie.spec invariant-loop decreases-loop loop-holds (λ c κs. record { file = omega arith }) (λ c. omega arith) (λ c. omega arith)
     (λ c. omega arith) (λ c. omega arith) (λ c. omega arith) (λ c. omega arith) (λ c. omega arith) (λ c. omega arith)
-    loop-again (λ c. c.before.loop.invariant.areas_are.size) (λ c. c.before.loop.invariant.values_are.size)
-    (λ c. c.before.loop.invariant.slopes_are.size) returns)
+    loop-again (λ c. c.before.loop-i.invariant.areas_are.size) (λ c. c.before.loop-i.invariant.values_are.size)
+    (λ c. c.before.loop-i.invariant.slopes_are.size) returns)

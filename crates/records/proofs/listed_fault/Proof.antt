@@ -11,7 +11,7 @@ use Rattle.layout.proofs.Points.{first_of, as_many}
 use Rattle.records.proofs.listed_fault.Statement.{statement}
 use Rattle.records.proofs.listed_fault.Tie as tie
 
-abbrev decoded : tie.After-areas3 → tie.After-decode
+abbrev decoded : tie.After-areas-3-1 → tie.After-decode
 decoded c = c.before.before.before.before
 
 module _ (c : tie.After-decode) where
@@ -21,22 +21,22 @@ module _ (c : tie.After-decode) where
   abbrev ps : List Point
   ps = first_points start.args.bytes.now start.args.n
 
-  areas_are : take start.args.n c.decode.new.1.1.0 ≡ map (λ p. p.area) ps
+  areas_are : take start.args.n c.decode.new.n.1.0 ≡ map (λ p. p.area) ps
   areas_are = first_of _ _ (λ p. p.area) _ c.decode.ensures.0
 
-  values_are : take start.args.n c.decode.new.1.1.1.0 ≡ map (λ p. p.value) ps
+  values_are : take start.args.n c.decode.new.n.1.1.0 ≡ map (λ p. p.value) ps
   values_are = first_of _ _ (λ p. p.value) _ c.decode.ensures.1.0
 
-  slopes_are : take start.args.n c.decode.new.1.1.1.1.0 ≡ map (λ p. p.slope) ps
+  slopes_are : take start.args.n c.decode.new.n.1.1.1.0 ≡ map (λ p. p.slope) ps
   slopes_are = first_of _ _ (λ p. p.slope) _ c.decode.ensures.1.1
 
 returns : tie.Need-returns
 returns c =
     let d = decoded c.before.before.before in
-    rw (areas_are d, values_are d, slopes_are d, on_lists_of_is (ps d)) at c.first-fault.ensures
+    rw (areas_are d, values_are d, slopes_are d, on_lists_of_is (ps d)) at c.first_fault.ensures
 
-pub listed-fault-spec : {M : Type 1} → statement M
-listed-fault-spec =
+pub listed_fault_spec : {M : Type 1} → statement M
+listed_fault_spec =
     tie.close
     (tie.spec (search rules) (search rules) (search rules) (search rules)
     (search rules) (λ c. as_many _ _ _ (areas_are (decoded c)))
