@@ -1,5 +1,6 @@
 // The entries of a sheet.
 #![tactic(auto)]
+
 ghost use Rattle.std.specs.Prelude.{◌≡◌, List, ℕ, ◌<◌, ◌≤◌, length};
 ghost use Rattle.model.specs.Points.{area_most, Point, points};
 ghost use Rattle.model.specs.Read.{reading};

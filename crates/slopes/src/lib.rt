@@ -1,5 +1,6 @@
 // Slopes that nobody supplies, by the harmonic rule.
 #![tactic(auto)]
+
 ghost use Rattle.std.specs.Prelude.{◌≡◌, true, ◌++◌, ◌+◌, ◌-◌, ◌≤◌, ◌<◌, pos, length, take, drop};
 ghost use Rattle.model.specs.Answer.{gives, filled, row_at_each};
 ghost use Rattle.model.specs.Inner.{fault_answer, first_answer, point_at};

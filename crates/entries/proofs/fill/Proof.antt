@@ -24,14 +24,14 @@ record Filled (f : ℕ → ℤ) (areas : List ℕ) (k start step index : ℕ) (b
   pub reached : Reached areas k (entry_area start step index)
   pub filling : Filling f index before after
 
-abbrev invariant-loop : tie.invariant-loop
+abbrev invariant-loop : tie.invariant-loop-index
 invariant-loop areas values slopes shape start step out₀ k₀ index₀ out k index =
     Filled (λ j. reading (points areas values slopes) shape (entry_area start step j)) areas k start step index out₀ out
 
-abbrev decreases-loop : tie.decreases-loop
+abbrev decreases-loop : tie.decreases-loop-index
 decreases-loop areas values slopes shape start step out₀ k₀ index₀ out k index = length out₀ - index
 
-loop-holds : tie.Need-loop-init invariant-loop decreases-loop
+loop-holds : tie.Need-loop-index-init invariant-loop decreases-loop
 loop-holds c =
     let s = c.before.before in
     let areas = s.args.areas.now in
@@ -48,39 +48,39 @@ loop-holds c =
     }
 
 -- the next entry
-module _ (c : tie.In-loop invariant-loop decreases-loop) where
+module _ (c : tie.In-loop-index invariant-loop decreases-loop) where
   abbrev entry : tie.Start invariant-loop decreases-loop
   entry = c.before.before.before.before
 
-  index_below : c.before.loop.index < length entry.args.out.now
-  index_below = omega (arith, c.before.loop.invariant.filling.size, c.loop-test.true)
+  index_below : c.before.loop-index.index < length entry.args.out.now
+  index_below = omega (arith, c.before.loop-index.invariant.filling.size, c.loop-index-test.true)
 
-area-of-requires : tie.Need-area-of-requires invariant-loop decreases-loop
+area-of-requires : tie.Need-area_of-requires invariant-loop decreases-loop
 area-of-requires c κs =
-    area_limit (entry c).requires.accepted _ ((entry c).requires.inside c.before.loop.index (index_below c))
+    area_limit (entry c).requires.accepted _ ((entry c).requires.inside c.before.loop-index.index (index_below c))
 
-find-requires : tie.Need-find-requires invariant-loop decreases-loop
-find-requires c κs = rw c.area_of.ensures c.before.before.loop.invariant.reached
+find-requires : tie.Need-find-k-requires invariant-loop decreases-loop
+find-requires c κs = rw c.area_of.ensures c.before.before.loop-index.invariant.reached
 
-fill-segment-requires : tie.Need-fill-segment-requires invariant-loop decreases-loop
+fill-segment-requires : tie.Need-fill_segment-index-requires invariant-loop decreases-loop
 fill-segment-requires c κs =
     let a = c.before.before in
-    rw a.before.before.loop.invariant.filling.size (record {
-      entries = (entry a.before).pre;
+    rw a.before.before.loop-index.invariant.filling.size (record {
+      entries = (entry a.before).requires;
       left = index_below a.before;
-      taken = rw a.area_of.ensures at c.before.find.ensures;
+      taken = rw a.area_of.ensures at c.before.find-k.ensures;
     })
 
-abbrev area_known : tie.After-fill-segment invariant-loop decreases-loop → tie.After-area-of invariant-loop decreases-loop
+abbrev area_known : tie.After-fill_segment-index invariant-loop decreases-loop → tie.After-area_of invariant-loop decreases-loop
 area_known c = c.before.before.before
 
-loop-again : tie.Need-loop-preserved invariant-loop decreases-loop
+loop-again : tie.Need-loop-index-preserved invariant-loop decreases-loop
 loop-again c =
     let a = area_known c.before in
     let s = entry a.before in
-    let k = a.before.before.loop.inv in
-    let n = c.before.fill-segment.ensures in
-    let found = rw a.area_of.ensures at c.before.before.before.find.ensures.reached in
+    let k = a.before.before.loop-index.invariant in
+    let n = c.before.fill_segment-index.ensures in
+    let found = rw a.area_of.ensures at c.before.before.before.find-k.ensures.reached in
     record {
       most = (let h = n.most in let e = k.filling.size in omega arith);
       reached = reached_later s.args.start s.args.step (le_of_lt n.more) found;
@@ -89,13 +89,13 @@ loop-again c =
 
 returns : tie.Need-returns invariant-loop decreases-loop
 returns c =
-    let k = c.before.loop.invariant in
-    filled_up _ k.filling (omega (arith, k.most, k.filling.size, c.loop-test.false))
+    let k = c.before.loop-index.invariant in
+    filled_up _ k.filling (omega (arith, k.most, k.filling.size, c.loop-index-test.false))
     ∙ fill_all _ c.before.before.before.before.args.out.now
 
 pub fill_spec : {M : Type 1} → statement M
 fill_spec =
     tie.close
     (tie.spec invariant-loop decreases-loop loop-holds area-of-requires find-requires fill-segment-requires
-    (λ c. omega (arith, index_below (area_known c.before).before, c.before.fill-segment.ensures.more)) loop-again
-    (λ c. c.before.loop.invariant.filling.size) returns)
+    (λ c. omega (arith, index_below (area_known c.before).before, c.before.fill_segment-index.ensures.more)) loop-again
+    (λ c. c.before.loop-index.invariant.filling.size) returns)

@@ -34,38 +34,38 @@ module _ (ps : List Point) {areas : List ℕ} (are : areas_of ps ≡ areas) (som
       let past = lt-div-mul-add {a = last areas - start} up in
       outside_of_beyond ps are some (start + (steps areas start step + 1) * step) (omega arith)
 
-returns : tie.Need-returns
+returns : tie.Need-returns-then-outside
 returns c ps e n =
     each_first _ 7 0 n (λ j h. absurd (omega arith))
-    (λ h. rw (zero-mul, add-zero) (sym (c.before.outside.ensures ps e) ∙ c.if1.true))
+    (λ h. rw (zero-mul, add-zero) (sym (c.before.outside.ensures ps e) ∙ c.if-outside.true))
 
 -- the first entry is inside
-start_inside : (c : tie.Else1) (ps : List Point) → areas_of ps ≡ c.before.before.before.args.areas.now →
+start_inside : (c : tie.Else-outside) (ps : List Point) → areas_of ps ≡ c.before.before.before.args.areas.now →
     outside ps c.before.before.before.args.start ≡ false
-start_inside c ps e = sym (c.before.outside.ensures ps e) ∙ c.if1.false
+start_inside c ps e = sym (c.before.outside.ensures ps e) ∙ c.if-outside.false
 
-start_≤_last : (c : tie.Else1) → (let k = c.before.before.before.args in k.start ≤ last k.areas.now)
+start_≤_last : (c : tie.Else-outside) → (let k = c.before.before.before.args in k.start ≤ last k.areas.now)
 start_≤_last c =
     let s = c.before.before.before in
     let areas = s.args.areas.now in
     not_beyond (flat_points areas) (flat_areas areas) s.requires.0 s.args.start (start_inside c _ (flat_areas areas))
 
-steps_fit : (c : tie.After-shared-slice-known2) →
+steps_fit : (c : tie.After-shared_slice_known-2-1) →
     (let k = c.before.before.before.before.args in steps k.areas.now k.start k.step < 4294967296)
 steps_fit c =
     let s = c.before.before.before.before in
     let areas = s.args.areas.now in
-    omega (arith, div-le_self (last areas - s.args.start) s.args.step, c.shared-slice-known2.given (length areas - 1))
+    omega (arith, div-le_self (last areas - s.args.start) s.args.step, c.shared_slice_known-2-1.given (length areas - 1))
 
-returns-2 : tie.Need-returns-2
+returns-2 : tie.Need-returns
 returns-2 c ps e n =
     let s = c.before.before.before.before in
     let within = start_inside c.before ps e in
     each_first _ 7 _ n (entry_inside ps e s.requires.0 _ _ s.requires.1 within)
     (λ h. next_outside ps e s.requires.0 _ _ s.requires.1 within)
 
-pub first-outside-spec : {M : Type 1} → statement M
-first-outside-spec =
+pub first_outside_spec : {M : Type 1} → statement M
+first_outside_spec =
     tie.close
     (tie.spec (search rules) returns (search rules) (search rules) (search rules) (λ c. start_≤_last c.before) (search rules)
     (λ c. omega (arith, steps_fit c)) (λ c. omega (arith, steps_fit c)) returns-2)

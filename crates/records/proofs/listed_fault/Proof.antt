@@ -21,13 +21,13 @@ module _ (c : tie.After-decode) where
   abbrev ps : List Point
   ps = first_points start.args.bytes.now start.args.n
 
-  areas_are : take start.args.n c.decode.new.n.1.0 ≡ map (λ p. p.area) ps
+  areas_are : take start.args.n c.decode.new.areas ≡ map (λ p. p.area) ps
   areas_are = first_of _ _ (λ p. p.area) _ c.decode.ensures.0
 
-  values_are : take start.args.n c.decode.new.n.1.1.0 ≡ map (λ p. p.value) ps
+  values_are : take start.args.n c.decode.new.values ≡ map (λ p. p.value) ps
   values_are = first_of _ _ (λ p. p.value) _ c.decode.ensures.1.0
 
-  slopes_are : take start.args.n c.decode.new.n.1.1.1.0 ≡ map (λ p. p.slope) ps
+  slopes_are : take start.args.n c.decode.new.slopes ≡ map (λ p. p.slope) ps
   slopes_are = first_of _ _ (λ p. p.slope) _ c.decode.ensures.1.1
 
 returns : tie.Need-returns

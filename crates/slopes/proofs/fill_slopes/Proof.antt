@@ -25,16 +25,16 @@ use Rattle.harmonic.proofs.Answers.{answer_refused, answer_after}
 use Rattle.slopes.proofs.fill_slopes.Statement.{statement}
 use Rattle.slopes.proofs.fill_slopes.Tie as tie
 
-returns : tie.Need-returns
+returns : tie.Need-returns-then-lengths_differ
 unfolding fill_answer supplied_answer filled row ◌then◌
 returns c =
     let k = c.before.before.before.before.args in
-    let e : lengths_differ (length k.areas.now) (length k.values.now) (length k.slopes.now) ≡ true =
-    sym c.before.lengths_differ.ensures ∙ c.if1.true in
+    let e : lengths_differ (length k.areas.now) (length k.values.now) (length k.slopes-1.now) ≡ true =
+    sym c.before.lengths_differ.ensures ∙ c.if-lengths_differ.true in
     (rw e, refl)
 
 -- row 1 is passed
-module _ (c : tie.Else1) where
+module _ (c : tie.Else-lengths_differ) where
   abbrev start : tie.Start
   start = c.before.before.before.before
 
@@ -45,59 +45,59 @@ module _ (c : tie.Else1) where
   values = start.args.values.now
 
   same : lengths_differ (length areas) (length values) (length start.args.slopes.now) ≡ false
-  same = sym c.before.lengths_differ.ensures ∙ c.if1.false
+  same = sym c.before.lengths_differ.ensures ∙ c.if-lengths_differ.false
 
   alike : Alike (length areas) (length values) (length start.args.slopes.now)
   alike = alike_of_row_1 _ _ _ same
 
-returns-2 : tie.Need-returns-2
+returns-2 : tie.Need-returns-then-bad_count
 unfolding fill_answer supplied_answer filled row ◌then◌
-returns-2 c = (rw (same c.before.before, sym c.before.bad_count.ensures ∙ c.if2.true), refl)
+returns-2 c = (rw (same c.before.before, sym c.before.bad_count.ensures ∙ c.if-bad_count.true), refl)
 
-module _ (c : tie.Else2) where
-  abbrev at_1 : tie.Else1
+module _ (c : tie.Else-bad_count) where
+  abbrev at_1 : tie.Else-lengths_differ
   at_1 = c.before.before
 
   count : bad_count (length (areas at_1)) ≡ false
-  count = sym c.before.bad_count.ensures ∙ c.if2.false
+  count = sym c.before.bad_count.ensures ∙ c.if-bad_count.false
 
   counted : Counted (areas at_1) (values at_1)
   counted =
       let n = count_of_row_1 _ count in
       record { same_length = (alike at_1).values_too; least = n.0; most = n.1 }
 
-returns-3 : tie.Need-returns-3
+returns-3 : tie.Need-returns-then-fault-ne0
 unfolding supplied_answer filled
 returns-3 c =
     let f = c.before.before in
     let k = at_1 f.before in
-    let e = sym f.rated-fault.ensures ∙ a_fault _ c.if3.true in
+    let e = sym f.rated_fault-fault.ensures ∙ a_fault _ c.if-fault-ne0.true in
     (sym (answer_refused (areas k) (values k) _ (same k) (count f.before) e), refl)
 
 -- rows 1, 3, 4 and 6 are passed
-abbrev at_count : tie.Else3 → tie.Else2
+abbrev at_count : tie.Else-fault-ne0 → tie.Else-bad_count
 at_count c = c.before.before.before
 
-passed : (c : tie.Else3) → (let k = at_1 (at_count c) in rated_rows (areas k) (values k) ≡ gives tt)
-passed c = sym c.before.before.rated-fault.ensures ∙ no_fault _ c.if3.false
+passed : (c : tie.Else-fault-ne0) → (let k = at_1 (at_count c) in rated_rows (areas k) (values k) ≡ gives tt)
+passed c = sym c.before.before.rated_fault-fault.ensures ∙ no_fault _ c.if-fault-ne0.false
 
-returns-4 : tie.Need-returns-4
+returns-4 : tie.Need-returns-then-place-n
 unfolding supplied_answer filled row ◌then◌
 returns-4 c =
     let f = c.before.before in
     let e = f.before.before in
     let k = at_1 (at_count e) in (
       sym (answer_after (areas k) (values k) _ (same k) (count (at_count e)) (passed e)
-          ∙ (rw (← f.fill-figures.ensures.0, lt-ltb _ _ c.if4.true))),
+          ∙ (rw (← f.fill_figures-place.ensures.0, lt-ltb _ _ c.if-place-n.true))),
       refl,
     )
 
 -- no figure is too steep
-abbrev at_rated : tie.Else4 → tie.Else3
+abbrev at_rated : tie.Else-place-n → tie.Else-fault-ne0
 at_rated c = c.before.before.before.before
 
-module _ (c : tie.Else4) where
-  abbrev lists : tie.Else1
+module _ (c : tie.Else-place-n) where
+  abbrev lists : tie.Else-lengths_differ
   lists = at_1 (at_count (at_rated c))
 
   abbrev made : List ℤ
@@ -110,9 +110,9 @@ module _ (c : tie.Else4) where
   unfolding row ◌then◌
   gives_all =
       answer_after (areas lists) (values lists) _ (same lists) (count (at_count (at_rated c))) (passed (at_rated c))
-      ∙ (rw (← c.before.before.fill-figures.ensures.0, le-ltb _ _ c.if4.false))
+      ∙ (rw (← c.before.before.fill_figures-place.ensures.0, le-ltb _ _ c.if-place-n.false))
 
-returns-5 : tie.Need-returns-5
+returns-5 : tie.Need-returns
 unfolding supplied_answer filled
 returns-5 c =
     let e = c.before.before.before.before in
@@ -121,7 +121,7 @@ returns-5 c =
     rw (made_size e, drop-length slopes) (append-nil (made e)) in (
       sym (gives_all e),
       c.before.copy.ensures
-          ∙ ap (take (length slopes)) (e.before.before.fill-figures.ensures.1 e.if4.false)
+          ∙ ap (take (length slopes)) (e.before.before.fill_figures-place.ensures.1 e.if-place-n.false)
           ∙ take_at (made e) _ (length slopes) (made_size e)
           ∙ sym all,
     )
@@ -130,10 +130,10 @@ copy-requires : tie.Need-copy-requires
 copy-requires c κs =
     let e = c.before.before in
     let m = (counted (at_count (at_rated e))).most in
-    omega (arith, (alike (lists e)).slopes_too, e.before.before.fill-figures.auto)
+    omega (arith, (alike (lists e)).slopes_too, e.before.before.fill_figures-place.auto)
 
-pub fill-slopes-spec : {M : Type 1} → statement M
-fill-slopes-spec =
+pub fill_slopes_spec : {M : Type 1} → statement M
+fill_slopes_spec =
     tie.close
     (tie.spec (search rules) returns (search rules) returns-2 (λ c κs. counted c) returns-3 (search rules)
     (λ c κs. (climbing_of (counted (at_count c.before)) (passed c.before), (counted (at_count c.before)).most))

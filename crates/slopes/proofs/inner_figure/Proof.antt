@@ -8,14 +8,14 @@ use Rattle.slopes.proofs.Sizes.{rises_size, gaps_size, inner_top, inner_bottom, 
 use Rattle.slopes.proofs.inner_figure.Statement.{statement}
 use Rattle.slopes.proofs.inner_figure.Tie as tie
 
-returns : tie.Need-returns
-returns c = sym (inner_flat _ _ _ _ c.if1.true)
+returns : tie.Need-returns-then-rises-eq0
+returns c = sym (inner_flat _ _ _ _ c.if-rises-eq0.true)
 
-returns-2 : tie.Need-returns-2
+returns-2 : tie.Need-returns
 returns-2 c = sym (inner_figure _ _ _ _ (search rules))
 
-pub inner-figure-spec : {M : Type 1} → statement M
-inner-figure-spec =
+pub inner_figure_spec : {M : Type 1} → statement M
+inner_figure_spec =
     tie.close
     (tie.spec (omega (arith, rises_size)) returns (search rules) (omega (arith, inner_top)) (omega (arith, inner_top))
     (omega (arith, gaps_size)) (search rules) (omega (arith, inner_bottom))

@@ -11,5 +11,5 @@ returns c =
     let s = c.before.before in
     sym (zero_slope_at s.requires.0 _ s.requires.1)
 
-pub zero-slope-point-spec : {M : Type 1} → statement M
-zero-slope-point-spec = tie.close (tie.spec (search rules) (search rules) (search rules) (search rules) returns)
+pub zero_slope_point_spec : {M : Type 1} → statement M
+zero_slope_point_spec = tie.close (tie.spec (search rules) (search rules) (search rules) (search rules) returns)
