@@ -1,5 +1,6 @@
 // Factor curves through rated points.
 #![tactic(auto)]
+
 ghost use Rattle.std.specs.Prelude.{◌≡◌, length};
 ghost use Rattle.model.specs.Points.{points};
 ghost use Rattle.model.specs.Check.{check_answer, on_lists};
