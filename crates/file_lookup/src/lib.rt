@@ -1,5 +1,6 @@
 // Row 7, the segment that an area takes and the factor there, of the points of a curve file where they stand.
 #![tactic(auto)]
+
 ghost use Rattle.std.specs.Prelude.{◌≡◌, length};
 ghost use Rattle.model.specs.Answer.{gives, ◌then◌};
 ghost use Rattle.model.specs.Read.{outside as lies_outside, reading};

@@ -1,5 +1,6 @@
 // The factors at two areas of one curve, from the reading's promise alone.
 #![tactic(auto)]
+
 ghost use Rattle.std.specs.Prelude.{◌≡◌};
 ghost use Rattle.model.specs.Check.{on_lists};
 ghost use Rattle.pair.specs.Pair.{pair_answer};

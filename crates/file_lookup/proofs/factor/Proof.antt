@@ -25,19 +25,19 @@ module _ (c : tie.Start) where
   counted : CurvePoints c.args.n (length c.args.bytes.now)
   counted = curve_points _ _ given.accepted c.requires.0
 
-find-requires : tie.Need-find-requires
+find-requires : tie.Need-find-i-requires
 find-requires c κs =
     let k = counted c.before in
     (k, reached_first _ _ _ k.least (given c.before).within)
 
-factor-at-requires : tie.Need-factor-at-requires
+factor-at-requires : tie.Need-factor_at-requires
 unfolding ◌then◌
 factor-at-requires c κs =
     let s = c.before.before in
-    (s.requires.0, rw (s.requires.1, read_is (given s).accepted c.find.ensures))
+    (s.requires.0, rw (s.requires.1, read_is (given s).accepted c.find-i.ensures))
 
 returns : tie.Need-returns
-returns c = to_z-of_z (record { sfits = c.factor-at.type-inv }) ∙ c.factor-at.ensures
+returns c = to_z-of_z (record { sfits = c.factor_at.type_inv }) ∙ c.factor_at.ensures
 
-pub factor-spec : {M : Type 1} → statement M
-factor-spec = tie.close (tie.spec find-requires factor-at-requires returns)
+pub factor_spec : {M : Type 1} → statement M
+factor_spec = tie.close (tie.spec find-requires factor-at-requires returns)

@@ -22,12 +22,12 @@ read : (c : tie.Start) → (let k = c.args in ReadAt k.bytes.now k.n k.shape k.a
 read c = read_at_of _ _ _ _ c.requires.1
 
 -- the two records are the segment read
-found : (c : tie.After-record-at2) →
+found : (c : tie.After-record_at-2) →
     (let s = c.before.before.before in
-    segment_of c.before.record_at.result c.record-at2.result ≡ segment_at (ps s) (segment_read (ps s) s.args.area))
+    segment_of c.before.record_at.result c.record_at-2.result ≡ segment_at (ps s) (segment_read (ps s) s.args.area))
 found c =
     let s = c.before.before.before in
-    rw (c.before.record_at.ensures, c.record-at2.ensures, add-one, (read s).index)
+    rw (c.before.record_at.ensures, c.record_at-2.ensures, add-one, (read s).index)
     (sym (segment_is _ _ (read s).inner))
 
 factor-requires : tie.Need-factor-requires
@@ -37,10 +37,10 @@ factor-requires c κs =
 
 returns : tie.Need-returns
 unfolding reading exact_value
-returns c = rw (to_z-of_z (record { sfits = c.factor.type-inv }), c.factor.ensures, found c.before)
+returns c = rw (to_z-of_z (record { sfits = c.factor.type_inv }), c.factor.ensures, found c.before)
 
-pub factor-at-spec : {M : Type 1} → statement M
-factor-at-spec =
+pub factor_at_spec : {M : Type 1} → statement M
+factor_at_spec =
     tie.close
     (tie.spec (λ c κs. record { file = omega (arith, (read c.before).inner) })
     (λ c. omega (arith, (read c.before.before).inner))

@@ -12,33 +12,33 @@ use Rattle.file_lookup.proofs.Placed.{areas_size}
 use Rattle.file_lookup.proofs.find.Statement.{statement}
 use Rattle.file_lookup.proofs.find.Tie as tie
 
-abbrev entry : tie.After-last-not-above → tie.Start
+abbrev entry : tie.After-last_not_above-from → tie.Start
 entry c = c.before.before.before
 
 -- where the second search ends
-near : (c : tie.Joined2) →
+near : (c : tie.Joined-from-end) →
     (let s = (entry c.before).args in
-    Near (areas_of (first_points s.bytes.now s.n)) s.n c.before.last-not-above.result c.if2.end s.area)
+    Near (areas_of (first_points s.bytes.now s.n)) s.n c.before.last_not_above-from.result c.if-from-end.end s.area)
 near c =
     let s = entry c.before in
     let size = areas_size s.args.bytes.now s.args.n in
     let areas = areas_of (first_points s.args.bytes.now s.args.n) in
-    let l : LastOf areas c.before.last-not-above.result 8 (s.args.n - 1) s.args.area =
-    c.before.last-not-above.ensures in
-    let most = s.pre.0.most in
-    ⊎_elim (λ w. rw w.1 (near_next size most l w.0.taken)) (λ w. rw w.1 (near_last size most l)) c.if2.branch
+    let l : LastOf areas c.before.last_not_above-from.result 8 (s.args.n - 1) s.args.area =
+    c.before.last_not_above-from.ensures in
+    let most = s.requires.0.most in
+    ⊎_elim (λ w. rw w.1 (near_next size most l w.0.taken)) (λ w. rw w.1 (near_last size most l)) c.if-from-end.branch
 
-last-not-above-requires-2 : tie.Need-last-not-above-requires-2
+last-not-above-requires-2 : tie.Need-last_not_above-requires
 last-not-above-requires-2 c κs =
-    ((entry c.before).requires.0, (near c).strides, c.before.last-not-above.ensures.reached)
+    ((entry c.before).requires.0, (near c).strides, c.before.last_not_above-from.ensures.reached)
 
-returns : tie.Need-returns
+returns : tie.Need-returns-then-n-eq2
 returns c =
     let s = c.before.before in
-    taken_of_two s.requires.1 (areas_size s.args.bytes.now s.args.n ∙ c.if1.true)
+    taken_of_two s.requires.1 (areas_size s.args.bytes.now s.args.n ∙ c.if-n-eq2.true)
 
-returns-2 : tie.Need-returns-2
-returns-2 c = taken_of (near c.before) c.last-not-above2.ensures
+returns-2 : tie.Need-returns
+returns-2 c = taken_of (near c.before) c.last_not_above.ensures
 
 pub find_spec : {M : Type 1} → statement M
 find_spec =

@@ -12,28 +12,28 @@ use Rattle.file_lookup.proofs.Placed.{areas_size}
 use Rattle.file_lookup.proofs.last_not_above.Statement.{statement}
 use Rattle.file_lookup.proofs.last_not_above.Tie as tie
 
-abbrev invariant-loop : tie.invariant-loop
+abbrev invariant-loop : tie.invariant-loop-i
 invariant-loop bytes n from step end area last₀ i₀ last i = Looking (areas_of (first_points bytes n)) step end area last i
 
-abbrev decreases-loop : tie.decreases-loop
+abbrev decreases-loop : tie.decreases-loop-i
 decreases-loop bytes n from step end area last₀ i₀ last i = end - i
 
-loop-again : tie.Need-loop-preserved invariant-loop decreases-loop
+loop-again : tie.Need-loop-i-preserved invariant-loop decreases-loop
 loop-again c =
     let l = c.before.before.before in
     let s = l.before.before.args in
     let k = l.before.before.requires.1.inner in
-    let t = c.before.before.loop-test.true in
-    let here : l.loop.i < s.n = omega arith in
-    let e = area_is s.bytes.now s.n l.loop.i here in
+    let t = c.before.before.loop-i-test.true in
+    let here : l.loop-i.i < s.n = omega arith in
+    let e = area_is s.bytes.now s.n l.loop-i.i here in
     let a = c.before.area_of.ensures in
     ⊎_elim (λ w. rw w.1 (looking_takes (rw (areas_size s.bytes.now s.n) k) t (omega (arith, e, a, w.0.taken))))
-    (λ w. rw w.1 (looking_passes l.loop.invariant (omega (arith, e, a, w.0.left))))
-    c.if1.branch
+    (λ w. rw w.1 (looking_passes l.loop-i.invariant (omega (arith, e, a, w.0.left))))
+    c.if-area_of-area.branch
 
-pub last-not-above-spec : {M : Type 1} → statement M
-last-not-above-spec =
+pub last_not_above_spec : {M : Type 1} → statement M
+last_not_above_spec =
     tie.close
     (tie.spec invariant-loop decreases-loop (λ c. omega arith) (λ c. looking_starts c.before.requires.2 c.before.requires.1.before)
     (λ c κs. record { file = omega arith }) (λ c. omega arith) (λ c. omega arith) loop-again
-    (λ c. looked c.before.loop.invariant c.loop-test.false))
+    (λ c. looked c.before.loop-i.invariant c.loop-i-test.false))

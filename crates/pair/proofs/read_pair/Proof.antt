@@ -56,33 +56,33 @@ module _ {areas values : List ℕ} {slopes : List ℤ} {code x : ℕ} {f : ℤ} 
   difference_fits {p = p} m = sfits_of_size w32 (p -ℤ f) (omega (arith, size-- p f, k.small, m.small))
 
 -- the places: the entry, and after the form area is read
-abbrev at_read : tie.After-read → tie.Start
+abbrev at_read : tie.After-read-at_form → tie.Start
 at_read c = c.before.before.before
 
-abbrev start : tie.After-known-told2 → tie.Start
+abbrev start : tie.In-Factor → tie.Start
 start c = at_read c.before.before.before
 
-abbrev formed : tie.After-known-told4 → tie.After-known-told2
+abbrev formed : tie.In-Factor-at_plan → tie.In-Factor
 formed c = c.before.before.before.before
 
-abbrev formed_3 : tie.After-known-told3 → tie.After-known-told2
+abbrev formed_3 : tie.In-Refused-at_plan → tie.In-Factor
 formed_3 c = c.before.before.before.before
 
 abbrev ReadAt : tie.Start → ℕ → ℤ → Type 0
 ReadAt s x f = Read s.args.areas.now s.args.values.now s.args.slopes.now s.args.shape x f
 
-at_form : (c : tie.After-known-told2) → ReadAt (start c) (start c).args.form c.before.at-form2.given.0.0
+at_form : (c : tie.In-Factor) → ReadAt (start c) (start c).args.form c.before.in-Factor.f
 unfolding reading_answer
 at_form c =
-    let r = c.before.before.before.read.ensures in
-    read_of_answer _ _ _ _ _ r.0 r.1 (ap reading_answer c.before.at-form2.given.1)
+    let r = c.before.before.before.read-at_form.ensures in
+    read_of_answer _ _ _ _ _ r.0 r.1 (ap reading_answer c.before.in-Factor.is)
 
-at_plan : (c : tie.After-known-told4) →
-    (let s = start (formed c) in ReadAt s s.args.plan c.before.at-plan2.given.0.0)
+at_plan : (c : tie.In-Factor-at_plan) →
+    (let s = start (formed c) in ReadAt s s.args.plan c.before.in-Factor-at_plan.p)
 unfolding reading_answer
 at_plan c =
-    let r = c.before.before.before.read2.ensures in
-    read_of_answer _ _ _ _ _ r.0 r.1 (ap reading_answer c.before.at-plan2.given.1)
+    let r = c.before.before.before.read-at_plan.ensures in
+    read_of_answer _ _ _ _ _ r.0 r.1 (ap reading_answer c.before.in-Factor-at_plan.is)
 
 -- rows that refuse the form area refuse the pair
 form_refused : (ps : List Point) (code form plan : ℕ) {n i : ℕ} → read_answer ps code form ≡ refused n i →
@@ -90,27 +90,27 @@ form_refused : (ps : List Point) (code form plan : ℕ) {n i : ℕ} → read_ans
 unfolding read_answer pair_answer
 form_refused ps code form plan e = refused_before (curve_rows ps code) (outside ps form) 7 (reading ps code form) _ e
 
-sub_t16 : tie.Need-overflow-sub-t16
+sub_t16 : tie.Need-overflow_sub-result
 sub_t16 c =
     let f = at_form (formed c) in
     let p = at_plan c in
     rw (factor_bits f, factor_bits p) (difference_fits f p)
 
-returns : tie.Need-returns
+returns : tie.Need-returns-in-Refused
 unfolding reading_answer factors_answer
 returns c =
     let r = c.before.before.before in
     let s = at_read r in
-    let e = rw c.before.at_form.given.1 at r.read.ensures.0 in
+    let e = rw c.before.in-Refused.is at r.read-at_form.ensures.0 in
     sym (on_lists_refused s.args.areas.now s.args.values.now s.args.slopes.now _ _ (form_refused _ _ _ _) (sym e))
 
-returns-2 : tie.Need-returns-2
+returns-2 : tie.Need-returns-in-Refused-at_plan
 unfolding pair_answer factors_answer reading_answer row ◌then◌
 returns-2 c =
     let f = formed_3 c in
     let s = start f in
     let k = at_form f in
-    let e = rw c.before.at_plan.given.1 at c.before.before.before.read2.ensures.0 in
+    let e = rw c.before.in-Refused-at_plan.is at c.before.before.before.read-at_plan.ensures.0 in
     let read = on_lists_read k (λ ps. read_answer ps s.args.shape s.args.plan) in
     let out = refused_outside _ _ _ k.given.accepted (sym (e ∙ read)) in
     rw (
@@ -121,7 +121,7 @@ returns-2 c =
       out.0,
     )
 
-returns-3 : tie.Need-returns-3
+returns-3 : tie.Need-returns-in-Factor-at_plan
 unfolding pair_answer factors_answer factors row ◌then◌
 returns-3 c =
     let s = start (formed c) in
@@ -139,8 +139,8 @@ returns-3 c =
       to_z-of_z {w = w32} (difference_fits k m),
     )
 
-pub read-pair-spec : {M : Type 1} → statement M
-read-pair-spec =
+pub read_pair_spec : {M : Type 1} → statement M
+read_pair_spec =
     tie.close
     (tie.spec (search rules) (search rules) (search rules) (search rules) (search rules) (search rules) sub_t16
     returns returns-2 returns-3)

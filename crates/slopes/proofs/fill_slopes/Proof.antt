@@ -29,7 +29,7 @@ returns : tie.Need-returns-then-lengths_differ
 unfolding fill_answer supplied_answer filled row ◌then◌
 returns c =
     let k = c.before.before.before.before.args in
-    let e : lengths_differ (length k.areas.now) (length k.values.now) (length k.slopes-1.now) ≡ true =
+    let e : lengths_differ (length k.areas.now) (length k.values.now) (length k.slopes.now) ≡ true =
     sym c.before.lengths_differ.ensures ∙ c.if-lengths_differ.true in
     (rw e, refl)
 
