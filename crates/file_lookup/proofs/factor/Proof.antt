@@ -1,5 +1,6 @@
 -- `file_lookup::factor` meets its contract: rows 1 to 7 are passed, and the reading is that in the segment found.
 -- Assumes nothing.
+use mir.Syntax.{w32}
 use mathlib.Core.Path.{◌∙◌}
 use mathlib.Core.List.{List}
 use lib.ListN.{length}
@@ -37,7 +38,7 @@ factor-at-requires c κs =
     (s.requires.0, rw (s.requires.1, read_is (given s).accepted c.find-i.ensures))
 
 returns : tie.Need-returns
-returns c = to_z-of_z (record { sfits = c.factor_at.type_inv }) ∙ c.factor_at.ensures
+returns c = to_z-of_z {w = w32} (record { sfits = c.factor_at.type_inv }) ∙ c.factor_at.ensures
 
 pub factor_spec : {M : Type 1} → statement M
 factor_spec = tie.close (tie.spec find-requires factor-at-requires returns)

@@ -2,7 +2,6 @@
 -- all.
 -- Assumes nothing.
 use mathlib.Core.Path.{◌∙◌}
-use mathlib.Core.Logic.{⊎_elim}
 use Prim.Native.Nat.{◌-◌}
 use borrow.Author.Rules.{rules}
 use Rattle.model.specs.Inner.{areas_of, LastOf}
@@ -11,6 +10,7 @@ use Rattle.layout.specs.Inner.{first_points}
 use Rattle.file_lookup.proofs.Placed.{areas_size}
 use Rattle.file_lookup.proofs.find.Statement.{statement}
 use Rattle.file_lookup.proofs.find.Tie as tie
+use Rattle.file_lookup.proofs.find.Lts.{then-from-end, else-from-end}
 
 abbrev entry : tie.After-last_not_above-from → tie.Start
 entry c = c.before.before.before
@@ -26,7 +26,10 @@ near c =
     let l : LastOf areas c.before.last_not_above-from.result 8 (s.args.n - 1) s.args.area =
     c.before.last_not_above-from.ensures in
     let most = s.requires.0.most in
-    ⊎_elim (λ w. rw w.1 (near_next size most l w.0.taken)) (λ w. rw w.1 (near_last size most l)) c.if-from-end.branch
+    elim c.if-from-end.branch [
+      | then-from-end w ↦ rw w.end-is (near_next size most l w.if-from-end.true)
+      | else-from-end w ↦ rw w.end-is (near_last size most l)
+    ]
 
 last-not-above-requires-2 : tie.Need-last_not_above-requires
 last-not-above-requires-2 c κs =

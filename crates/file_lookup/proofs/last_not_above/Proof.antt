@@ -1,7 +1,6 @@
 -- `file_lookup::last_not_above` meets its contract. The loop's invariant: `last` is such a point, and a step after it is beyond
 -- the area read, or is the next to be looked at.
 -- Assumes nothing.
-use mathlib.Core.Logic.{⊎_elim}
 use Prim.Native.Nat.{◌-◌, ◌<◌}
 use native.Mathlib.Omega.{arith}
 use Rattle.model.specs.Inner.{areas_of}
@@ -11,6 +10,7 @@ use Rattle.layout.proofs.Points.{area_is}
 use Rattle.file_lookup.proofs.Placed.{areas_size}
 use Rattle.file_lookup.proofs.last_not_above.Statement.{statement}
 use Rattle.file_lookup.proofs.last_not_above.Tie as tie
+use Rattle.file_lookup.proofs.last_not_above.Lts.{then-area_of-area, else-area_of-area}
 
 abbrev invariant-loop : tie.invariant-loop-i
 invariant-loop bytes n from step end area last₀ i₀ last i = Looking (areas_of (first_points bytes n)) step end area last i
@@ -27,9 +27,11 @@ loop-again c =
     let here : l.loop-i.i < s.n = omega arith in
     let e = area_is s.bytes.now s.n l.loop-i.i here in
     let a = c.before.area_of.ensures in
-    ⊎_elim (λ w. rw w.1 (looking_takes (rw (areas_size s.bytes.now s.n) k) t (omega (arith, e, a, w.0.taken))))
-    (λ w. rw w.1 (looking_passes l.loop-i.invariant (omega (arith, e, a, w.0.left))))
-    c.if-area_of-area.branch
+    elim c.if-area_of-area.branch [
+      | then-area_of-area w ↦
+          rw w.last-is (looking_takes (rw (areas_size s.bytes.now s.n) k) t (omega (arith, e, a, w.if-area_of-area.true)))
+      | else-area_of-area w ↦ rw w.last-is (looking_passes l.loop-i.invariant (omega (arith, e, a, w.if-area_of-area.false)))
+    ]
 
 pub last_not_above_spec : {M : Type 1} → statement M
 last_not_above_spec =
