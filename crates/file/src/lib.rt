@@ -1,5 +1,6 @@
 // Curve files.
 #![tactic(auto)]
+
 ghost use Rattle.std.specs.Prelude.{◌≡◌, map, length};
 ghost use Rattle.model.specs.Answer.{filled};
 ghost use Rattle.model.specs.Points.{points};

@@ -25,12 +25,12 @@ use Rattle.file.proofs.write.Tie as tie
 abbrev after_6 : ℕ → List Point → Answer ℕ
 after_6 buffer ps = row (short_buffer (length ps) buffer) 12 0 then gives (point_offset (length ps))
 
-returns : tie.Need-returns
+returns : tie.Need-returns-then-fault-ne0
 unfolding write_answer written_answer filled
 returns c =
-    (sym (curve_refused _ _ _ _ _ _ c.before.before.curve-fault.ensures (after_6 _) c.if1.true), refl)
+    (sym (curve_refused _ _ _ _ _ _ c.before.before.curve_fault-fault.ensures (after_6 _) c.if-fault-ne0.true), refl)
 
-module _ (c : tie.Else1) where
+module _ (c : tie.Else-fault-ne0) where
   abbrev entry : tie.Start
   entry = c.before.before.before.before.before.before
 
@@ -38,7 +38,7 @@ module _ (c : tie.Else1) where
   ps = points entry.args.areas.now entry.args.values.now entry.args.slopes.now
 
   accepted : Accepts entry.args.areas.now entry.args.values.now entry.args.slopes.now entry.args.shape
-  accepted = accepts _ _ _ _ _ _ c.before.before.curve-fault.ensures c.if1.false
+  accepted = accepts _ _ _ _ _ _ c.before.before.curve_fault-fault.ensures c.if-fault-ne0.false
 
   abbrev room : ℕ
   room = length entry.args.out.now
@@ -54,9 +54,9 @@ module _ (c : tie.Else1) where
       ∙ ap (λ (n : ℕ). row (short_buffer n room) 12 0 then gives (point_offset n)) accepted.size
       ∙ ap (λ (b : Bool). row b 12 0 then gives (point_offset (length entry.args.areas.now))) e
 
-returns-2 : tie.Need-returns-2
+returns-2 : tie.Need-returns-then-out-size
 unfolding written_answer filled short_buffer row ◌then◌
-returns-2 c = (sym (tried c.before (lt-ltb (room c.before) _ c.if2.true)), refl)
+returns-2 c = (sym (tried c.before (lt-ltb (room c.before) _ c.if-out-size.true)), refl)
 
 encode-requires : tie.Need-encode-requires
 encode-requires c κs =
@@ -65,17 +65,17 @@ encode-requires c κs =
       alike = k.alike;
       count_fits = omega (arith, k.most);
       code_fits = omega (arith, code_of k.accepted);
-      fits = omega (arith, c.before.if2.false);
+      fits = omega (arith, c.before.if-out-size.false);
     }
 
-returns-3 : tie.Need-returns-3
+returns-3 : tie.Need-returns
 unfolding written_answer filled short_buffer row ◌then◌
 returns-3 c =
     let written = c.before.before in
     let left = written.before.before in
     let k = left.before in
     let file = file_bytes (ps k) (entry k).args.shape in (
-      sym (tried k (le-ltb (room k) _ left.if2.false)),
+      sym (tried k (le-ltb (room k) _ left.if-out-size.false)),
       written.encode.ensures ∙ ap (λ (n : ℕ). file ++ drop n (entry k).args.out.now) (zero-add (length file)),
     )
 

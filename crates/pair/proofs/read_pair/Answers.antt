@@ -22,8 +22,9 @@ use Rattle.model.proofs.Answers.{Given, given, on_lists_is, on_lists_gives, on_l
 use Rattle.curve.specs.Calls.{reading_answer, InRange}
 use Rattle.pair.specs.Pair.{pair_answer, factors}
 use Rattle.pair.specs.Calls.{factors_answer}
-use Rattle.pair.proofs.read_pair.Statement.{statement}
-use Rattle.pair.proofs.read_pair.Tie as tie
+use Rattle.curve.specs.declared.Reading.{Reading}
+use Rattle.curve.specs.declared.Reading.TheVariants.{Factor}
+use Rattle.pair.proofs.read_pair.Goals as goal
 
 -- what Read gave at an area
 record Read (areas values : List ℕ) (slopes : List ℤ) (code x : ℕ) (f : ℤ) : Type 0 where
@@ -55,34 +56,15 @@ module _ {areas values : List ℕ} {slopes : List ℤ} {code x : ℕ} {f : ℤ} 
   difference_fits : {y : ℕ} {p : ℤ} → Read areas values slopes code y p → SFits w32 (p -ℤ f)
   difference_fits {p = p} m = sfits_of_size w32 (p -ℤ f) (omega (arith, size-- p f, k.small, m.small))
 
--- the places: the entry, and after the form area is read
-abbrev at_read : tie.After-read-at_form → tie.Start
-at_read c = c.before.before.before
-
-abbrev start : tie.In-Factor → tie.Start
-start c = at_read c.before.before.before
-
-abbrev formed : tie.In-Factor-at_plan → tie.In-Factor
-formed c = c.before.before.before.before
-
-abbrev formed_3 : tie.In-Refused-at_plan → tie.In-Factor
-formed_3 c = c.before.before.before.before
-
-abbrev ReadAt : tie.Start → ℕ → ℤ → Type 0
-ReadAt s x f = Read s.args.areas.now s.args.values.now s.args.slopes.now s.args.shape x f
-
-at_form : (c : tie.In-Factor) → ReadAt (start c) (start c).args.form c.before.in-Factor.f
+-- what a call of Read that gave a factor says
+read_factor : (areas values : List ℕ) (slopes : List ℤ) (code x : ℕ) {r : Reading} {f : ℤ} →
+    reading_answer r ≡ on_lists areas values slopes (λ ps. read_answer ps code x) →
+    InRange (reading_answer r) →
+    r ≡ Factor f →
+    Read areas values slopes code x f
 unfolding reading_answer
-at_form c =
-    let r = c.before.before.before.read-at_form.ensures in
-    read_of_answer _ _ _ _ _ r.0 r.1 (ap reading_answer c.before.in-Factor.is)
-
-at_plan : (c : tie.In-Factor-at_plan) →
-    (let s = start (formed c) in ReadAt s s.args.plan c.before.in-Factor-at_plan.p)
-unfolding reading_answer
-at_plan c =
-    let r = c.before.before.before.read-at_plan.ensures in
-    read_of_answer _ _ _ _ _ r.0 r.1 (ap reading_answer c.before.in-Factor-at_plan.is)
+read_factor areas values slopes code x e range is =
+    read_of_answer areas values slopes code x e range (ap reading_answer is)
 
 -- rows that refuse the form area refuse the pair
 form_refused : (ps : List Point) (code form plan : ℕ) {n i : ℕ} → read_answer ps code form ≡ refused n i →
@@ -90,45 +72,43 @@ form_refused : (ps : List Point) (code form plan : ℕ) {n i : ℕ} → read_ans
 unfolding read_answer pair_answer
 form_refused ps code form plan e = refused_before (curve_rows ps code) (outside ps form) 7 (reading ps code form) _ e
 
-sub_t16 : tie.Need-overflow_sub-result
-sub_t16 c =
-    let f = at_form (formed c) in
-    let p = at_plan c in
+pub overflow_sub-result : goal.overflow_sub-result
+overflow_sub-result c =
+    let f = read_factor _ _ _ _ _ c.read-at_form.ensures.answer c.read-at_form.ensures.range c.in-Factor.is in
+    let p = read_factor _ _ _ _ _ c.read-at_plan.ensures.answer c.read-at_plan.ensures.range c.in-Factor-at_plan.is in
     rw (factor_bits f, factor_bits p) (difference_fits f p)
 
-returns : tie.Need-returns-in-Refused
+pub returns-in-Refused : goal.returns-in-Refused
 unfolding reading_answer factors_answer
-returns c =
-    let r = c.before.before.before in
-    let s = at_read r in
-    let e = rw c.before.in-Refused.is at r.read-at_form.ensures.0 in
-    sym (on_lists_refused s.args.areas.now s.args.values.now s.args.slopes.now _ _ (form_refused _ _ _ _) (sym e))
+returns-in-Refused c =
+    let s = c.args in
+    let e = rw c.in-Refused.is at c.read-at_form.ensures.answer in
+    sym (on_lists_refused s.areas.now s.values.now s.slopes.now _ _ (form_refused _ _ _ _) (sym e))
 
-returns-2 : tie.Need-returns-in-Refused-at_plan
+pub returns-in-Refused-at_plan : goal.returns-in-Refused-at_plan
 unfolding pair_answer factors_answer reading_answer row ◌then◌
-returns-2 c =
-    let f = formed_3 c in
-    let s = start f in
-    let k = at_form f in
-    let e = rw c.before.in-Refused-at_plan.is at c.before.before.before.read-at_plan.ensures.0 in
-    let read = on_lists_read k (λ ps. read_answer ps s.args.shape s.args.plan) in
+returns-in-Refused-at_plan c =
+    let s = c.args in
+    let k = read_factor _ _ _ _ _ c.read-at_form.ensures.answer c.read-at_form.ensures.range c.in-Factor.is in
+    let e = rw c.in-Refused-at_plan.is at c.read-at_plan.ensures.answer in
+    let read = on_lists_read k (λ ps. read_answer ps s.shape s.plan) in
     let out = refused_outside _ _ _ k.given.accepted (sym (e ∙ read)) in
     rw (
-      on_lists_read k (λ ps. pair_answer ps s.args.shape s.args.form s.args.plan),
+      on_lists_read k (λ ps. pair_answer ps s.shape s.form s.plan),
       k.given.accepted.none_applies,
       k.given.within,
       out.1,
       out.0,
     )
 
-returns-3 : tie.Need-returns-in-Factor-at_plan
+pub returns-in-Factor-at_plan : goal.returns-in-Factor-at_plan
 unfolding pair_answer factors_answer factors row ◌then◌
-returns-3 c =
-    let s = start (formed c) in
-    let k = at_form (formed c) in
-    let m = at_plan c in
+returns-in-Factor-at_plan c =
+    let s = c.args in
+    let k = read_factor _ _ _ _ _ c.read-at_form.ensures.answer c.read-at_form.ensures.range c.in-Factor.is in
+    let m = read_factor _ _ _ _ _ c.read-at_plan.ensures.answer c.read-at_plan.ensures.range c.in-Factor-at_plan.is in
     rw (
-      on_lists_read k (λ ps. pair_answer ps s.args.shape s.args.form s.args.plan),
+      on_lists_read k (λ ps. pair_answer ps s.shape s.form s.plan),
       k.given.accepted.none_applies,
       k.given.within,
       m.given.within,
@@ -138,9 +118,3 @@ returns-3 c =
       factor_bits m,
       to_z-of_z {w = w32} (difference_fits k m),
     )
-
-pub read_pair_spec : {M : Type 1} → statement M
-read_pair_spec =
-    tie.close
-    (tie.spec (search rules) (search rules) (search rules) (search rules) (search rules) (search rules) sub_t16
-    returns returns-2 returns-3)
