@@ -1,5 +1,6 @@
 // The desk reading, for C.
 #![tactic(auto)]
+
 ghost use Rattle.std.specs.Prelude.{◌≡◌, ◌≤◌, ◌++◌, length, take, drop};
 ghost use Rattle.model.specs.Answer.{filled};
 ghost use Rattle.desk_answer.specs.Desk.{desk_answer, desk_number, point_records};
@@ -16,8 +17,8 @@ fn copy_48(src: &[u8], at: usize, dst: &mut [u8])
 {
     let mut block = [0u8; 48];
     let end = at + 48;
-    bytes::copy(&src[at..end], &mut block);
-    bytes::copy(&block, &mut dst[at..]);
+    block.copy_from_slice(&src[at..end]);
+    dst[at..end].copy_from_slice(&block);
 }
 
 // Copies from the start on by blocks of 48 bytes, four records, and gives how many bytes it has copied.
@@ -46,7 +47,7 @@ fn copy_all(src: &[u8], dst: &mut [u8])
         copy_24(src, at, dst, at);
         at += 24;
     }
-    bytes::copy(&src[at..], &mut dst[at..]);
+    dst[at..n].copy_from_slice(&src[at..]);
 }
 
 // The same. Two records, the fewest of a curve, are one block.

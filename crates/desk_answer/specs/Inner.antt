@@ -13,8 +13,8 @@ use Rattle.desk_answer.specs.Desk.{answer_with, desk_number}
 use Rattle.desk_answer.specs.declared.Found.{Found}
 
 unfoldable pub room : Bool → ℕ → ℕ
-room true count = 2 * record_size
-room false count = record_size * count
+room true n = 2 * record_size
+room false n = record_size * n
 
 abbrev pub answer_for : Bool → List ℕ → ℕ → ℕ → Answer ℤ
 answer_for two bytes = answer_with (room two (count bytes)) bytes

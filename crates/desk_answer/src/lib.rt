@@ -1,5 +1,6 @@
 // What both desk readings share: all but the scratch.
 #![tactic(auto)]
+
 ghost use Rattle.std.specs.Prelude.{◌≡◌, ◌≤◌, pos, neg_ℤ, ◌-ℤ◌, length};
 ghost use Rattle.model.specs.Answer.{gives};
 ghost use Rattle.model.specs.Read.{reading};
@@ -80,7 +81,6 @@ pub fn copy_24(src: &[u8], from: usize, dst: &mut [u8], to: usize)
     ensures { dst.new ≡ copied from to 24 src.now dst.old }
 {
     let mut block = [0u8; 24];
-    let end = from + 24;
-    bytes::copy(&src[from..end], &mut block);
-    bytes::copy(&block, &mut dst[to..]);
+    block.copy_from_slice(&src[from..from + 24]);
+    dst[to..to + 24].copy_from_slice(&block);
 }

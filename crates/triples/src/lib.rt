@@ -1,5 +1,6 @@
 // The statistics package's points: triples of binary64 figures.
 #![tactic(auto)]
+
 ghost use Rattle.std.specs.Prelude.{◌≡◌, map, ◌++◌, suc, ◌+◌, ◌≤◌, length, take, drop, false};
 ghost use Rattle.std.proofs.Math.Option.{none};
 ghost use Rattle.model.specs.Answer.{refused, ◌then◌};

@@ -8,35 +8,35 @@ use Rattle.desk.proofs.Blocks.{length_is, next, rest_fits, last, restart, joined
 use Rattle.desk.proofs.copy_all.Statement.{statement}
 use Rattle.desk.proofs.copy_all.Tie as tie
 
-abbrev invariant-loop : tie.invariant-loop
+abbrev invariant-loop : tie.invariant-loop-at
 invariant-loop src dst₀ n at₀ dst at = (at₀ ≤ at) × CopiedTo src dst₀ dst at
 
-abbrev decreases-loop : tie.decreases-loop
+abbrev decreases-loop : tie.decreases-loop-at
 decreases-loop src dst₀ n at₀ dst at = n - at
 
-loop-holds : tie.Need-loop-init invariant-loop decreases-loop
-loop-holds c = (omega arith, restart c.before.before.copy_blocks.ensures)
+loop-holds : tie.Need-loop-at-init invariant-loop decreases-loop
+loop-holds c = (omega arith, restart c.before.before.copy_blocks-at.ensures)
 
-copy-24-requires : tie.Need-copy-24-requires invariant-loop decreases-loop
+copy-24-requires : tie.Need-copy_24-requires invariant-loop decreases-loop
 copy-24-requires c κs =
-    let k = c.before.before.loop.invariant.1 in
+    let k = c.before.before.loop-at.invariant.1 in
     record { in_src = omega arith; in_dst = omega (arith, length_is k, k.room) }
 
-loop-again : tie.Need-loop-preserved invariant-loop decreases-loop
+loop-again : tie.Need-loop-at-preserved invariant-loop decreases-loop
 loop-again c =
-    let i = c.before.before.before.before.before.loop.invariant in
-    (omega arith, next i.1 24 (omega arith) c.before.before.copy-24.ensures)
+    let i = c.before.before.before.before.before.loop-at.invariant in
+    (omega arith, next i.1 24 (omega arith) c.before.before.copy_24.ensures)
 
-both : (c : tie.After-loop invariant-loop decreases-loop) →
+both : (c : tie.After-loop-at invariant-loop decreases-loop) →
     (let l = c.before in
     let s = l.before.before.before.before.before.before.before in
-    CopiedTo s.args.src.now s.args.dst.now l.loop.dst l.loop.at)
+    CopiedTo s.args.src.now s.args.dst.now l.loop-at.dst l.loop-at.at)
 both c =
     let l = c.before in
-    joined l.before.before.before.copy_blocks.ensures l.loop.invariant.0 l.loop.invariant.1
+    joined l.before.before.before.copy_blocks-at.ensures l.loop-at.invariant.0 l.loop-at.invariant.1
 
-pub copy-all-spec : {M : Type 1} → statement M
-copy-all-spec =
+pub copy_all_spec : {M : Type 1} → statement M
+copy_all_spec =
     tie.close
     (tie.spec invariant-loop decreases-loop (search rules) loop-holds (λ c. omega arith) copy-24-requires (λ c. omega arith) (λ c. omega arith)
     loop-again (λ c. omega arith) (λ c. omega arith) (λ c. omega arith) (λ c. omega (arith, length_is (both c.before)))

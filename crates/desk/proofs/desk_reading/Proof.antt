@@ -17,28 +17,28 @@ use Rattle.desk.proofs.Records.{body, body_is, body_fits}
 use Rattle.desk.proofs.desk_reading.Statement.{statement}
 use Rattle.desk.proofs.desk_reading.Tie as tie
 
-returns : tie.Need-returns
+returns : tie.Need-returns-then-found-ne0
 unfolding room
 returns c =
-    let f = c.before.before.before.before.find.ensures in
-    let u = untouched _ _ _ f (record { sfits = c.struct-told2.given.0.1 }) c.before.if1.true in
+    let f = c.before.before.before.before.find-found.ensures in
+    let u = untouched _ _ _ f (record { sfits = c.struct_told-then-found-ne0-1.given.0.1 }) c.before.if-found-ne0.true in
     (u.number, sym (u.list _ _))
 
 -- the answer is a factor
-module _ (c : tie.Else1) where
+module _ (c : tie.Else-found-ne0) where
   abbrev start : tie.Start
   start = c.before.before.before.before.before.before
 
   abbrev bytes : List ℕ
   bytes = start.args.bytes.now
 
-  abbrev found : tie.After-find
+  abbrev found : tie.After-find-found
   found = c.before.before.before
 
   factor : Opened (record_size * count bytes) bytes start.args.area (length start.args.scratch.now)
-      found.find.result
+      found.find-found.result
   unfolding room
-  factor = opened _ _ _ _ _ found.find.ensures (record { sfits = c.before.struct_told.given.0.1 }) c.if1.false
+  factor = opened _ _ _ _ _ found.find-found.ensures (record { sfits = c.before.struct_told-1.given.0.1 }) c.if-found-ne0.false
 
   written : filled (desk_answer bytes start.args.area (length start.args.scratch.now)) (point_records bytes)
       start.args.scratch.now
@@ -54,18 +54,18 @@ copy-requires c κs =
 factor-requires : tie.Need-factor-requires
 factor-requires c κs = let f = factor c.before.before.before.before.before in (f.head, f.located)
 
-returns-2 : tie.Need-returns-2
+returns-2 : tie.Need-returns
 unfolding desk_number
 returns-2 c =
     let copied = c.before.before.before in
     let e = copied.before.before.before in
     let f = factor e in (
-      to_z-of_z (record { sfits = c.factor.type-inv }) ∙ c.factor.ensures ∙ f.reads ∙ sym (rw f.is),
+      to_z-of_z (record { sfits = c.factor.type_inv }) ∙ c.factor.ensures ∙ f.reads ∙ sym (rw f.is),
       copied.copy.ensures ∙ sym (written e),
     )
 
-pub desk-reading-spec : {M : Type 1} → statement M
-desk-reading-spec =
+pub desk_reading_spec : {M : Type 1} → statement M
+desk_reading_spec =
     tie.close
     (tie.spec (search rules) returns (λ c. omega (arith, (factor c).size)) (λ c. omega (arith, (factor c).size)) (search rules)
     copy-requires factor-requires (search rules) returns-2)

@@ -1,5 +1,6 @@
 -- `desk_answer::factor` meets its contract.
 -- Assumes nothing.
+use mir.Syntax.{w32}
 use mathlib.Core.Path.{◌≡◌, ◌∙◌}
 use native.Mathlib.Omega.{arith}
 use lib.ListN.{length}
@@ -12,9 +13,9 @@ use Rattle.desk_answer.proofs.factor.Tie as tie
 size : (c : tie.Start) → length c.args.bytes.now ≡ point_offset (count c.args.bytes.now)
 size c = size_of_passed c.args.bytes.now c.requires.0
 
-pub factor-spec : {M : Type 1} → statement M
-factor-spec =
+pub factor_spec : {M : Type 1} → statement M
+factor_spec =
     tie.close
-    (tie.spec (λ c. omega (arith, size c.before.before)) (λ c. omega (arith, c.shared-slice-known2.given 6))
+    (tie.spec (λ c. omega (arith, size c.before.before)) (λ c. omega (arith, c.shared_slice_known-2-1.given 6))
     (λ c κs. let s = c.before.before in (record { file = omega (arith, size s) }, s.requires.1))
-    (λ c. to_z-of_z (record { sfits = c.factor-at.type-inv }) ∙ c.factor-at.ensures))
+    (λ c. to_z-of_z {w = w32} (record { sfits = c.factor_at.type_inv }) ∙ c.factor_at.ensures))

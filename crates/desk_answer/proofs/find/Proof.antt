@@ -23,15 +23,15 @@ use Rattle.desk_answer.specs.Inner.{room, answer_for, FoundBy}
 use Rattle.desk_answer.proofs.find.Statement.{statement}
 use Rattle.desk_answer.proofs.find.Tie as tie
 
-head_refused : (c : tie.Then1) →
-    head_rows c.before.before.before.args.bytes.now ≡ refused c.before.head-fault.result 0
-head_refused c = sym c.before.head-fault.ensures ∙ a_fault 0 c.if1.true
+head_refused : (c : tie.Then-fault-ne0) →
+    head_rows c.before.before.before.args.bytes.now ≡ refused c.before.head_fault-fault.result 0
+head_refused c = sym c.before.head_fault-fault.ensures ∙ a_fault 0 c.if-fault-ne0.true
 
-returns : tie.Need-returns
+returns : tie.Need-returns-then-fault-ne0
 unfolding answer_with FoundBy desk_number ◌then◌
 returns c = rw (head_refused c.before) c.refused.ensures
 
-module _ (c : tie.Else1) where
+module _ (c : tie.Else-fault-ne0) where
   abbrev start : tie.Start
   start = c.before.before.before
 
@@ -39,27 +39,27 @@ module _ (c : tie.Else1) where
   bytes = start.args.bytes.now
 
   head_passed : head_rows bytes ≡ gives tt
-  head_passed = sym c.before.head-fault.ensures ∙ no_fault 0 c.if1.false
+  head_passed = sym c.before.head_fault-fault.ensures ∙ no_fault 0 c.if-fault-ne0.false
 
   size : length bytes ≡ point_offset (count bytes)
   size = size_of_passed bytes head_passed
 
 -- the place after rows 9 and 10
-abbrev headed : tie.Else2 → tie.Else1
+abbrev headed : tie.Else-scratch-room → tie.Else-fault-ne0
 headed c = c.before.before.before
 
 -- the places after row 11, and after rows 1 to 7
-abbrev tried : tie.After-struct-known → tie.Else2
+abbrev tried : tie.After-struct_known-1 → tie.Else-scratch-room
 tried c = c.before.before.before
 
-returns-2 : tie.Need-returns-2
+returns-2 : tie.Need-returns-then-scratch-room
 unfolding answer_with FoundBy desk_number row ◌then◌
 returns-2 c =
     let e = head_passed c.before.before.before.before in
-    let short = rw c.before.before.room.ensures at (lt-ltb _ _ c.before.if2.true) in
-    rw (e, short) c.refused2.ensures
+    let short = rw c.before.before.room.ensures at (lt-ltb _ _ c.before.if-scratch-room.true) in
+    rw (e, short) c.refused-then-scratch-room.ensures
 
-module _ (c : tie.After-struct-known) where
+module _ (c : tie.After-struct_known-1) where
   abbrev begin : tie.Start
   begin = start (headed (tried c))
 
@@ -75,34 +75,34 @@ module _ (c : tie.After-struct-known) where
   points_decide =
       let k = begin.args in
       let e = (tried c).before.room.ensures in
-      let enough = le-ltb k.scratch (room k.two (count input)) (omega (arith, e, (tried c).if2.false)) in
+      let enough = le-ltb k.scratch (room k.two (count input)) (omega (arith, e, (tried c).if-scratch-room.false)) in
       rw (head_passed (headed (tried c)), enough)
 
-points_refused : (c : tie.Then3) → (let r = c.before.before.locate.result in
+points_refused : (c : tie.Then-found-ne0) → (let r = c.before.before.locate-found.result in
     answer c.before ≡ refused r.number r.place)
 unfolding ◌then◌
 points_refused c =
-    let located = c.before.before.locate.ensures in
-    read_refused _ _ _ (refused_first _ _ (sym located ∙ rw (a_fault _ c.if3.true)))
+    let located = c.before.before.locate-found.ensures in
+    read_refused _ _ _ (refused_first _ _ (sym located ∙ rw (a_fault _ c.if-found-ne0.true)))
 
-refused-requires-3 : tie.Need-refused-requires-3
+refused-requires-3 : tie.Need-refused-requires-then-found-ne0
 refused-requires-3 c κs = (subst Numbered (points_refused c) (in_reading _ _ _)).most
 
-returns-3 : tie.Need-returns-3
+returns-3 : tie.Need-returns-then-found-ne0
 unfolding FoundBy desk_number
-returns-3 c = rw (points_decide c.before.before ∙ points_refused c.before) c.refused3.ensures
+returns-3 c = rw (points_decide c.before.before ∙ points_refused c.before) c.refused-then-found-ne0.ensures
 
-module _ (c : tie.Else3) where
+module _ (c : tie.Else-found-ne0) where
   located : segment_answer (points_of (input c.before)) (shape_code (input c.before)) (begin c.before).args.area
-      ≡ gives c.before.before.locate.result.index
+      ≡ gives c.before.before.locate-found.result.index
   unfolding ◌then◌
-  located = sym c.before.before.locate.ensures ∙ rw (no_fault _ c.if3.false)
+  located = sym c.before.before.locate-found.ensures ∙ rw (no_fault _ c.if-found-ne0.false)
 
   read : ReadAt (input c.before) (count (input c.before)) (shape_code (input c.before)) (begin c.before).args.area
-      c.before.before.locate.result.index
+      c.before.before.locate-found.result.index
   read = read_at_of _ _ _ _ located
 
-returns-4 : tie.Need-returns-4
+returns-4 : tie.Need-returns
 unfolding FoundBy
 returns-4 c =
     let r = read c in
@@ -113,7 +113,7 @@ pub find_spec : {M : Type 1} → statement M
 find_spec =
     tie.close
     (tie.spec (search rules) (λ c κs. (subst Numbered (head_refused c) (in_head _)).most) returns
-    (λ c. omega (arith, size c.before)) (λ c. omega (arith, c.shared-slice-known2.given 6))
-    (λ c κs. omega (arith, c.shared-slice-known2.given 6)) (search rules) returns-2
-    (λ c. omega (arith, size (headed c.before))) (λ c. omega (arith, c.shared-slice-known3.given 5))
+    (λ c. omega (arith, size c.before)) (λ c. omega (arith, c.shared_slice_known-2-1.given 6))
+    (λ c κs. omega (arith, c.shared_slice_known-2-1.given 6)) (search rules) returns-2
+    (λ c. omega (arith, size (headed c.before))) (λ c. omega (arith, c.shared_slice_known-3-1.given 5))
     (λ c κs. record { file = omega (arith, size (headed c.before)) }) refused-requires-3 returns-3 returns-4)

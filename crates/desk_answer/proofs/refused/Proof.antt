@@ -21,11 +21,11 @@ module _ (c : tie.Start) where
   result_fits : SFits w32 result
   result_fits = sfits_of_size w32 result (omega (arith, c.requires, size-- (neg_ℤ (pos 1000000)) (pos c.args.number)))
 
-sub_below : tie.Need-overflow-sub-below
+sub_below : tie.Need-overflow_sub-below
 sub_below c = rw (number_is c) (result_fits c)
 
 returns : tie.Need-returns
 returns c = rw (number_is c, to_z-of_z (result_fits c))
 
-pub refused-spec : {M : Type 1} → statement M
-refused-spec = tie.close (tie.spec (search rules) sub_below returns)
+pub refused_spec : {M : Type 1} → statement M
+refused_spec = tie.close (tie.spec (search rules) sub_below returns)

@@ -39,16 +39,16 @@ record Decoding (bytes : List ℕ) (n : ℕ) (areas₀ values₀ : List ℕ) (sl
   pub values_are : Filling (λ i. (ranged bytes i).value) i values₀ values
   pub slopes_are : Filling (λ i. (ranged bytes i).slope) i slopes₀ slopes
 
-abbrev invariant-loop : tie.invariant-loop
+abbrev invariant-loop : tie.invariant-loop-i
 invariant-loop bytes n areas₀ values₀ slopes₀ i₀ areas values slopes i = Decoding bytes n areas₀ values₀ slopes₀ areas values slopes i
 
-abbrev decreases-loop : tie.decreases-loop
+abbrev decreases-loop : tie.decreases-loop-i
 decreases-loop bytes n areas₀ values₀ slopes₀ i₀ areas values slopes i = n - i
 
 count_starts : (bytes : List ℕ) (n : ℕ) → whole_count (first_exported bytes n) ≡ 0 + whole_count (tabulate (at bytes) 0 (n - 0))
 count_starts bytes n = sym (zero-add _ ∙ ap (λ (n : ℕ). whole_count (tabulate (at bytes) 0 n)) (sub-zero n))
 
-loop-holds : tie.Need-loop-init invariant-loop decreases-loop
+loop-holds : tie.Need-loop-i-init invariant-loop decreases-loop
 loop-holds c =
     record {
       most = omega arith;
@@ -75,26 +75,26 @@ lists {bytes} {i = i} k =
 -- what is taken of the triple at i
 took : (c : tie.After-take invariant-loop decreases-loop) →
     (let l = c.before.before.before in
-    clamped_option (at l.before.before.before.before.args.bytes.now l.loop.i) ≡ taken_point c.take.result)
+    clamped_option (at l.before.before.before.before.args.bytes.now l.loop-i.i) ≡ taken_point c.take.result)
 took c = ap (λ (t : Triple). clamped_option (taken t)) (sym c.before.triple_at.ensures) ∙ sym c.take.ensures
 
-point : (c : tie.After-struct-told invariant-loop decreases-loop) →
+point : (c : tie.After-struct_told-1 invariant-loop decreases-loop) →
     (let l = c.before.before.before.before.before.before.before in
-    InRange (at l.before.before.before.before.args.bytes.now l.loop.i)
-    (point_of c.before.before.p.given.0.0))
+    InRange (at l.before.before.before.before.args.bytes.now l.loop-i.i)
+    (point_of c.before.before.in-Whole.p))
 unfolding taken_point
-point c = in_range_of _ _ (took c.before.before.before.before ∙ ap taken_point c.before.before.p.given.1)
+point c = in_range_of _ _ (took c.before.before.before.before ∙ ap taken_point c.before.before.in-Whole.is)
 
-loop-again : tie.Need-loop-preserved invariant-loop decreases-loop
+loop-again : tie.Need-loop-i-preserved invariant-loop decreases-loop
 loop-again c =
     let l = c.before.before.before.before.before.before.before in
-    let k = l.loop.invariant in
-    let h = c.before.before.before.before.before.before.loop-test.true in
+    let k = l.loop-i.invariant in
+    let h = c.before.before.before.before.before.before.loop-i-test.true in
     let p = point c in
-    let slope = c.before.before.p.given.0.0.slope in
+    let slope = c.before.before.in-Whole.p.slope in
     record {
       most = omega arith;
-      count = k.count ∙ count_goes_on (at _) l.loop.i _ p.p h p.is;
+      count = k.count ∙ count_goes_on (at _) l.loop-i.i _ p.p-1 h p.is;
       areas_are = filling_goes_on _ 0 _ k.areas_are (omega arith) (ap (λ (p : Point). p.area) (sym p.ranged));
       values_are = filling_goes_on _ 0 _ k.values_are (omega arith) (ap (λ (p : Point). p.value) (sym p.ranged));
       slopes_are =
@@ -103,31 +103,31 @@ loop-again c =
           ∙ ap (λ (p : Point). p.slope) (sym p.ranged));
     }
 
-returns : tie.Need-returns invariant-loop decreases-loop
+returns : tie.Need-returns-after-loop-i invariant-loop decreases-loop
 returns c =
-    let k = c.before.loop.invariant in
+    let k = c.before.loop-i.invariant in
     let (areas, values, slopes) = lists k in
-    let ends = count_ends (at _) c.before.loop.i _ c.loop-test.false in
+    let ends = count_ends (at _) c.before.loop-i.i _ c.loop-i-test.false in
     (sym (k.count ∙ ends), (areas, (values, slopes)))
 
-returns-2 : tie.Need-returns-2 invariant-loop decreases-loop
+returns-2 : tie.Need-returns-in_default invariant-loop decreases-loop
 unfolding taken_point
 returns-2 c =
     let l = c.before.before.before.before.before in
-    let k = l.loop.invariant in
+    let k = l.loop-i.invariant in
     let (areas, values, slopes) = lists k in
-    let none_here = none_taken _ (took c.before.before ∙ ap taken_point c.enum_told.given.1) in
-    let stops = count_stops (at _) l.loop.i _ c.before.before.before.before.loop-test.true none_here in
+    let none_here = none_taken _ (took c.before.before ∙ ap taken_point c.in_default.is) in
+    let stops = count_stops (at _) l.loop-i.i _ c.before.before.before.before.loop-i-test.true none_here in
     (sym (k.count ∙ stops), (areas, (values, slopes)))
 
-pub decode-spec : {M : Type 1} → statement M
-decode-spec =
+pub decode_spec : {M : Type 1} → statement M
+decode_spec =
     tie.close
     (tie.spec invariant-loop decreases-loop loop-holds (λ c κs. record { export = omega arith }) take-requires (search rules) (search rules)
     (λ c. omega arith) (λ c. omega arith) (λ c. omega arith) (λ c. omega arith) (λ c. omega arith) (λ c. omega arith)
     (λ c. omega arith) (λ c. omega arith)
-    loop-again (λ c. c.before.loop.invariant.areas_are.size) (λ c. c.before.loop.invariant.values_are.size)
-    (λ c. c.before.loop.invariant.slopes_are.size) returns
-    (λ c. c.before.before.before.before.before.loop.invariant.areas_are.size)
-    (λ c. c.before.before.before.before.before.loop.invariant.values_are.size)
-    (λ c. c.before.before.before.before.before.loop.invariant.slopes_are.size) returns-2)
+    loop-again (λ c. c.before.loop-i.invariant.areas_are.size) (λ c. c.before.loop-i.invariant.values_are.size)
+    (λ c. c.before.loop-i.invariant.slopes_are.size) returns
+    (λ c. c.before.before.before.before.before.loop-i.invariant.areas_are.size)
+    (λ c. c.before.before.before.before.before.loop-i.invariant.values_are.size)
+    (λ c. c.before.before.before.before.before.loop-i.invariant.slopes_are.size) returns-2)

@@ -25,7 +25,7 @@ use Rattle.triples.proofs.Rows.{export_of_curve, export_of_14, points_of_accepte
 use Rattle.triples.proofs.decoded_fault.Statement.{statement}
 use Rattle.triples.proofs.decoded_fault.Tie as tie
 
-module _ (c : tie.After-decode) where
+module _ (c : tie.After-decode-whole) where
   abbrev start : tie.Start
   start = c.before.before.before.before.before.before.before
 
@@ -39,37 +39,37 @@ module _ (c : tie.After-decode) where
   exported = first_exported bytes n
 
   abbrev whole : ℕ
-  whole = c.decode.result
+  whole = c.decode-whole.result
 
   abbrev f : ℕ → Point
   f i = clamped_or_origin (taken (triple_at bytes i))
 
-  areas_are : take whole c.decode.new.1.1.0 ≡ map (λ p. p.area) (clamped_points bytes whole)
-  areas_are = field_first f (λ p. p.area) whole _ c.decode.ensures.1.0
+  areas_are : take whole c.decode-whole.new.areas ≡ map (λ p. p.area) (clamped_points bytes whole)
+  areas_are = field_first f (λ p. p.area) whole _ c.decode-whole.ensures.1.0
 
-  values_are : take whole c.decode.new.1.1.1.0 ≡ map (λ p. p.value) (clamped_points bytes whole)
-  values_are = field_first f (λ p. p.value) whole _ c.decode.ensures.1.1.0
+  values_are : take whole c.decode-whole.new.values ≡ map (λ p. p.value) (clamped_points bytes whole)
+  values_are = field_first f (λ p. p.value) whole _ c.decode-whole.ensures.1.1.0
 
-  slopes_are : take whole c.decode.new.1.1.1.1.0 ≡ map (λ p. p.slope) (clamped_points bytes whole)
-  slopes_are = field_first f (λ p. p.slope) whole _ c.decode.ensures.1.1.1
+  slopes_are : take whole c.decode-whole.new.slopes ≡ map (λ p. p.slope) (clamped_points bytes whole)
+  slopes_are = field_first f (λ p. p.slope) whole _ c.decode-whole.ensures.1.1.1
 
   -- they are the points before the first that is not taken
   held : clamped_points bytes whole ≡ whole_points exported
-  held = ap (clamped_points bytes) c.decode.ensures.0 ∙ sym (points_of_table (λ i. taken (triple_at bytes i)) 0 n)
+  held = ap (clamped_points bytes) c.decode-whole.ensures.0 ∙ sym (points_of_table (λ i. taken (triple_at bytes i)) 0 n)
 
   size : length exported ≡ n
   size = tabulate_length (λ i. taken (triple_at bytes i)) 0 n
 
   counted : bad_count (length exported) ≡ false
-  counted = rw size start.pre.1
+  counted = rw size start.requires.1
 
   -- the lists' points
-  listed : points (take whole c.decode.new.1.1.0) (take whole c.decode.new.1.1.1.0)
-      (take whole c.decode.new.1.1.1.1.0) ≡ whole_points exported
+  listed : points (take whole c.decode-whole.new.areas) (take whole c.decode-whole.new.values)
+      (take whole c.decode-whole.new.slopes) ≡ whole_points exported
   listed = rw (areas_are, values_are, slopes_are, points_of_fields (clamped_points bytes whole)) held
 
-  few : Few (length (take whole c.decode.new.1.1.0)) (length (take whole c.decode.new.1.1.1.0))
-      (length (take whole c.decode.new.1.1.1.1.0))
+  few : Few (length (take whole c.decode-whole.new.areas)) (length (take whole c.decode-whole.new.values))
+      (length (take whole c.decode-whole.new.slopes))
   few =
       let areas = field_count f (λ p. p.area) whole areas_are in
       let values = field_count f (λ p. p.value) whole values_are in
@@ -77,30 +77,30 @@ module _ (c : tie.After-decode) where
       let most = (count_of_row_1 _ counted).1 in
       record {
         alike = record { values_too = sym areas ∙ values; slopes_too = sym areas ∙ slopes };
-        most = omega (arith, at_most_all exported, c.decode.ensures.0);
+        most = omega (arith, at_most_all exported, c.decode-whole.ensures.0);
       }
 
 -- where a point is not taken, nothing passes
 refused_14 : (x : Answer (Unit {0})) (number place i : ℕ) → fault_answer number place ≡ (x then refused 14 i) → number ≡ 0 → ⊥
 refused_14 x number place i e z = refused≢gives (then_rest x _ (sym e ∙ no_fault place z))
 
-module _ (c : tie.After-whole-fault) where
-  abbrev decoded : tie.After-decode
+module _ (c : tie.After-whole_fault) where
+  abbrev decoded : tie.After-decode-whole
   decoded = c.before.before.before.before.before.before.before.before.before.before
 
-  by_14 : fault_answer c.whole-fault.result.number c.whole-fault.result.place
+  by_14 : fault_answer c.whole_fault.result.number c.whole_fault.result.place
       ≡ (point_rows 0 none (whole_points (exported decoded)) then refused 14 (whole_count (exported decoded)))
   by_14 =
       let d = decoded in
-      let count = sym (field_count (f d) (λ p. p.area) (whole d) (areas_are d)) ∙ d.decode.ensures.0 in
-      rw (listed decoded, count) at c.whole-fault.ensures
+      let count = sym (field_count (f d) (λ p. p.area) (whole d) (areas_are d)) ∙ d.decode-whole.ensures.0 in
+      rw (listed decoded, count) at c.whole_fault.ensures
 
-returns : tie.Need-returns
+returns : tie.Need-returns-then-whole-n
 returns c =
     let d = decoded c in
-    let test = c.before.before.before.before.if1.true in
-    let fewer : whole_count (exported d) < length (exported d) = omega (arith, d.decode.ensures.0, size d) in
-    let is = export_of_14 (exported d) (start d).args.shape fewer (counted d) (start d).pre.2 in
+    let test = c.before.before.before.before.if-whole-n.true in
+    let fewer : whole_count (exported d) < length (exported d) = omega (arith, d.decode-whole.ensures.0, size d) in
+    let is = export_of_14 (exported d) (start d).args.shape fewer (counted d) (start d).requires.2 in
     let never = refused_14 _ _ _ _ (by_14 c) in
     (by_14 c ∙ sym is, ((λ z. absurd (never z)), ((λ z. absurd (never z)), (λ z. absurd (never z)))))
 
@@ -108,28 +108,28 @@ as_far : {A : Type 0} (l : List A) {k n : ℕ} → k ≡ n → take n l ≡ take
 as_far l e = ap (λ (k : ℕ). take k l) (sym e)
 
 -- where all are taken
-module _ (c : tie.Else1) where
-  abbrev decoded_2 : tie.After-decode
+module _ (c : tie.Else-whole-n) where
+  abbrev decoded_2 : tie.After-decode-whole
   decoded_2 = c.before.before.before.before.before.before
 
   all_of : whole_count (exported decoded_2) ≡ length (exported decoded_2)
-  all_of = omega (arith, c.if1.false, at_most_all (exported decoded_2), decoded_2.decode.ensures.0, size decoded_2)
+  all_of = omega (arith, c.if-whole-n.false, at_most_all (exported decoded_2), decoded_2.decode-whole.ensures.0, size decoded_2)
 
   n_is : whole decoded_2 ≡ n decoded_2
-  n_is = decoded_2.decode.ensures.0 ∙ all_of ∙ size decoded_2
+  n_is = decoded_2.decode-whole.ensures.0 ∙ all_of ∙ size decoded_2
 
-  areas_all : take (n decoded_2) decoded_2.decode.last.1.1.0 ≡ map (λ p. p.area) (whole_points (exported decoded_2))
+  areas_all : take (n decoded_2) decoded_2.decode-whole.new.areas ≡ map (λ p. p.area) (whole_points (exported decoded_2))
   areas_all =
-      as_far decoded_2.decode.last.1.1.0 n_is ∙ areas_are decoded_2 ∙ ap (map (λ p. p.area)) (held decoded_2)
+      as_far decoded_2.decode-whole.new.areas n_is ∙ areas_are decoded_2 ∙ ap (map (λ p. p.area)) (held decoded_2)
 
-  values_all : take (n decoded_2) decoded_2.decode.last.1.1.1.0 ≡ map (λ p. p.value) (whole_points (exported decoded_2))
+  values_all : take (n decoded_2) decoded_2.decode-whole.new.values ≡ map (λ p. p.value) (whole_points (exported decoded_2))
   values_all =
-      as_far decoded_2.decode.last.1.1.1.0 n_is ∙ values_are decoded_2 ∙ ap (map (λ p. p.value)) (held decoded_2)
+      as_far decoded_2.decode-whole.new.values n_is ∙ values_are decoded_2 ∙ ap (map (λ p. p.value)) (held decoded_2)
 
-  slopes_all : take (n decoded_2) decoded_2.decode.last.1.1.1.1.0
+  slopes_all : take (n decoded_2) decoded_2.decode-whole.new.slopes
       ≡ map (λ p. p.slope) (whole_points (exported decoded_2))
   slopes_all =
-      as_far decoded_2.decode.last.1.1.1.1.0 n_is ∙ slopes_are decoded_2 ∙ ap (map (λ p. p.slope)) (held decoded_2)
+      as_far decoded_2.decode-whole.new.slopes n_is ∙ slopes_are decoded_2 ∙ ap (map (λ p. p.slope)) (held decoded_2)
 
   -- so many are in each list
   as_many : {A : Type 0} (field : Point → A) {l : List A} → l ≡ map field (whole_points (exported decoded_2)) →
@@ -138,14 +138,14 @@ module _ (c : tie.Else1) where
       let ps = exported decoded_2 in
       sym (ap length e ∙ length-map (whole_points ps) field ∙ whole_length ps ∙ all_of ∙ size decoded_2)
 
-returns-2 : tie.Need-returns-2
+returns-2 : tie.Need-returns
 returns-2 c =
     let e = c.before.before.before.before in
     let d = decoded_2 e in
     let ps = whole_points (exported d) in
     let code = (start d).args.shape in
-    let rows = rw (areas_all e, values_all e, slopes_all e, on_lists_of_is ps) at c.curve-fault.ensures in
-    let same : c.curve-fault.result.number ≡ 0 → ps ≡ first_points (bytes d) (n d) =
+    let rows = rw (areas_all e, values_all e, slopes_all e, on_lists_of_is ps) at c.curve_fault.ensures in
+    let same : c.curve_fault.result.number ≡ 0 → ps ≡ first_points (bytes d) (n d) =
     λ z. points_of_accepted (exported d) code (all_of e) (sym rows ∙ no_fault _ z) in (
       rows ∙ sym (export_of_curve (exported d) code (all_of e)),
       (
@@ -155,11 +155,11 @@ returns-2 c =
     )
 
 -- the place where the points were decoded, before the lists are lent again
-abbrev tested : tie.After-whole-fault-arg → tie.After-decode
+abbrev tested : tie.After-whole-fault-arg → tie.After-decode-whole
 tested c = c.before.before.before.before.before.before.before
 
-pub decoded-fault-spec : {M : Type 1} → statement M
-decoded-fault-spec =
+pub decoded_fault_spec : {M : Type 1} → statement M
+decoded_fault_spec =
     tie.close
     (tie.spec (search rules)
     (search rules) (λ c. field_count _ _ _ (areas_are (tested c)))

@@ -20,12 +20,12 @@ returns : tie.Need-returns
 unfolding figure_at
 returns c =
     let k = c.before.before.before.before.args in
-    c.from-pattern.ensures
+    c.from_pattern.ensures
     ∙ ap (of_bits binary64)
-    (rw (c.before.before.unsigned.ensures, c.before.unsigned2.ensures) (sym (eight_bytes k.bytes.now k.at)))
+    (rw (c.before.before.unsigned-low.ensures, c.before.unsigned-high.ensures) (sym (eight_bytes k.bytes.now k.at)))
 
-pub figure-spec : {M : Type 1} → statement M
-figure-spec =
+pub figure_spec : {M : Type 1} → statement M
+figure_spec =
     tie.close
     (tie.spec (search rules) (search rules) (search rules) (search rules)
     (search rules) (search rules) (search rules) (search rules) returns)

@@ -16,42 +16,42 @@ use Rattle.triples.proofs.Taking.{no_area, no_value, no_slope, all_taken}
 use Rattle.triples.proofs.take.Statement.{statement}
 use Rattle.triples.proofs.take.Tie as tie
 
-returns : tie.Need-returns
+returns : tie.Need-returns-in_default
 unfolding figure_of taken_point
-returns c = sym (no_area _ _ _ (sym c.before.before.whole_number.ensures ∙ ap figure_of c.enum_told.given.1))
+returns c = sym (no_area _ _ _ (sym c.before.before.whole_number.ensures ∙ ap figure_of c.in_default.is))
 
-returns-2 : tie.Need-returns-2
+returns-2 : tie.Need-returns-in_default-whole_number
 unfolding figure_of taken_point
-returns-2 c = sym (no_value _ _ _ (sym c.before.before.whole-number2.ensures ∙ ap figure_of c.enum-told2.given.1))
+returns-2 c = sym (no_value _ _ _ (sym c.before.before.whole_number-2.ensures ∙ ap figure_of c.in_default-whole_number.is))
 
-returns-3 : tie.Need-returns-3
+returns-3 : tie.Need-returns-in_default-whole_number-2
 unfolding figure_of taken_point
-returns-3 c = sym (no_slope _ _ _ (sym c.before.before.whole-number3.ensures ∙ ap figure_of c.enum-told3.given.1))
+returns-3 c = sym (no_slope _ _ _ (sym c.before.before.whole_number-3.ensures ∙ ap figure_of c.in_default-whole_number-2.is))
 
 -- the places where a figure was found
-abbrev sloped : tie.After-unsigned2 → tie.After-known-told3
+abbrev sloped : tie.After-unsigned-2 → tie.In-Whole-whole_number-2
 sloped c = c.before.before
 
-abbrev valued : tie.After-known-told3 → tie.After-known-told2
+abbrev valued : tie.In-Whole-whole_number-2 → tie.In-Whole-whole_number
 valued c = c.before.before.before.before
 
-abbrev measured : tie.After-known-told2 → tie.After-known-told
+abbrev measured : tie.In-Whole-whole_number → tie.In-Whole
 measured c = c.before.before.before.before
 
 -- a figure in range is read back from its bits
 read_back : (o : Option ℤ) (z : ℤ) → clamped o ≡ some z → to_z w32 (of_z w32 z) ≡ z
 read_back o z e = to_z-of_z {w = w32} (sfits_of_size w32 z (omega (arith, clamped_size o z e)))
 
-returns-4 : tie.Need-returns-4
+returns-4 : tie.Need-returns
 unfolding figure_of taken_point
 returns-4 c =
     let s = sloped c in
     let v = valued s in
     let a = measured v in
-    let area = sym a.before.before.before.whole_number.ensures ∙ ap figure_of a.before.area.given.1 in
-    let value = sym v.before.before.before.whole-number2.ensures ∙ ap figure_of v.before.value.given.1 in
-    let slope = sym s.before.before.before.whole-number3.ensures ∙ ap figure_of s.before.slope.given.1 in
-    rw (c.before.unsigned.ensures, c.unsigned2.ensures, read_back _ _ area, read_back _ _ value, read_back _ _ slope)
+    let area = sym a.before.before.before.whole_number.ensures ∙ ap figure_of a.before.in-Whole.is in
+    let value = sym v.before.before.before.whole_number-2.ensures ∙ ap figure_of v.before.in-Whole-whole_number.is in
+    let slope = sym s.before.before.before.whole_number-3.ensures ∙ ap figure_of s.before.in-Whole-whole_number-2.is in
+    rw (c.before.unsigned.ensures, c.unsigned-2.ensures, read_back _ _ area, read_back _ _ value, read_back _ _ slope)
     (sym (all_taken _ _ _ area value slope))
 
 pub take_spec : {M : Type 1} → statement M

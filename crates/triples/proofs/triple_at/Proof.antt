@@ -7,9 +7,9 @@ use Rattle.triples.proofs.triple_at.Tie as tie
 
 returns : tie.Need-returns
 unfolding triple_at
-returns c = rw (c.before.before.figure.ensures, c.before.figure2.ensures, c.figure3.ensures)
+returns c = rw (c.before.before.figure.ensures, c.before.figure-2.ensures, c.figure-3.ensures)
 
-pub triple-at-spec : {M : Type 1} → statement M
-triple-at-spec =
+pub triple_at_spec : {M : Type 1} → statement M
+triple_at_spec =
     tie.close
     (tie.spec (search rules) (search rules) (search rules) (search rules) (search rules) (search rules) returns)

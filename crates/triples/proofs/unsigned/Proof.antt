@@ -23,19 +23,19 @@ unfolding outward
 outward_from (pos n) h = refl
 outward_from (negsuc n) h = absurd (true≢false h)
 
-returns : tie.Need-returns
-returns c = outward_below c.before.args.z (rw (to_z-of_z c.before.ranges.z) at c.if1.true)
+returns : tie.Need-returns-then-z-lt0
+returns c = outward_below c.before.args.z (rw (to_z-of_z c.before.ranges.z) at c.if-z-lt0.true)
 
-not_below : (c : tie.Else1) → lt_z c.before.args.z (pos 0) ≡ false
-not_below c = rw (to_z-of_z c.before.ranges.z) at c.if1.false
+not_below : (c : tie.Else-z-lt0) → lt_z c.before.args.z (pos 0) ≡ false
+not_below c = rw (to_z-of_z c.before.ranges.z) at c.if-z-lt0.false
 
-cast-result : tie.Need-overflow-cast-result
+cast-result : tie.Need-overflow_cast-result
 cast-result c =
     rw (to_z-of_z c.before.ranges.z)
     (cast-of-natural tt c.before.ranges.z (natural_of_not_negative _ (not_below c)))
 
-returns-2 : tie.Need-returns-2
+returns-2 : tie.Need-returns
 returns-2 c = rw (to_z-of_z c.before.ranges.z) (outward_from c.before.args.z (not_below c))
 
-pub unsigned-spec : {M : Type 1} → statement M
-unsigned-spec = tie.close (tie.spec returns cast-result returns-2)
+pub unsigned_spec : {M : Type 1} → statement M
+unsigned_spec = tie.close (tie.spec returns cast-result returns-2)
