@@ -1,17 +1,16 @@
 -- A list that is copied in parts.
 --   drop_later, copied_more   where the first entries are copied: those after them, and what a copy of the next ones leaves
---   length_is, next, last     the length of such a list; where m more are copied; where all the rest is
+--   length_is, next, last     the length of such a list; where m more are copied; what a copy of all the rest leaves
 --   joined                    what one loop left was found by a later one
 -- Assumes nothing.
 use mathlib.Core.Path.{◌≡◌, refl, sym, ◌∙◌, ap}
 use mathlib.Core.List.{List, ◌++◌, append_assoc}
 use Prim.Native.Nat.{ℕ, ◌+◌, ◌-◌, ◌≤◌}
 use native.Mathlib.Omega.{arith}
-use borrow.Rule.Slice.PartMut.{mid_of, put_mid}
+use borrow.Rule.Slice.PartMut.{put_mid}
 use lib.ListN.{length, take, drop, length-append, length-drop}
 use lib.Seq.{length-take-le, drop-drop, take-add, take_at, drop-append-add}
 use Rattle.desk_answer.specs.Inner.{copied}
-use Rattle.desk_answer.proofs.Blocks.{put_copied}
 use Rattle.desk.specs.Inner.{CopiedTo}
 
 -- the first m entries are those of src: then what is from a later one on is as found
@@ -45,26 +44,14 @@ module _ {src found dst : List ℕ} {at : ℕ} (k : CopiedTo src found dst at) w
   pub next : (m : ℕ) {after : List ℕ} → at + m ≤ length src → after ≡ copied at at m src dst → CopiedTo src found after (at + m)
   next m h e = record { room = k.room; inner = h; is = e ∙ rw k.is (copied_more at src found k.inner m h) }
 
-  pub rest_fits : length (take (length src - at) (drop at src)) ≤ length (take (length dst - at) (drop at dst))
-  rest_fits =
-      let a = length-take-le (length src - at) (drop at src) (omega (arith, length-drop at src)) in
-      let b = length-take-le (length dst - at) (drop at dst) (omega (arith, length-drop at dst)) in
-      omega (arith, a, b, length_is, k.room)
-
-  pub last : {tail : List ℕ} →
-      (let part = take (length src - at) (drop at src) in
-      tail ≡ take (length part) part ++ drop (length part) (mid_of at (length dst - at) dst)) →
-      CopiedTo src found (put_mid at (length dst - at) dst tail) (length src)
-  last {tail = tail} e =
+  -- all the rest is copied
+  pub last : {tail : List ℕ} → tail ≡ take (length src - at) (drop at src) →
+      put_mid at (length src - at) dst tail ≡ take (length src) src ++ drop (length src) found
+  last e =
       let m : ℕ = length src - at in
-      let part_size : length (take m (drop at src)) ≡ m = length-take-le m (drop at src) (omega (arith, length-drop at src)) in
       let all : at + m ≡ length src = omega (arith, k.inner) in
-      let l = copied_more at src found k.inner m (omega (arith, k.inner)) in
-      record {
-        room = k.room;
-        inner = omega arith;
-        is = put_copied at dst (take m (drop at src)) tail e ∙ rw (part_size, k.is, all) (rw all at l);
-      }
+      rw (e, drop-drop m at dst, k.is)
+      (copied_more at src found k.inner m (omega (arith, k.inner)) ∙ ap (λ (j : ℕ). take j src ++ drop j found) all)
 
 -- nothing is copied yet
 pub none_copied : {src dst : List ℕ} → length src ≤ length dst → CopiedTo src dst dst 0

@@ -1,5 +1,6 @@
 -- `desk::desk_reading` meets its contract: a refusal leaves the scratch as it was; before a factor the records are copied.
 -- Assumes nothing.
+use mir.Syntax.{w32}
 use mathlib.Core.Path.{◌≡◌, sym, ◌∙◌}
 use mathlib.Core.List.{List, ◌++◌}
 use Prim.Native.Nat.{ℕ, ◌*◌}
@@ -60,7 +61,7 @@ returns-2 c =
     let copied = c.before.before.before in
     let e = copied.before.before.before in
     let f = factor e in (
-      to_z-of_z (record { sfits = c.factor.type_inv }) ∙ c.factor.ensures ∙ f.reads ∙ sym (rw f.is),
+      to_z-of_z {w = w32} (record { sfits = c.factor.type_inv }) ∙ c.factor.ensures ∙ f.reads ∙ sym (rw f.is),
       copied.copy.ensures ∙ sym (written e),
     )
 
