@@ -1,5 +1,6 @@
 // The desk reading with a scratch of two points, for C.
 #![tactic(auto)]
+
 ghost use Rattle.std.specs.Prelude.{◌≡◌, length};
 ghost use Rattle.model.specs.Answer.{filled};
 ghost use Rattle.desk_answer.specs.Desk.{desk_answer_two, desk_number, segment_records};

@@ -74,27 +74,22 @@ lists {bytes} {i = i} k =
 
 -- what is taken of the triple at i
 took : (c : tie.After-take invariant-loop decreases-loop) →
-    (let l = c.before.before.before in
-    clamped_option (at l.before.before.before.before.args.bytes.now l.loop-i.i) ≡ taken_point c.take.result)
-took c = ap (λ (t : Triple). clamped_option (taken t)) (sym c.before.triple_at.ensures) ∙ sym c.take.ensures
+    clamped_option (at c.args.bytes.now c.loop-i.i) ≡ taken_point c.take.result
+took c = ap (λ (t : Triple). clamped_option (taken t)) (sym c.triple_at.ensures) ∙ sym c.take.ensures
 
 point : (c : tie.After-struct_told-1 invariant-loop decreases-loop) →
-    (let l = c.before.before.before.before.before.before.before in
-    InRange (at l.before.before.before.before.args.bytes.now l.loop-i.i)
-    (point_of c.before.before.in-Whole.p))
+    InRange (at c.args.bytes.now c.loop-i.i) (point_of c.in-Whole.p)
 unfolding taken_point
-point c = in_range_of _ _ (took c.before.before.before.before ∙ ap taken_point c.before.before.in-Whole.is)
+point c = in_range_of _ _ (took c.before.before ∙ ap taken_point c.in-Whole.is)
 
 loop-again : tie.Need-loop-i-preserved invariant-loop decreases-loop
 loop-again c =
-    let l = c.before.before.before.before.before.before.before in
-    let k = l.loop-i.invariant in
-    let h = c.before.before.before.before.before.before.loop-i-test.true in
+    let k = c.loop-i.invariant in
     let p = point c in
-    let slope = c.before.before.in-Whole.p.slope in
+    let slope = c.in-Whole.p.slope in
     record {
       most = omega arith;
-      count = k.count ∙ count_goes_on (at _) l.loop-i.i _ p.p-1 h p.is;
+      count = k.count ∙ count_goes_on (at _) c.loop-i.i _ p.p c.loop-i-test.true p.is;
       areas_are = filling_goes_on _ 0 _ k.areas_are (omega arith) (ap (λ (p : Point). p.area) (sym p.ranged));
       values_are = filling_goes_on _ 0 _ k.values_are (omega arith) (ap (λ (p : Point). p.value) (sym p.ranged));
       slopes_are =
@@ -105,7 +100,7 @@ loop-again c =
 
 returns : tie.Need-returns-after-loop-i invariant-loop decreases-loop
 returns c =
-    let k = c.before.loop-i.invariant in
+    let k = c.loop-i.invariant in
     let (areas, values, slopes) = lists k in
     let ends = count_ends (at _) c.before.loop-i.i _ c.loop-i-test.false in
     (sym (k.count ∙ ends), (areas, (values, slopes)))
@@ -113,11 +108,10 @@ returns c =
 returns-2 : tie.Need-returns-in_default invariant-loop decreases-loop
 unfolding taken_point
 returns-2 c =
-    let l = c.before.before.before.before.before in
-    let k = l.loop-i.invariant in
+    let k = c.loop-i.invariant in
     let (areas, values, slopes) = lists k in
-    let none_here = none_taken _ (took c.before.before ∙ ap taken_point c.in_default.is) in
-    let stops = count_stops (at _) l.loop-i.i _ c.before.before.before.before.loop-i-test.true none_here in
+    let none_here = none_taken _ (took c.before ∙ ap taken_point c.in_default.is) in
+    let stops = count_stops (at _) c.loop-i.i _ c.loop-i-test.true none_here in
     (sym (k.count ∙ stops), (areas, (values, slopes)))
 
 pub decode_spec : {M : Type 1} → statement M
@@ -126,8 +120,8 @@ decode_spec =
     (tie.spec invariant-loop decreases-loop loop-holds (λ c κs. record { export = omega arith }) take-requires (search rules) (search rules)
     (λ c. omega arith) (λ c. omega arith) (λ c. omega arith) (λ c. omega arith) (λ c. omega arith) (λ c. omega arith)
     (λ c. omega arith) (λ c. omega arith)
-    loop-again (λ c. c.before.loop-i.invariant.areas_are.size) (λ c. c.before.loop-i.invariant.values_are.size)
-    (λ c. c.before.loop-i.invariant.slopes_are.size) returns
-    (λ c. c.before.before.before.before.before.loop-i.invariant.areas_are.size)
-    (λ c. c.before.before.before.before.before.loop-i.invariant.values_are.size)
-    (λ c. c.before.before.before.before.before.loop-i.invariant.slopes_are.size) returns-2)
+    loop-again (λ c. c.loop-i.invariant.areas_are.size) (λ c. c.loop-i.invariant.values_are.size)
+    (λ c. c.loop-i.invariant.slopes_are.size) returns
+    (λ c. c.loop-i.invariant.areas_are.size)
+    (λ c. c.loop-i.invariant.values_are.size)
+    (λ c. c.loop-i.invariant.slopes_are.size) returns-2)

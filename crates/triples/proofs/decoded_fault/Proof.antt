@@ -86,7 +86,7 @@ refused_14 x number place i e z = refused≢gives (then_rest x _ (sym e ∙ no_f
 
 module _ (c : tie.After-whole_fault) where
   abbrev decoded : tie.After-decode-whole
-  decoded = c.before.before.before.before.before.before.before.before.before.before
+  decoded = c.before.before.before.before.before.before.before
 
   by_14 : fault_answer c.whole_fault.result.number c.whole_fault.result.place
       ≡ (point_rows 0 none (whole_points (exported decoded)) then refused 14 (whole_count (exported decoded)))
@@ -98,7 +98,7 @@ module _ (c : tie.After-whole_fault) where
 returns : tie.Need-returns-then-whole-n
 returns c =
     let d = decoded c in
-    let test = c.before.before.before.before.if-whole-n.true in
+    let test = c.if-whole-n.true in
     let fewer : whole_count (exported d) < length (exported d) = omega (arith, d.decode-whole.ensures.0, size d) in
     let is = export_of_14 (exported d) (start d).args.shape fewer (counted d) (start d).requires.2 in
     let never = refused_14 _ _ _ _ (by_14 c) in
@@ -140,7 +140,7 @@ module _ (c : tie.Else-whole-n) where
 
 returns-2 : tie.Need-returns
 returns-2 c =
-    let e = c.before.before.before.before in
+    let e = c.before in
     let d = decoded_2 e in
     let ps = whole_points (exported d) in
     let code = (start d).args.shape in
@@ -155,19 +155,19 @@ returns-2 c =
     )
 
 -- the place where the points were decoded, before the lists are lent again
-abbrev tested : tie.After-whole-fault-arg → tie.After-decode-whole
-tested c = c.before.before.before.before.before.before.before
+abbrev tested : tie.Then-whole-n → tie.After-decode-whole
+tested c = c.before.before.before.before.before.before
 
 pub decoded_fault_spec : {M : Type 1} → statement M
 decoded_fault_spec =
     tie.close
     (tie.spec (search rules)
     (search rules) (λ c. field_count _ _ _ (areas_are (tested c)))
-    (search rules) (λ c. field_count _ _ _ (values_are (tested c.before)))
-    (search rules) (λ c. field_count _ _ _ (slopes_are (tested c.before.before)))
-    (λ c κs. few (tested c.before.before))
+    (search rules) (λ c. field_count _ _ _ (values_are (tested c)))
+    (search rules) (λ c. field_count _ _ _ (slopes_are (tested c)))
+    (λ c κs. few (tested c))
     (search rules) (search rules) (search rules) returns
-    (search rules) (λ c. as_many c.before (λ p. p.area) (areas_all c.before))
-    (search rules) (λ c. as_many c.before.before (λ p. p.value) (values_all c.before.before))
-    (search rules) (λ c. as_many c.before.before.before (λ p. p.slope) (slopes_all c.before.before.before))
+    (search rules) (λ c. as_many c (λ p. p.area) (areas_all c))
+    (search rules) (λ c. as_many c (λ p. p.value) (values_all c))
+    (search rules) (λ c. as_many c (λ p. p.slope) (slopes_all c))
     (search rules) (search rules) (search rules) (search rules) returns-2)
