@@ -1,5 +1,6 @@
 // Points from the statistics package.
 #![tactic(auto)]
+
 ghost use Rattle.std.specs.Prelude.{◌≡◌, map, ◌++◌, length, take, drop};
 ghost use Rattle.model.specs.Answer.{filled};
 ghost use Rattle.import.specs.Import.{points_of, import_answer};

@@ -20,13 +20,13 @@ record Copying (a v : List ℕ) (s : List ℤ) (n : ℕ) (areas₀ values₀ : L
   pub values_are : Copied v values₀ values i
   pub slopes_are : Copied s slopes₀ slopes i
 
-abbrev invariant-loop : tie.invariant-loop
+abbrev invariant-loop : tie.invariant-loop-i
 invariant-loop a v s n areas₀ values₀ slopes₀ i₀ areas values slopes i = Copying a v s n areas₀ values₀ slopes₀ areas values slopes i
 
-abbrev decreases-loop : tie.decreases-loop
+abbrev decreases-loop : tie.decreases-loop-i
 decreases-loop a v s n areas₀ values₀ slopes₀ i₀ areas values slopes i = n - i
 
-loop-holds : tie.Need-loop-init invariant-loop decreases-loop
+loop-holds : tie.Need-loop-i-init invariant-loop decreases-loop
 loop-holds c =
     record {
       most = omega arith;
@@ -35,11 +35,11 @@ loop-holds c =
       slopes_are = copying_starts _ _;
     }
 
-loop-again : tie.Need-loop-preserved invariant-loop decreases-loop
+loop-again : tie.Need-loop-i-preserved invariant-loop decreases-loop
 loop-again c =
-    let k = c.before.before.before.before.loop.invariant in
-    let h = c.before.before.before.loop-test.true in
-    let z = get_or c.before.before.before.before.before.args.s.now c.before.before.before.before.loop.i (pos 0) in
+    let k = c.before.before.before.before.loop-i.invariant in
+    let h = c.before.before.before.loop-i-test.true in
+    let z = get_or c.before.before.before.before.before.args.s.now c.before.before.before.before.loop-i.i (pos 0) in
     record {
       most = omega arith;
       areas_are = copying_goes_on _ _ 0 _ k.areas_are (omega arith) (omega arith) refl;
@@ -50,8 +50,8 @@ loop-again c =
 
 returns : tie.Need-returns invariant-loop decreases-loop
 returns c =
-    let k = c.before.loop.invariant in
-    let e : c.before.loop.i ≡ c.before.before.args.n = omega arith in
+    let k = c.before.loop-i.invariant in
+    let e : c.before.loop-i.i ≡ c.before.before.args.n = omega arith in
     (copied_up _ _ k.areas_are e, (copied_up _ _ k.values_are e, copied_up _ _ k.slopes_are e))
 
 pub copy_spec : {M : Type 1} → statement M
@@ -60,5 +60,5 @@ copy_spec =
     (tie.spec invariant-loop decreases-loop loop-holds (λ c. omega arith) (λ c. omega arith) (λ c. omega arith) (λ c. omega arith)
     (λ c. omega arith) (λ c. omega arith) (λ c. omega arith) (λ c. omega arith)
     (λ c. omega arith) (λ c. omega arith) (λ c. omega arith) (λ c. omega arith) (λ c. omega arith) (λ c. omega arith)
-    loop-again (λ c. c.before.loop.invariant.areas_are.size) (λ c. c.before.loop.invariant.values_are.size)
-    (λ c. c.before.loop.invariant.slopes_are.size) returns)
+    loop-again (λ c. c.before.loop-i.invariant.areas_are.size) (λ c. c.before.loop-i.invariant.values_are.size)
+    (λ c. c.before.loop-i.invariant.slopes_are.size) returns)

@@ -23,11 +23,11 @@ use Rattle.import.specs.Calls.{imported_answer}
 use Rattle.import.proofs.import.Statement.{statement}
 use Rattle.import.proofs.import.Tie as tie
 
-returns : tie.Need-returns
+returns : tie.Need-returns-then-bytes-ne0
 unfolding import_answer filled imported_answer bad_length row ◌then◌
-returns c = (rw (ne_eqb _ 0 c.if1.true) refl, (refl, (refl, refl)))
+returns c = (rw (ne_eqb _ 0 c.if-bytes-ne0.true) refl, (refl, (refl, refl)))
 
-module _ (c : tie.Else1) where
+module _ (c : tie.Else-bytes-ne0) where
   abbrev start : tie.Start
   start = c.before.before.before.before
 
@@ -44,81 +44,81 @@ module _ (c : tie.Else1) where
 
   even_length : bad_length bytes ≡ false
   unfolding bad_length
-  even_length = rw (eq-eqb _ 0 c.if1.false) refl
+  even_length = rw (eq-eqb _ 0 c.if-bytes-ne0.false) refl
 
-returns-2 : tie.Need-returns-2
+returns-2 : tie.Need-returns-then-short_list
 unfolding import_answer filled imported_answer row ◌then◌
 returns-2 c =
     let e = c.before.before in
-    let short = sym c.before.short_list.ensures ∙ c.if2.true in
+    let short = sym c.before.short_list.ensures ∙ c.if-short_list.true in
     (rw (even_length e, short) refl, (refl, (refl, refl)))
 
-module _ (c : tie.Else2) where
-  abbrev even : tie.Else1
+module _ (c : tie.Else-short_list) where
+  abbrev even : tie.Else-bytes-ne0
   even = c.before.before
 
   -- the points decide
   tried : {a : Answer (Unit {0})} → export_rows (exported (bytes even)) (code even) ≡ a →
       answer even ≡ (a then gives (count (bytes even)))
   unfolding import_answer row ◌then◌
-  tried e = rw (even_length even, sym c.before.short_list.ensures ∙ c.if2.false, e) refl
+  tried e = rw (even_length even, sym c.before.short_list.ensures ∙ c.if-short_list.false, e) refl
 
   room : (count (bytes even) ≤ length (start even).args.areas.now)
       × (count (bytes even) ≤ length (start even).args.values.now)
       × (count (bytes even) ≤ length (start even).args.slopes.now)
-  room = room_in_lists (sym c.before.short_list.ensures ∙ c.if2.false)
+  room = room_in_lists (sym c.before.short_list.ensures ∙ c.if-short_list.false)
 
   size : length (exported (bytes even)) ≡ count (bytes even)
   size = tabulate_length (λ i. taken (triple_at (bytes even) i)) 0 (count (bytes even))
 
-returns-3 : tie.Need-returns-3
+returns-3 : tie.Need-returns-then-bad_count
 unfolding filled imported_answer export_rows row ◌then◌
 returns-3 c =
     let l = c.before.before in
-    let counted = sym c.before.bad_count.ensures ∙ c.if3.true in
+    let counted = sym c.before.bad_count.ensures ∙ c.if-bad_count.true in
     (sym (tried l {a = refused 1 0} (rw (size l, counted) refl)), (refl, (refl, refl)))
 
-module _ (c : tie.Else3) where
-  abbrev roomy : tie.Else2
+module _ (c : tie.Else-bad_count) where
+  abbrev roomy : tie.Else-short_list
   roomy = c.before.before
 
   counted : bad_count (count (bytes (even roomy))) ≡ false
-  counted = sym c.before.bad_count.ensures ∙ c.if3.false
+  counted = sym c.before.bad_count.ensures ∙ c.if-bad_count.false
 
-returns-4 : tie.Need-returns-4
+returns-4 : tie.Need-returns-then-bad_code
 unfolding filled imported_answer export_rows row ◌then◌
 returns-4 c =
     let k = c.before.before in
     let l = roomy k in
-    let coded = sym c.before.bad_code.ensures ∙ c.if4.true in
+    let coded = sym c.before.bad_code.ensures ∙ c.if-bad_code.true in
     (sym (tried l {a = refused 2 0} (rw (size l, counted k, coded) refl)), (refl, (refl, refl)))
 
 -- rows 13, 11, 1 and 2 are passed
-abbrev limited : tie.Else4 → tie.Else3
+abbrev limited : tie.Else-bad_code → tie.Else-bad_count
 limited c = c.before.before
 
-few : (c : tie.Else4) → count (bytes (even (roomy (limited c)))) ≤ points_most
+few : (c : tie.Else-bad_code) → count (bytes (even (roomy (limited c)))) ≤ points_most
 few c = (count_of_row_1 _ (counted (limited c))).1
 
-decoded-fault-requires : tie.Need-decoded-fault-requires
+decoded-fault-requires : tie.Need-decoded_fault-fault-requires
 decoded-fault-requires c κs =
     let k = c.before.before.before in
     let most = few k in (
       record { export = record { export = omega arith }; in_areas = most; in_values = most; in_slopes = most },
       counted (limited k),
-      sym k.before.bad_code.ensures ∙ k.if4.false,
+      sym k.before.bad_code.ensures ∙ k.if-bad_code.false,
     )
 
 -- the places after the points are decoded, and before that
-abbrev decided : tie.After-decoded-fault → tie.Else4
+abbrev decided : tie.After-decoded_fault-fault → tie.Else-bad_code
 decided c = c.before.before.before.before
 
-returns-5 : tie.Need-returns-5
+returns-5 : tie.Need-returns-then-fault-ne0
 unfolding filled imported_answer ◌then◌
 returns-5 c =
     let d = c.before.before.before.before.before in
     let l = roomy (limited (decided d)) in
-    (sym (tried l (sym d.decoded-fault.ensures.0 ∙ a_fault _ c.if5.true)), (refl, (refl, refl)))
+    (sym (tried l (sym d.decoded_fault-fault.ensures.0 ∙ a_fault _ c.if-fault-ne0.true)), (refl, (refl, refl)))
 
 copy-requires : tie.Need-copy-requires
 copy-requires c κs =
@@ -127,22 +127,22 @@ copy-requires c κs =
     let r = roomy (limited e) in
     let (areas, values, slopes) = room r in
     let most = few e in
-    let x = d.decoded-fault.auto.1.1.1.0 in
-    let y = d.decoded-fault.auto.1.1.1.1.0 in
-    let z = d.decoded-fault.auto.1.1.1.1.1.0 in (
+    let x = d.decoded_fault-fault.auto.areas in
+    let y = d.decoded_fault-fault.auto.values in
+    let z = d.decoded_fault-fault.auto.slopes in (
       record { there = omega arith; room = areas },
       record { there = omega arith; room = values },
       record { there = omega arith; room = slopes },
     )
 
 -- the places after the points are copied, and decoded
-abbrev copied : tie.After-slopes → tie.After-copy
+abbrev copied : tie.After-slopes-1 → tie.After-copy
 copied c = c.before.before.before.before.before
 
-abbrev accepted : tie.After-copy → tie.Else5
+abbrev accepted : tie.After-copy → tie.Else-fault-ne0
 accepted c = c.before.before.before.before.before.before.before
 
-abbrev decoded : tie.Else5 → tie.After-decoded-fault
+abbrev decoded : tie.Else-fault-ne0 → tie.After-decoded_fault-fault
 decoded c = c.before.before.before.before.before
 
 -- the entries after a list of so many points
@@ -155,15 +155,15 @@ after_list bytes field found e =
     ∙ tabulate_length (λ i. taken (triple_at bytes i)) 0 (count bytes) in
     rw (e, size) refl
 
-returns-6 : tie.Need-returns-6
+returns-6 : tie.Need-returns
 unfolding filled imported_answer ◌then◌
 returns-6 c =
     let e = (copied c).copy.ensures in
     let a = accepted (copied c) in
     let d = decoded a in
     let l = roomy (limited (decided d)) in
-    let f = d.decoded-fault.ensures in
-    let z = a.if5.left in
+    let f = d.decoded_fault-fault.ensures in
+    let z = a.if-fault-ne0.false in
     let input = bytes (even l) in (
       sym (tried l (sym f.0 ∙ no_fault _ z)),
       (
@@ -175,8 +175,8 @@ returns-6 c =
       ),
     )
 
-pub import-spec : {M : Type 1} → statement M
-import-spec =
+pub import_spec : {M : Type 1} → statement M
+import_spec =
     tie.close
     (tie.spec returns (search rules) returns-2 (search rules) returns-3 (search rules) returns-4
     (search rules) (search rules) (search rules) decoded-fault-requires returns-5
