@@ -1,5 +1,6 @@
 // What the calls give to C for a refusal.
 #![tactic(auto)]
+
 ghost use Rattle.std.specs.Prelude.{◌≡◌, ◌≤◌, ◌+◌, ◌*◌, pos, neg_ℤ};
 ghost use Rattle.model.specs.Inner.{table_most};
 ghost use Rattle.exports.specs.Exports.{word};

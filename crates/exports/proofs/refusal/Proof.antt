@@ -28,11 +28,11 @@ module _ (c : tie.Start) where
   result_fits : SFits w64 (pos 0 -ℤ pos size)
   result_fits = sfits_of_size w64 _ (omega (arith, small, size-- (pos 0) (pos size)))
 
-sub_result : tie.Need-overflow-sub-result
+sub_result : tie.Need-overflow_sub-result
 sub_result c = subst (λ z. SFits w64 (pos 0 -ℤ z)) (sym (size_is c)) (result_fits c)
 
 returns : tie.Need-returns
 returns c = rw (size_is c, to_z-of_z (result_fits c)) (ring (pos (size c) ∷ []) (search terms depth 20 fits 9999) tt)
 
-pub refusal-spec : {M : Type 1} → statement M
-refusal-spec = tie.close (tie.spec (search rules) (λ c. omega (arith, small c)) (search rules) sub_result returns)
+pub refusal_spec : {M : Type 1} → statement M
+refusal_spec = tie.close (tie.spec (search rules) (λ c. omega (arith, small c)) (search rules) sub_result returns)
