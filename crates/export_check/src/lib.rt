@@ -1,5 +1,6 @@
 // Check, for C.
 #![tactic(auto)]
+
 ghost use Rattle.std.specs.Prelude.{◌≡◌, pos};
 ghost use Rattle.model.specs.Check.{check_answer, on_lists};
 ghost use Rattle.exports.specs.Exports.{c_number};

@@ -1,5 +1,6 @@
 // The filling of slopes, for C.
 #![tactic(auto)]
+
 ghost use Rattle.std.specs.Prelude.{◌≡◌, pos, length};
 ghost use Rattle.harmonic.specs.Fill.{fill_answer, slopes_after};
 ghost use Rattle.exports.specs.Exports.{c_number};

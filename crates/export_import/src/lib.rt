@@ -1,5 +1,6 @@
 // Import, for C.
 #![tactic(auto)]
+
 ghost use Rattle.std.specs.Prelude.{◌≡◌, map, pos, length};
 ghost use Rattle.model.specs.Answer.{filled};
 ghost use Rattle.import.specs.Import.{points_of, import_answer};

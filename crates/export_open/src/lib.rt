@@ -1,5 +1,6 @@
 // Open, for C.
 #![tactic(auto)]
+
 ghost use Rattle.std.specs.Prelude.{◌≡◌, map, length};
 ghost use Rattle.model.specs.Answer.{filled};
 ghost use Rattle.layout.specs.Layout.{points_of};

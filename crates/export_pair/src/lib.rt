@@ -1,5 +1,6 @@
 // Pair, for C.
 #![tactic(auto)]
+
 ghost use Rattle.std.specs.Prelude.{◌≡◌, pos, length};
 ghost use Rattle.exports.specs.Exports.{c_number, pair_entries, c_pair_answer, c_pair_list};
 

@@ -1,5 +1,6 @@
 // Read, for C.
 #![tactic(auto)]
+
 ghost use Rattle.std.specs.Prelude.{◌≡◌};
 ghost use Rattle.model.specs.Check.{on_lists};
 ghost use Rattle.model.specs.Read.{read_answer};

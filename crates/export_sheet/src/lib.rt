@@ -1,5 +1,6 @@
 // Sheet, for C.
 #![tactic(auto)]
+
 ghost use Rattle.std.specs.Prelude.{◌≡◌, pos, length};
 ghost use Rattle.model.specs.Points.{points};
 ghost use Rattle.model.specs.Check.{on_lists};

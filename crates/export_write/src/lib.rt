@@ -1,5 +1,6 @@
 // Write, for C.
 #![tactic(auto)]
+
 ghost use Rattle.std.specs.Prelude.{◌≡◌, pos, length};
 ghost use Rattle.model.specs.Answer.{filled};
 ghost use Rattle.model.specs.Points.{points};

@@ -1,0 +1,30 @@
+-- `export_check::curve_check` meets its contract, by what Check promises.
+-- Assumes nothing.
+use mathlib.Core.Path.{◌≡◌, sym, ◌∙◌, ap, subst}
+use Prim.Native.Nat.{◌^◌, ◌<◌}
+use native.Mathlib.Omega.{arith}
+use borrow.Author.Rules.{rules}
+use lib.IntN.{pos}
+use mir.Syntax.{w64}
+use mir.Facts.{to_z-of_z, to_z_pos}
+use Rattle.model.specs.Answer.{refused}
+use Rattle.model.specs.Check.{check_answer, on_lists}
+use Rattle.model.proofs.Numbered.{Numbered, in_check, in_lists}
+use Rattle.curve.specs.Calls.{checked_answer}
+use Rattle.exports.proofs.Numbers.{c_refused, c_given}
+use Rattle.export_check.proofs.curve_check.Goals as goal
+
+pub refusal-requires : goal.refusal-requires
+unfolding checked_answer
+refusal-requires c = (subst Numbered (sym c.check.ensures ∙ ap checked_answer c.in-Refused.is) (in_lists _ _ _ _ (in_check _ _))).most
+
+pub returns-in-Refused : goal.returns-in-Refused
+unfolding checked_answer
+returns-in-Refused c =
+    rw (to_z-of_z (record { sfits = c.refusal.type_inv }), c.refusal.ensures) (c_refused pos (sym c.check.ensures ∙ ap checked_answer c.in-Refused.is))
+
+pub returns-in-Segments : goal.returns-in-Segments
+unfolding checked_answer
+returns-in-Segments c =
+    let small : c.in-Segments.n < 2 ^ 63 = omega arith in
+    rw (to_z_pos w64 small) (c_given pos (sym c.check.ensures ∙ ap checked_answer c.in-Segments.is))

@@ -1,0 +1,31 @@
+-- `export_import::curve_import` meets its contract, by what Import promises.
+-- Assumes nothing.
+use mathlib.Core.Path.{◌≡◌, sym, ◌∙◌, ap, subst}
+use Prim.Native.Nat.{◌^◌, ◌<◌}
+use native.Mathlib.Omega.{arith}
+use borrow.Author.Rules.{rules}
+use lib.IntN.{pos}
+use lib.ListN.{length}
+use mir.Syntax.{w64}
+use mir.Facts.{to_z-of_z, to_z_pos}
+use Rattle.model.specs.Answer.{refused}
+use Rattle.model.proofs.Numbered.{Numbered}
+use Rattle.import.specs.Import.{import_answer}
+use Rattle.import.specs.Calls.{imported_answer}
+use Rattle.exports.proofs.Numbers.{c_refused, c_given, in_import}
+use Rattle.export_import.proofs.curve_import.Goals as goal
+
+pub refusal-requires : goal.refusal-requires
+unfolding imported_answer
+refusal-requires c = (subst Numbered (sym c.«import».ensures.answer ∙ ap imported_answer c.in-Refused.is) (in_import _ _ _ _ _)).most
+
+pub returns-in-Refused-clause-answer : goal.returns-in-Refused-clause-answer
+unfolding imported_answer
+returns-in-Refused-clause-answer c =
+    rw (to_z-of_z (record { sfits = c.refusal.type_inv }), c.refusal.ensures) (c_refused pos (sym c.«import».ensures.answer ∙ ap imported_answer c.in-Refused.is))
+
+pub returns-in-Points-clause-answer : goal.returns-in-Points-clause-answer
+unfolding imported_answer
+returns-in-Points-clause-answer c =
+    let small : c.in-Points.n < 2 ^ 63 = omega arith in
+    rw (to_z_pos w64 small) (c_given pos (sym c.«import».ensures.answer ∙ ap imported_answer c.in-Points.is))

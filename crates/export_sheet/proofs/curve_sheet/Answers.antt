@@ -1,0 +1,32 @@
+-- `export_sheet::curve_sheet` meets its contract, by what Sheet promises.
+-- Assumes nothing.
+use mathlib.Core.Path.{◌≡◌, sym, ◌∙◌, ap, subst}
+use Prim.Native.Nat.{◌^◌, ◌<◌}
+use native.Mathlib.Omega.{arith}
+use borrow.Author.Rules.{rules}
+use lib.IntN.{pos}
+use lib.ListN.{length}
+use mir.Syntax.{w64}
+use mir.Facts.{to_z-of_z, to_z_pos}
+use Rattle.model.specs.Answer.{refused}
+use Rattle.model.specs.Check.{on_lists}
+use Rattle.model.specs.Sheet.{sheet_answer}
+use Rattle.model.proofs.Numbered.{Numbered, in_sheet, in_lists}
+use Rattle.curve.specs.Calls.{filled_answer}
+use Rattle.exports.proofs.Numbers.{c_refused, c_given}
+use Rattle.export_sheet.proofs.curve_sheet.Goals as goal
+
+pub refusal-requires : goal.refusal-requires
+unfolding filled_answer
+refusal-requires c = (subst Numbered (sym c.sheet.ensures.answer ∙ ap filled_answer c.in-Refused.is) (in_lists _ _ _ _ (in_sheet _ _ _ _ _))).most
+
+pub returns-in-Refused-clause-answer : goal.returns-in-Refused-clause-answer
+unfolding filled_answer
+returns-in-Refused-clause-answer c =
+    rw (to_z-of_z (record { sfits = c.refusal.type_inv }), c.refusal.ensures) (c_refused pos (sym c.sheet.ensures.answer ∙ ap filled_answer c.in-Refused.is))
+
+pub returns-in-Entries-clause-answer : goal.returns-in-Entries-clause-answer
+unfolding filled_answer
+returns-in-Entries-clause-answer c =
+    let small : c.in-Entries.n < 2 ^ 63 = omega arith in
+    rw (to_z_pos w64 small) (c_given pos (sym c.sheet.ensures.answer ∙ ap filled_answer c.in-Entries.is))
