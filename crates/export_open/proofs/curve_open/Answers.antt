@@ -1,0 +1,32 @@
+-- `export_open::curve_open` meets its contract, by what Open promises.
+-- Assumes nothing.
+use mathlib.Core.Path.{◌≡◌, sym, ◌∙◌, ap, subst}
+use Prim.Native.Nat.{◌+◌, ◌*◌, ◌^◌, ◌<◌}
+use native.Mathlib.Omega.{arith}
+use borrow.Author.Rules.{rules}
+use lib.ListN.{length}
+use mir.Syntax.{w64}
+use mir.Facts.{to_z-of_z, to_z_pos}
+use Rattle.model.specs.Answer.{refused}
+use Rattle.model.proofs.Numbered.{Numbered}
+use Rattle.file.specs.Open.{open_answer}
+use Rattle.file.specs.Calls.{opened_answer}
+use Rattle.exports.specs.Exports.{c_shape_and_count}
+use Rattle.exports.proofs.Numbers.{c_refused, c_given, in_open}
+use Rattle.export_open.proofs.curve_open.Goals as goal
+
+pub refusal-requires : goal.refusal-requires
+unfolding opened_answer
+refusal-requires c = (subst Numbered (sym c.«open».ensures.answer ∙ ap opened_answer c.in-Refused.is) (in_open _ _ _ _)).most
+
+pub returns-in-Refused-clause-answer : goal.returns-in-Refused-clause-answer
+unfolding opened_answer
+returns-in-Refused-clause-answer c =
+    rw (to_z-of_z (record { sfits = c.refusal.type_inv }), c.refusal.ensures)
+    (c_refused c_shape_and_count (sym c.«open».ensures.answer ∙ ap opened_answer c.in-Refused.is))
+
+pub returns-in-Curve-clause-answer : goal.returns-in-Curve-clause-answer
+unfolding opened_answer c_shape_and_count
+returns-in-Curve-clause-answer c =
+    let small : 256 * c.in-Curve.shape + c.in-Curve.count < 2 ^ 63 = omega arith in
+    to_z_pos w64 small ∙ c_given c_shape_and_count (sym c.«open».ensures.answer ∙ ap opened_answer c.in-Curve.is)
