@@ -45,7 +45,8 @@ module _ {bytes : List ℕ} {n shape : ℕ} (k : FileCurve bytes n shape) where
       rw (areas_size bytes n, area_is bytes n 0 (omega arith), area_is bytes n (n - 1) (omega arith)) at
       (chain_ends (chained_of k.accepted))
 
-  pub whole : Lines bytes n shape (record_at bytes 0).area (((record_at bytes (n - 1)).area - (record_at bytes 0).area) / step + 1)
+  pub whole : Lines bytes n shape (record_at bytes 0).area
+      (((record_at bytes (n - 1)).area - (record_at bytes 0).area) / step + 1)
   whole = record { curve = k; low = le_refl _; high = omega (arith, first_to_last) }
 
 module _ {bytes : List ℕ} {n shape area left : ℕ} (k : Lines bytes n shape area left) (some : 0 < left) where

@@ -1,13 +1,13 @@
 // The text of a curve file's sheet, in a lent buffer.
 #![tactic(auto)]
+
 ghost use Rattle.std.specs.Prelude.{◌≡◌, ◌++◌, ◌+◌, ◌*◌, ◌≤◌, length, take};
-ghost use Rattle.io.specs.Counts.{IsPrefixLen};
 ghost use Rattle.model.specs.Answer.{gives, ◌then◌};
 ghost use Rattle.model.specs.Inner.{fault_answer};
 ghost use Rattle.layout.specs.Inner.{first_points};
 ghost use Rattle.text.specs.Inner.{Put};
 ghost use Rattle.sheet_text.specs.SheetText.{words_line, head_line, entry_line, entry_lines, sheet_lines};
-ghost use Rattle.sheet_text.specs.SheetText.{file_answer, sheet_text};
+ghost use Rattle.sheet_text.specs.SheetText.{file_answer, sheet_text, IsPrefixLen};
 ghost use Rattle.sheet_text.specs.Inner.{head_of, FileCurve, Lines, text_most};
 
 use rows::Fault;

@@ -1,51 +1,56 @@
 -- Decimal digits.
---   decimal_is     the fewest digits that hold a number, at most ten, are its decimal digits; few, a number below 2³² has no more
+--   none_yet, one_more, last_one    digits put into a buffer from the last on: none, one that others come before, the first
+--   smaller                         the number that the digits before the last write
 --   signed_negative, signed_natural    a number with its sign, by its magnitude
 -- Assumes nothing.
-use mathlib.Core.Path.{◌≡◌, refl, ap}
-use mathlib.Core.Bool.{true, false, true≢false}
-use mathlib.Core.List.{◌∷◌, [], ◌++◌}
-use mathlib.Core.Logic.{inl, inr}
-use Prim.Native.Nat.{ℕ, zero, suc, ◌+◌, ◌-◌, ◌/◌, ◌%◌, ◌^◌, ◌≤◌, ◌<◌}
-use native.Mathlib.Nat.{pow-suc, one-le-pow, pow-le-pow_right, mod-lt}
-use native.Mathlib.Omega.{arith}
+use Rattle.std.proofs.Common.{◌≡◌, refl, sym, ap, ◌∙◌, true, false, cond, ltb, arith, add-one}
+use Rattle.std.proofs.Common.{ℕ, zero, suc, ◌+◌, ◌-◌, ◌/◌, ◌%◌, ◌^◌, ◌≤◌, ◌<◌, ℤ, pos, negsuc, nat_abs}
+use Rattle.std.proofs.Common.{List, [], ◌∷◌, ◌++◌, append_assoc, append-nil, length, drop, set}
+use Rattle.std.proofs.lemmas.List.{drop-set, drop_all}
+use Rattle.std.proofs.Math.Nat.{pow-succ'}
 use borrow.Author.Tests.{ltb-true, lt-ltb, le-ltb}
-use lib.IntN.{ℤ, pos, negsuc, nat_abs}
+use mathlib.Core.Bool.{true≢false}
 use lib.Signed.{lt_z}
-use Rattle.exact.proofs.Tests.{compare}
-use Rattle.io.specs.Digits.{hex_digit_ascii, last_digits, IsDigitCount}
 use Rattle.text.specs.Text.{ascii, digits_within, decimal, signed}
 
-digit : (n : ℕ) → hex_digit_ascii (n % 10) ≡ 48 + n % 10
-digit n = rw (lt-ltb (n % 10) 10 (mod-lt n (omega arith)))
-
-digits_are : (k most n : ℕ) → k < most → n < 10 ^ suc k → (0 < k → 10 ^ k ≤ n) → last_digits 10 (suc k) n ≡ digits_within most n
+-- a number has as many digits as it has, however many it may have
+room : (k m n : ℕ) → 0 < k → k ≤ m → n < 10 ^ k → digits_within m n ≡ digits_within k n
 unfolding digits_within
-digits_are k zero n h small large = absurd (omega arith)
-digits_are zero (suc most) n h small large = rw (lt-ltb n 10 (omega arith), digit n)
-digits_are (suc k) (suc most) n h small large =
-    let two = pow-suc 10 (suc k) in
-    let one = pow-suc 10 k in
-    let least = large (omega arith) in
-    let some = one-le-pow k 10 (omega arith) in
-    rw (le-ltb n 10 (omega arith), digit n)
-    (ap (◌++ ((48 + n % 10) ∷ [])) (digits_are k most (n / 10) (omega arith) (omega arith) (λ h. omega arith)))
+room zero m n some few small = absurd (omega arith)
+room (suc k) zero n some few small = absurd (omega arith)
+room (suc zero) (suc m) n some few small = rw (lt-ltb n 10 (omega arith))
+room (suc (suc k)) (suc m) n some few small =
+    ap (λ (ds : List ℕ). cond (ltb n 10) [] ds ++ (48 + n % 10) ∷ [])
+    (room (suc k) m (n / 10) (omega arith) (omega arith) (omega (arith, pow-succ' 10 (suc k))))
 
-pub decimal_is : (n r : ℕ) → r ≤ 10 → IsDigitCount 10 1 n r → last_digits 10 r n ≡ decimal n
+pub none_yet : (n : ℕ) (text : List ℕ) → length text ≡ 10 → n < 10 ^ 10 → digits_within 10 n ++ drop 10 text ≡ decimal n
 unfolding decimal
-decimal_is n zero h k = absurd (omega arith)
-decimal_is n (suc r) h k =
-    let e : suc r - 1 ≡ r = omega arith in
-    digits_are r _ n (omega arith) k.1 (λ h. rw e at (k.2 (omega arith)))
+none_yet n text e small =
+    let none : drop 10 text ≡ [] = drop_all 10 text (omega arith) in
+    rw none (append-nil _ ∙ sym (room 10 _ n (omega arith) (omega arith) small))
 
-pub few : (n r : ℕ) → n < 4294967296 → IsDigitCount 10 1 n r → r ≤ 10
-few n r h k =
-    elim (compare r 10) [
-      | inl (most, t) ↦ most
-      | inr (more, t) ↦
-          absurd (let least : 10 ^ 10 ≤ 10 ^ (r - 1) = pow-le-pow_right (omega arith) {i = 10} {j = r - 1} (omega arith) in
-          omega (arith, k.2 (omega arith)))
-    ]
+pub one_more : (i rest : ℕ) (text : List ℕ) → 0 < i → i ≤ length text → 10 ≤ rest →
+    digits_within (i - 1) (rest / 10) ++ drop (i - 1) (set text (i - 1) (48 + rest % 10)) ≡ digits_within i rest ++ drop i text
+unfolding digits_within
+one_more zero rest text some within h = absurd (omega arith)
+one_more (suc i) rest text some within h =
+    let e : suc i - 1 ≡ i = omega arith in
+    rw (e, drop-set text i _ within, le-ltb rest 10 h, append_assoc, add-one)
+
+pub last_one : (i rest : ℕ) (text : List ℕ) → 0 < i → i ≤ length text → rest < 10 →
+    drop (i - 1) (set text (i - 1) (48 + rest % 10)) ≡ digits_within i rest ++ drop i text
+unfolding digits_within
+last_one zero rest text some within h = absurd (omega arith)
+last_one (suc i) rest text some within h =
+    let e : suc i - 1 ≡ i = omega arith in
+    rw (e, drop-set text i _ within, lt-ltb rest 10 h, add-one)
+
+pub smaller : (i rest : ℕ) → 0 < i → rest < 10 ^ i → 10 ≤ rest → (0 < i - 1) × (rest / 10 < 10 ^ (i - 1))
+smaller zero rest some small h = absurd (omega arith)
+smaller (suc zero) rest some small h = absurd (omega arith)
+smaller (suc (suc i)) rest some small h =
+    let e : suc (suc i) - 1 ≡ suc i = omega arith in
+    rw e (omega arith, omega (arith, pow-succ' 10 (suc i)))
 
 -- ---- numbers with their sign
 

@@ -1,21 +1,12 @@
 -- Pieces of text in a buffer.
---   copied       a piece copied to a place
 --   put_as       the same piece by another name and limit; follows, two pieces one after the other
 -- Assumes nothing.
 use mathlib.Core.Path.{◌≡◌, ◌∙◌, ap}
 use mathlib.Core.List.{List, ◌++◌, append_assoc}
 use Prim.Native.Nat.{ℕ, ◌+◌, ◌≤◌}
 use native.Mathlib.Omega.{arith}
-use lib.ListN.{length, take}
-use lib.Seq.{length-take-le, take-length, take-append_seam, take-append-add}
+use lib.ListN.{take}
 use Rattle.text.specs.Inner.{Put}
-
-pub copied : (at n : ℕ) (out piece part rest after : List ℕ) → at ≤ length out →
-    n ≡ length piece → part ≡ take (length piece) piece ++ rest →
-    take (at + n) (take at out ++ (part ++ after)) ≡ take at out ++ piece
-copied at n out piece part rest after h e k =
-    rw (e, k, take-length, append_assoc)
-    (rw (length-take-le at out h, take-append_seam) at (take-append-add (take at out) (piece ++ (rest ++ after)) (length piece)))
 
 pub put_as : {p q : List ℕ} {m n at end : ℕ} {before after : List ℕ} → p ≡ q → end ≤ at + n →
     Put p m at before end after → Put q n at before end after

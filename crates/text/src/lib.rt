@@ -1,7 +1,8 @@
 // Text put into a lent buffer, piece after piece. `at` says how many bytes of the buffer are text already; each function puts
 // its piece after them, and gives how many are text then.
 #![tactic(auto)]
-ghost use Rattle.std.specs.Prelude.{◌≡◌, ◌+◌, ◌≤◌, nat_abs, length};
+
+ghost use Rattle.std.specs.Prelude.{◌≡◌, ◌+◌, ◌≤◌, nat_abs, length, drop};
 ghost use Rattle.text.specs.Text.{decimal as Text·decimal, signed as Text·signed};
 ghost use Rattle.text.specs.Inner.{Put};
 
@@ -10,7 +11,26 @@ pub fn words(out: &mut [u8], at: usize, piece: &[u8]) -> usize
     requires { at + length piece.now ≤ length out.old }
     ensures { Put piece.now (length piece.now) at out.old result out.new }
 {
-    at + bytes::copy(piece, &mut out[at..])
+    let end = at + piece.len();
+    out[at..end].copy_from_slice(piece);
+    end
+}
+
+// Puts a number's decimal digits at the end of the buffer, from the last on, and gives where they begin.
+fn put_digits(n: u32, text: &mut [u8; 10]) -> usize
+    ensures within { result ≤ 10 }
+    ensures digits { drop result text.new ≡ Text·decimal n }
+{
+    let mut from: usize = 10;
+    let mut rest = n;
+    loop {
+        from -= 1;
+        text[from] = b'0' + (rest % 10) as u8;
+        if rest < 10 {
+            return from;
+        }
+        rest /= 10;
+    }
 }
 
 // A number in decimal. None of 32 bits has more than ten digits.
@@ -18,9 +38,9 @@ pub fn decimal(out: &mut [u8], at: usize, n: u32) -> usize
     requires { at + 10 ≤ length out.old }
     ensures { Put (Text·decimal n) 10 at out.old result out.new }
 {
-    let mut digits = [0u8; 20];
-    let k = io::decimal(n as u64, &mut digits);
-    words(out, at, &digits[..k])
+    let mut text = [0u8; 10];
+    let from = put_digits(n, &mut text);
+    words(out, at, &text[from..])
 }
 
 fn magnitude(n: i32) -> u32

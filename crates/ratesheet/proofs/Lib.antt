@@ -1,2 +1,0 @@
--- Proofs of `ratesheet`.
-pub mod Buffers
