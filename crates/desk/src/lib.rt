@@ -1,4 +1,4 @@
-// The desk reading, for C.
+// The desk reading.
 #![tactic(auto)]
 
 ghost use Rattle.std.specs.Prelude.{◌≡◌, ◌≤◌, ◌++◌, length, take, drop};
@@ -63,8 +63,7 @@ fn copy(src: &[u8], dst: &mut [u8])
     copy_all(src, dst);
 }
 
-#[unsafe(no_mangle)]
-pub extern "C" fn desk_reading(bytes: &[u8], area: u32, scratch: &mut [u8]) -> i32
+pub fn desk_reading(bytes: &[u8], area: u32, scratch: &mut [u8]) -> i32
     ensures number { result ≡ desk_number (desk_answer bytes.now area (length scratch.old)) }
     ensures scratch { scratch.new
         ≡ filled (desk_answer bytes.now area (length scratch.old))

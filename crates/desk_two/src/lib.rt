@@ -1,4 +1,4 @@
-// The desk reading with a scratch of two points, for C.
+// The desk reading with a scratch of two points.
 #![tactic(auto)]
 
 ghost use Rattle.std.specs.Prelude.{◌≡◌, length};
@@ -7,8 +7,7 @@ ghost use Rattle.desk_answer.specs.Desk.{desk_answer_two, desk_number, segment_r
 
 use layout::{HEAD_SIZE, RECORD_SIZE};
 
-#[unsafe(no_mangle)]
-pub extern "C" fn desk_reading_two(bytes: &[u8], area: u32, scratch: &mut [u8]) -> i32
+pub fn desk_reading_two(bytes: &[u8], area: u32, scratch: &mut [u8]) -> i32
     ensures number { result ≡ desk_number (desk_answer_two bytes.now area (length scratch.old)) }
     ensures scratch { scratch.new
         ≡ filled (desk_answer_two bytes.now area (length scratch.old))
