@@ -5,7 +5,7 @@
 --   clamped_large                  a number beyond a million
 -- Assumes nothing.
 use mathlib.Core.Path.{◌≡◌, refl, sym, ◌∙◌, ap, subst}
-use mathlib.Core.Bool.{Bool, true, false, not, ◌&&◌, ◌||◌, cond, true≢false}
+use mathlib.Core.Bool.{Bool, true, false, not, ◌&&◌, true≢false}
 use mathlib.Core.Logic.{◌⊎◌, inl, inr}
 use mathlib.Core.Option.{Option, none, some}
 use Prim.Native.Nat.{ℕ, zero, suc, ◌+◌, ◌*◌, ◌/◌, ◌%◌, ◌^◌, ◌≤◌, ◌<◌, zero-le, min}
@@ -23,7 +23,7 @@ use Rattle.exact.proofs.Tests.{true_or_false, or_left, or_right}
 use Rattle.exact.proofs.Magnitude.{size_neg}
 use Rattle.binary64.specs.Value.{signed, float_value, whole_of, whole_number}
 use Rattle.binary64.specs.Inner.{present, is_whole, clamp, clamped}
-use Rattle.binary64.proofs.Values.{Whole, whole_of_value, value_of_whole, present_is, none≢some}
+use Rattle.binary64.proofs.Values.{whole_of_value, value_of_whole, present_is, none≢some}
 use Rattle.binary64.proofs.Large.{large, size_back, value_back, test_back, there_and_back, zero_exponent, not_below_zero}
 
 -- ---- in range

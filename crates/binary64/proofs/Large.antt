@@ -4,7 +4,7 @@
 --   there_and_back     x + 2^52 − 2^52 = x, as a test
 -- Assumes nothing.
 use mathlib.Core.Path.{◌≡◌, refl, sym, ◌∙◌, ap, subst}
-use mathlib.Core.Bool.{Bool, true, false, not, ◌&&◌, cond, true≢false}
+use mathlib.Core.Bool.{Bool, true, false, ◌&&◌, true≢false}
 use Prim.Native.Nat.{ℕ, zero, suc, ◌+◌, ◌-◌, ◌*◌, ◌%◌, ◌^◌, ◌≤◌, ◌<◌}
 use native.Mathlib.Nat.{zero-lt-suc, add-mul, add-sub_cancel, mul-one, mul-pos, mul_comm, mul_right_comm, mul-sub, pow-succ'}
 use native.Mathlib.Nat.{mul-le-mul_right, lt_of_mul-lt-mul_right, eq_of_mul-eq-mul_right}
@@ -18,7 +18,7 @@ use lib.Ieee.Exact.{HasValue}
 use lib.Ieee.Back.{round_whole}
 use lib.Ieee.Order.{round_mono}
 use lib.Ieee.Scale.{round_same}
-use lib.Ieee.Positive.{num, den, positive, den_pos, own_value, positive_of_value, between, values_of_le}
+use lib.Ieee.Positive.{num, den, positive, own_value, positive_of_value, between, values_of_le}
 use borrow.Author.Tests.{le-ltb, ltb-true, ltb-false}
 use Rattle.exact.proofs.Tests.{same_test}
 use Rattle.binary64.specs.Value.{float_value, whole_of, whole_number}

@@ -4,18 +4,18 @@
 --   Whole, value_of_whole      and nothing else is a whole number
 -- Assumes nothing.
 use mathlib.Core.Path.{◌≡◌, refl, sym, ◌∙◌, ap, subst}
-use mathlib.Core.Bool.{Bool, true, false, cond}
+use mathlib.Core.Bool.{Bool, true, false}
 use mathlib.Core.List.{[], ◌∷◌}
 use mathlib.Core.Logic.{◌⊎◌, inl, inr}
 use mathlib.Core.Option.{Option, none, some}
 use Prim.Native.Nat.{ℕ, ◌*◌, ◌<◌}
 use native.Mathlib.Omega.{arith}
-use lib.IntN.{ℤ, pos, neg_ℤ, nat_abs, ◌+ℤ◌, ◌-ℤ◌, ◌*ℤ◌}
+use lib.IntN.{ℤ, pos, nat_abs, ◌+ℤ◌, ◌-ℤ◌, ◌*ℤ◌}
 use lib.Dec.{T}
 use lib.Ieee.{fin, up, down}
 use lib.Ieee.Fits.{down_pos}
 use Rattle.exact.specs.Fraction.{Fraction, ◌over◌, whole, ◌≈ℚ◌, eqℚ}
-use Rattle.exact.specs.Rounding.{floor, floor_div}
+use Rattle.exact.specs.Rounding.{floor}
 use Rattle.exact.proofs.Integer.{*_one}
 use Rattle.exact.proofs.Ring.{ring, terms}
 use Rattle.exact.proofs.Order as Z

@@ -13,7 +13,7 @@ use lib.IntN.{ℤ, pos, nat_abs, ◌+ℤ◌, ◌-ℤ◌, ◌*ℤ◌, *ℤ_comm, 
 use lib.Signed.{◌<ℤ◌}
 use Rattle.exact.specs.Fraction.{Fraction, ◌over◌, whole, ◌+ℚ◌, ◌-ℚ◌, ◌*ℚ◌, ◌≈ℚ◌, ◌<ℚ◌}
 use Rattle.exact.specs.Rounding.{round}
-use Rattle.exact.specs.Inner.{Divided, sticky}
+use Rattle.exact.specs.Inner.{sticky}
 use Rattle.exact.proofs.Ring.{ring, terms}
 use Rattle.exact.proofs.Order as Z
 use Rattle.exact.proofs.Order.{signs}

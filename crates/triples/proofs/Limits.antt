@@ -4,17 +4,15 @@
 --   natural_of_limit, slope_of_limit        within the limits the two are the same number
 -- Assumes nothing.
 use mathlib.Core.Path.{◌≡◌, refl, sym, ◌∙◌, ap, subst}
-use mathlib.Core.Bool.{Bool, true, false, ◌||◌}
+use mathlib.Core.Bool.{Bool, true}
 use mathlib.Core.Logic.{◌⊎◌, inl, inr}
 use mathlib.Core.Option.{Option, none, some}
-use Prim.Native.Nat.{ℕ, suc, ◌+◌, ◌≤◌, ◌<◌, min}
+use Prim.Native.Nat.{ℕ, suc, ◌≤◌, ◌<◌, min}
 use native.Mathlib.Omega.{arith}
 use borrow.Author.Tests.{lt-ltb}
-use lib.Dec.{ltb, leb}
 use lib.IntN.{ℤ, pos, negsuc, neg_ℤ}
-use lib.Signed.{◌≤ℤ◌, lt_z}
+use lib.Signed.{◌≤ℤ◌}
 use Rattle.exact.proofs.Tests.{compare}
-use Rattle.exact.proofs.Order as Z
 use Rattle.model.specs.Check.{bad_area, bad_value, bad_slope}
 use Rattle.binary64.specs.Inner.{clamp}
 use Rattle.triples.specs.Triples.{or_negative, natural}

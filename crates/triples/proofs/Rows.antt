@@ -6,9 +6,8 @@
 --   export_of_curve     rows 1 to 6 and 14, where all are taken; export_of_14, where one is not; points_of_accepted
 --   count-of-table, points_of_table    how many, and which, in a table
 -- Assumes nothing.
-use mathlib.Core.Path.{◌≡◌, refl, sym, ◌∙◌, ap, subst}
-use mathlib.Core.Bool.{Bool, true, false, not, ◌||◌}
-use mathlib.Core.Logic.{◌⊎◌, inl, inr}
+use mathlib.Core.Path.{◌≡◌, refl, sym, ◌∙◌, ap}
+use mathlib.Core.Bool.{Bool, true, false}
 use mathlib.Core.List.{List, [], ◌∷◌, map}
 use mathlib.Core.Option.{Option, none, some}
 use Prim.Native.Nat.{ℕ, zero, suc, ◌+◌, ◌-◌, ◌≤◌, ◌<◌}
@@ -16,7 +15,6 @@ use native.Mathlib.Nat.{zero-add, add-zero}
 use native.Mathlib.Omega.{arith}
 use borrow.Author.Tests.{ltb-false, lt-ltb, le-ltb}
 use lib.Dec.{ltb, leb, ltb→lt, lt→ltb}
-use lib.IntN.{ℤ, pos, neg_ℤ}
 use lib.ListN.{length}
 use Rattle.exact.proofs.Tests.{same_test, or_left}
 use Rattle.model.specs.Answer.{Answer, gives, refused, row, ◌then◌}
@@ -24,10 +22,9 @@ use Rattle.model.specs.Points.{Point, segments, rule_of}
 use Rattle.model.specs.Check.{bad_count, bad_code, bad_area, bad_value, bad_slope, point_rows, segment_rows, curve_rows}
 use Rattle.model.specs.Inner.{Limits}
 use Rattle.model.specs.Sheet.{tabulate}
-use Rattle.model.proofs.Answers.{then_assoc}
-use Rattle.model.proofs.Rows.{Passed, passed, then_first, then_rest}
+use Rattle.model.proofs.Rows.{passed, then_first, then_rest}
 use Rattle.binary64.specs.Inner.{clamp}
-use Rattle.triples.specs.Triples.{WholePoint, or_negative, natural, triple_rows, point_from, export_rows}
+use Rattle.triples.specs.Triples.{WholePoint, natural, triple_rows, point_from, export_rows}
 use Rattle.triples.specs.Inner.{outward, clamped_point, clamped_or_origin, whole_count}
 use Rattle.triples.proofs.Limits.{area_alike, value_alike, slope_alike, natural_of_limit, slope_of_limit}
 

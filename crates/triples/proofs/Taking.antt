@@ -5,7 +5,7 @@
 --   InRange, in_range_of          what the code took, and the point of the definitions; none_taken, nothing
 --   fitting                       every figure is a binary64 number
 -- Assumes nothing.
-use mathlib.Core.Path.{◌≡◌, refl, sym, ap, subst}
+use mathlib.Core.Path.{◌≡◌, refl, sym, subst}
 use mathlib.Core.List.{List}
 use mathlib.Core.Option.{Option, none, some}
 use Prim.Native.Nat.{ℕ, ◌≤◌}

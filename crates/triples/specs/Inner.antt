@@ -8,7 +8,7 @@
 --   clamped_points  the first n, brought into range
 --   Holds           n triples are in so many bytes; Room, and there is room for them in three lists
 -- Assumes nothing.
-use Rattle.std.specs.Prelude.{ℕ, zero, suc, ◌*◌, ◌≤◌, List, [], ◌∷◌, map, T, ℤ, pos, negsuc}
+use Rattle.std.specs.Prelude.{ℕ, suc, ◌*◌, ◌≤◌, List, [], ◌∷◌, map, T, ℤ, pos, negsuc}
 use Rattle.std.proofs.Math.Option.{Option, none, some}
 use Rattle.std.specs.Float.{binary64}
 use Rattle.std.specs.Float.Ieee.{fits}

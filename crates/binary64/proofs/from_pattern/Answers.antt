@@ -1,10 +1,9 @@
 -- `binary64::from_pattern` meets its contract: the patterns of not-a-numbers are those above infinity's, whatever the sign.
 -- Assumes nothing.
 use mathlib.Core.Path.{◌≡◌, refl, sym, ◌∙◌}
-use mathlib.Core.Bool.{Bool, true, false, true≢false}
+use mathlib.Core.Bool.{true, true≢false}
 use borrow.Author.Tests.{lt-ltb, le-ltb}
-use lib.Dec.{T}
-use lib.Ieee.{Float, nan, inf, fin, binary64, is_nan, nan_bits, of_bits, div}
+use lib.Ieee.{Float, nan, inf, fin, binary64, is_nan, of_bits, div}
 use lib.Ieee.Bits.{nan_bits_is, nan_bits_above}
 use Rattle.binary64.proofs.from_pattern.Goals as goal
 

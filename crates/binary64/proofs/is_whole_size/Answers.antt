@@ -1,9 +1,7 @@
 -- `binary64::is_whole_size` meets its contract: below 2^52 by adding 2^52; from there on every finite number is whole.
 -- Assumes nothing.
-use mathlib.Core.Path.{◌≡◌, refl, sym, ◌∙◌}
-use mathlib.Core.Bool.{Bool, true, false}
 use borrow.Author.Rules.{rules}
-use lib.Ieee.{Float, nan, inf, fin, binary64, of_bits, nan_bits}
+use lib.Ieee.{of_bits, nan_bits}
 use Rattle.binary64.proofs.Large.{whole_below, whole_from}
 use Rattle.binary64.proofs.is_whole_size.Goals as goal
 

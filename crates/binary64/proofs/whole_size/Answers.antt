@@ -1,10 +1,9 @@
 -- `binary64::whole_size` meets its contract: up to a million 2^52 is added and taken away; beyond it only whether the number is
 -- whole matters.
 -- Assumes nothing.
-use mathlib.Core.Path.{◌≡◌, sym, ◌∙◌, ap}
-use mathlib.Core.Option.{some}
+use mathlib.Core.Path.{sym, ◌∙◌}
 use native.Mathlib.Omega.{arith}
-use lib.IntN.{ℤ, pos}
+use lib.IntN.{pos}
 use lib.Ieee.{of_bits}
 use mir.Syntax.{w32}
 use mir.Facts.{to_z-of_z}

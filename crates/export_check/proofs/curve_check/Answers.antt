@@ -1,14 +1,11 @@
 -- `export_check::curve_check` meets its contract, by what Check promises.
 -- Assumes nothing.
-use mathlib.Core.Path.{◌≡◌, sym, ◌∙◌, ap, subst}
+use mathlib.Core.Path.{sym, ◌∙◌, ap, subst}
 use Prim.Native.Nat.{◌^◌, ◌<◌}
 use native.Mathlib.Omega.{arith}
-use borrow.Author.Rules.{rules}
 use lib.IntN.{pos}
 use mir.Syntax.{w64}
 use mir.Facts.{to_z-of_z, to_z_pos}
-use Rattle.model.specs.Answer.{refused}
-use Rattle.model.specs.Check.{check_answer, on_lists}
 use Rattle.model.proofs.Numbered.{Numbered, in_check, in_lists}
 use Rattle.curve.specs.Calls.{checked_answer}
 use Rattle.exports.proofs.Numbers.{c_refused, c_given}

@@ -1,16 +1,12 @@
 -- `export_fill_slopes::curve_fill_slopes` meets its contract, by what the filling promises.
 -- Assumes nothing.
-use mathlib.Core.Path.{◌≡◌, sym, ◌∙◌, ap, subst}
+use mathlib.Core.Path.{sym, ◌∙◌, ap, subst}
 use Prim.Native.Nat.{◌^◌, ◌<◌}
 use native.Mathlib.Omega.{arith}
-use borrow.Author.Rules.{rules}
 use lib.IntN.{pos}
-use lib.ListN.{length}
 use mir.Syntax.{w64}
 use mir.Facts.{to_z-of_z, to_z_pos}
-use Rattle.model.specs.Answer.{refused}
 use Rattle.model.proofs.Numbered.{Numbered}
-use Rattle.harmonic.specs.Fill.{fill_answer}
 use Rattle.slopes.specs.Calls.{supplied_answer}
 use Rattle.exports.proofs.Numbers.{c_refused, c_given, in_fill}
 use Rattle.export_fill_slopes.proofs.curve_fill_slopes.Goals as goal

@@ -1,16 +1,12 @@
 -- `export_import::curve_import` meets its contract, by what Import promises.
 -- Assumes nothing.
-use mathlib.Core.Path.{◌≡◌, sym, ◌∙◌, ap, subst}
+use mathlib.Core.Path.{sym, ◌∙◌, ap, subst}
 use Prim.Native.Nat.{◌^◌, ◌<◌}
 use native.Mathlib.Omega.{arith}
-use borrow.Author.Rules.{rules}
 use lib.IntN.{pos}
-use lib.ListN.{length}
 use mir.Syntax.{w64}
 use mir.Facts.{to_z-of_z, to_z_pos}
-use Rattle.model.specs.Answer.{refused}
 use Rattle.model.proofs.Numbered.{Numbered}
-use Rattle.import.specs.Import.{import_answer}
 use Rattle.import.specs.Calls.{imported_answer}
 use Rattle.exports.proofs.Numbers.{c_refused, c_given, in_import}
 use Rattle.export_import.proofs.curve_import.Goals as goal

@@ -1,15 +1,11 @@
 -- `export_open::curve_open` meets its contract, by what Open promises.
 -- Assumes nothing.
-use mathlib.Core.Path.{◌≡◌, sym, ◌∙◌, ap, subst}
+use mathlib.Core.Path.{sym, ◌∙◌, ap, subst}
 use Prim.Native.Nat.{◌+◌, ◌*◌, ◌^◌, ◌<◌}
 use native.Mathlib.Omega.{arith}
-use borrow.Author.Rules.{rules}
-use lib.ListN.{length}
 use mir.Syntax.{w64}
 use mir.Facts.{to_z-of_z, to_z_pos}
-use Rattle.model.specs.Answer.{refused}
 use Rattle.model.proofs.Numbered.{Numbered}
-use Rattle.file.specs.Open.{open_answer}
 use Rattle.file.specs.Calls.{opened_answer}
 use Rattle.exports.specs.Exports.{c_shape_and_count}
 use Rattle.exports.proofs.Numbers.{c_refused, c_given, in_open}

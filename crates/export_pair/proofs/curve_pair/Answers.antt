@@ -4,16 +4,14 @@ use mathlib.Core.Path.{◌≡◌, refl, sym, ◌∙◌, ap, subst}
 use mathlib.Core.List.{List, [], ◌∷◌}
 use Prim.Native.Nat.{ℕ, ◌<◌, ◌≤◌}
 use native.Mathlib.Omega.{arith}
-use borrow.Author.Rules.{rules}
 use borrow.Author.Tests.{lt-ltb, le-ltb}
 use lib.IntN.{ℤ, pos}
 use lib.ListN.{length, set, drop}
 use mir.Syntax.{w32}
 use mir.Val.{to_z, of_z}
 use mir.Facts.{to_z-of_z}
-use Rattle.model.specs.Answer.{Answer, refused, row, ◌then◌}
+use Rattle.model.specs.Answer.{refused, row, ◌then◌}
 use Rattle.model.proofs.Numbered.{Numbered}
-use Rattle.pair.specs.Pair.{Factors}
 use Rattle.pair.specs.Calls.{factors_answer}
 use Rattle.exports.specs.Exports.{pair_entries, c_pair_answer, c_pair_list}
 use Rattle.exports.proofs.Numbers.{c_refused, c_given, in_pair}

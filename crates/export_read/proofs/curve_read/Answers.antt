@@ -1,15 +1,11 @@
 -- `export_read::curve_read` meets its contract, by what Read promises.
 -- Assumes nothing.
-use mathlib.Core.Path.{◌≡◌, sym, ◌∙◌, ap, subst}
+use mathlib.Core.Path.{sym, ◌∙◌, ap, subst}
 use native.Mathlib.Omega.{arith}
-use borrow.Author.Rules.{rules}
 use lib.IntN.{ℤ}
 use mir.Syntax.{w32, w64}
 use mir.Val.{SFits}
 use mir.Facts.{to_z-of_z}
-use Rattle.model.specs.Answer.{refused}
-use Rattle.model.specs.Check.{on_lists}
-use Rattle.model.specs.Read.{read_answer}
 use Rattle.model.proofs.Numbered.{Numbered, in_reading, in_lists}
 use Rattle.curve.specs.Calls.{reading_answer}
 use Rattle.exports.proofs.Numbers.{c_refused, c_given}

@@ -1,16 +1,11 @@
 -- `export_sheet::curve_sheet` meets its contract, by what Sheet promises.
 -- Assumes nothing.
-use mathlib.Core.Path.{◌≡◌, sym, ◌∙◌, ap, subst}
+use mathlib.Core.Path.{sym, ◌∙◌, ap, subst}
 use Prim.Native.Nat.{◌^◌, ◌<◌}
 use native.Mathlib.Omega.{arith}
-use borrow.Author.Rules.{rules}
 use lib.IntN.{pos}
-use lib.ListN.{length}
 use mir.Syntax.{w64}
 use mir.Facts.{to_z-of_z, to_z_pos}
-use Rattle.model.specs.Answer.{refused}
-use Rattle.model.specs.Check.{on_lists}
-use Rattle.model.specs.Sheet.{sheet_answer}
 use Rattle.model.proofs.Numbered.{Numbered, in_sheet, in_lists}
 use Rattle.curve.specs.Calls.{filled_answer}
 use Rattle.exports.proofs.Numbers.{c_refused, c_given}

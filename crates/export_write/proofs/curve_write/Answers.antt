@@ -1,17 +1,12 @@
 -- `export_write::curve_write` meets its contract, by what Write promises.
 -- Assumes nothing.
-use mathlib.Core.Path.{◌≡◌, sym, ◌∙◌, ap, subst}
+use mathlib.Core.Path.{sym, ◌∙◌, ap, subst}
 use Prim.Native.Nat.{◌^◌, ◌<◌}
 use native.Mathlib.Omega.{arith}
-use borrow.Author.Rules.{rules}
 use lib.IntN.{pos}
-use lib.ListN.{length}
 use mir.Syntax.{w64}
 use mir.Facts.{to_z-of_z, to_z_pos}
-use Rattle.model.specs.Answer.{refused}
-use Rattle.model.specs.Check.{on_lists}
 use Rattle.model.proofs.Numbered.{Numbered}
-use Rattle.file.specs.Write.{write_answer}
 use Rattle.file.specs.Calls.{written_answer}
 use Rattle.exports.proofs.Numbers.{c_refused, c_given, in_write}
 use Rattle.export_write.proofs.curve_write.Goals as goal

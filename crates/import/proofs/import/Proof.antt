@@ -1,8 +1,8 @@
 -- `import::import` meets its contract: rows 13 and 11, 1 and 2, a fault of the points, or the points written. A refusal leaves
 -- the lists as they were.
 -- Assumes nothing.
-use mathlib.Core.Path.{◌≡◌, refl, sym, ◌∙◌, ap}
-use mathlib.Core.Bool.{true, false}
+use mathlib.Core.Path.{◌≡◌, refl, sym, ◌∙◌}
+use mathlib.Core.Bool.{false}
 use mathlib.Core.List.{List, map, ◌++◌}
 use Prim.Native.Nat.{ℕ, ◌≤◌}
 use native.Mathlib.Omega.{arith}
@@ -10,12 +10,11 @@ use borrow.Author.Rules.{rules}
 use borrow.Author.Tests.{eq-eqb, ne_eqb}
 use lib.ListN.{length, drop, length-map}
 use Rattle.model.specs.Answer.{Answer, gives, refused, row, ◌then◌, filled}
-use Rattle.model.specs.Points.{Point, points_least, points_most}
-use Rattle.model.specs.Check.{bad_count, bad_code}
+use Rattle.model.specs.Points.{Point, points_most}
+use Rattle.model.specs.Check.{bad_count}
 use Rattle.model.proofs.Filling.{tabulate_length}
 use Rattle.model.proofs.Rows.{count_of_row_1}
 use Rattle.rows.proofs.Faults.{a_fault, no_fault}
-use Rattle.file.specs.Open.{short_list}
 use Rattle.file.proofs.Room.{room_in_lists}
 use Rattle.triples.specs.Triples.{bad_length, triple_at, taken, count, exported, point_from, export_rows}
 use Rattle.import.specs.Import.{points_of, import_answer}

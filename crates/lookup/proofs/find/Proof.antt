@@ -3,7 +3,6 @@
 use Prim.Native.Nat.{suc, ◌-◌}
 use native.Mathlib.Numerals.{add-one}
 use native.Mathlib.Omega.{arith}
-use borrow.Author.Tests.{not-true, not-false}
 use lib.ListN.{length}
 use Rattle.model.specs.Inner.{Reached}
 use Rattle.lookup.proofs.find.Statement.{statement}

@@ -1,12 +1,10 @@
 -- `segment::large_factor` meets its contract.
 -- Assumes nothing.
 use mathlib.Core.Path.{◌≡◌, sym, ◌∙◌}
-use Prim.Native.Nat.{ℕ}
 use lib.IntN.{pos}
 use mir.Syntax.{w32}
 use mir.Val.{to_z, of_z}
 use mir.Facts.{to_z-of_z}
-use Rattle.point.specs.Inner.{segment_of}
 use Rattle.point.proofs.Figures.{slope_read}
 use Rattle.segment.specs.Inner.{SumInput, hundredths_of}
 use Rattle.segment.proofs.Sizes.{sum_size}

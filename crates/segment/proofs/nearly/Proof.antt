@@ -12,9 +12,8 @@ use lib.IntN.{ℤ, pos, negsuc, nat_abs, ◌+ℤ◌, ◌-ℤ◌, ◌*ℤ◌, *�
 use mir.Syntax.{w32}
 use mir.Val.{SFits, to_z, of_z}
 use mir.Facts.{to_z-of_z}
-use Rattle.exact.specs.Fraction.{Fraction, Proper, ◌over◌, whole, ◌+ℚ◌, ◌-ℚ◌, ◌<ℚ◌}
-use Rattle.exact.specs.Rounding.{floor_div, half, HalfEven}
-use Rattle.exact.proofs.Ring.{ring, terms}
+use Rattle.exact.specs.Fraction.{Fraction, ◌over◌, ◌+ℚ◌, ◌-ℚ◌}
+use Rattle.exact.specs.Rounding.{floor_div, HalfEven}
 use Rattle.exact.proofs.Order as Z
 use Rattle.exact.proofs.Field.{field, ratios, ◌∷ℚ◌}
 use Rattle.exact.proofs.Fractions as Q
@@ -23,7 +22,7 @@ use Rattle.exact.proofs.Floor.{floor_div_quotient}
 use Rattle.exact.proofs.Magnitude.{size_+, size_*, sfits_of_size}
 use Rattle.exact.proofs.Rounding.{proper_half, round_rounding}
 use Rattle.exact.proofs.Mixed.{half_even_strict}
-use Rattle.segment.specs.Inner.{About, HalfWay}
+use Rattle.segment.specs.Inner.{About}
 use Rattle.segment.proofs.nearly.Statement.{statement}
 use Rattle.segment.proofs.nearly.Tie as tie
 

@@ -1,9 +1,8 @@
 -- `segment::plain_factor` meets its contract.
 -- Assumes nothing.
 use mir.Syntax.{w32}
-use mathlib.Core.Path.{◌≡◌, ◌∙◌}
+use mathlib.Core.Path.{◌∙◌}
 use mir.Facts.{to_z-of_z}
-use Rattle.model.specs.Points.{rising, convex, shape_of}
 use Rattle.model.proofs.Codes.{rising_of_1, convex_of_not_1}
 use Rattle.segment.proofs.plain_factor.Statement.{statement}
 use Rattle.segment.proofs.plain_factor.Tie as tie

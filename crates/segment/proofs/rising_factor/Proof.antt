@@ -1,7 +1,7 @@
 -- `segment::rising_factor` meets its contract.
 -- Assumes nothing.
 use mir.Syntax.{w32}
-use mathlib.Core.Path.{◌≡◌, sym, ◌∙◌}
+use mathlib.Core.Path.{sym, ◌∙◌}
 use borrow.Author.Rules.{rules}
 use mir.Facts.{to_z-of_z}
 use Rattle.exact.proofs.Signed.{cast-of-natural}

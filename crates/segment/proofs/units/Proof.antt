@@ -9,7 +9,7 @@ use borrow.Author.Rules.{rules}
 use lib.Dec.{eqb, lit<}
 use lib.IntN.{ℤ, pos, nat_abs, ◌+ℤ◌, ◌-ℤ◌, ◌*ℤ◌}
 use mir.Syntax.{w32}
-use mir.Val.{SFits, to_z, of_z}
+use mir.Val.{SFits}
 use mir.Facts.{to_z-of_z}
 use Rattle.exact.specs.Fraction.{◌over◌}
 use Rattle.exact.specs.Rounding.{round}

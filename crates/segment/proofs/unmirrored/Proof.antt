@@ -1,6 +1,5 @@
 -- `segment::unmirrored` meets its contract.
 -- Assumes nothing.
-use native.Mathlib.Omega.{arith}
 use borrow.Author.Rules.{rules}
 use borrow.Author.Tests.{lt-ltb, le-ltb}
 use Rattle.segment.proofs.unmirrored.Statement.{statement}

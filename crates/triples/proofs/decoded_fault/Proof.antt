@@ -1,6 +1,6 @@
 -- `triples::decoded_fault` meets its contract: the lists hold the points before the first with row 14, brought into range.
 -- Assumes nothing.
-use mathlib.Core.Path.{◌≡◌, refl, sym, ◌∙◌, ap}
+use mathlib.Core.Path.{◌≡◌, sym, ◌∙◌, ap}
 use mathlib.Core.Bool.{false}
 use mathlib.Core.List.{List, map}
 use mathlib.Core.Option.{Option, none}
@@ -8,17 +8,17 @@ use Prim.Native.Nat.{ℕ, ◌<◌}
 use native.Mathlib.Omega.{arith}
 use borrow.Author.Rules.{rules}
 use lib.ListN.{length, take, length-map}
-use Rattle.model.specs.Answer.{Answer, gives, refused, ◌then◌}
+use Rattle.model.specs.Answer.{Answer, refused, ◌then◌}
 use Rattle.model.specs.Points.{Point, points}
-use Rattle.model.specs.Check.{bad_count, point_rows, curve_rows}
+use Rattle.model.specs.Check.{bad_count, point_rows}
 use Rattle.model.proofs.Answers.{on_lists_of_is}
-use Rattle.model.proofs.Filling.{tabulate_length, field_length, field_first, field_count}
+use Rattle.model.proofs.Filling.{tabulate_length, field_first, field_count}
 use Rattle.model.proofs.Lists.{points_of_fields}
 use Rattle.model.specs.Inner.{fault_answer}
 use Rattle.model.proofs.Rows.{then_rest, refused≢gives, count_of_row_1}
 use Rattle.rows.specs.Inner.{Few}
 use Rattle.rows.proofs.Faults.{no_fault}
-use Rattle.triples.specs.Triples.{WholePoint, triple_at, taken, export_rows}
+use Rattle.triples.specs.Triples.{WholePoint, triple_at, taken}
 use Rattle.triples.specs.Inner.{clamped_or_origin, clamped_points, first_exported, first_points, whole_count}
 use Rattle.triples.proofs.Rows.{whole_points, whole_length, points_of_table, at_most_all}
 use Rattle.triples.proofs.Rows.{export_of_curve, export_of_14, points_of_accepted}

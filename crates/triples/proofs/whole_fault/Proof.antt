@@ -1,11 +1,11 @@
 -- `triples::whole_fault` meets its contract: a fault of these points, or row 14 at the next.
 -- Assumes nothing.
-use mathlib.Core.Path.{◌≡◌, sym, ◌∙◌, ap}
+use mathlib.Core.Path.{sym, ◌∙◌}
 use native.Mathlib.Omega.{arith}
 use borrow.Author.Rules.{rules}
 use lib.ListN.{length}
-use Rattle.model.specs.Answer.{refused, ◌then◌}
-use Rattle.rows.proofs.Faults.{no_fault, a_fault, passes, fault_then}
+use Rattle.model.specs.Answer.{refused}
+use Rattle.rows.proofs.Faults.{a_fault, passes, fault_then}
 use Rattle.triples.proofs.whole_fault.Statement.{statement}
 use Rattle.triples.proofs.whole_fault.Tie as tie
 
