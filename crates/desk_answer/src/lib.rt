@@ -4,7 +4,7 @@
 ghost use Rattle.std.specs.Prelude.{◌≡◌, ◌≤◌, pos, neg_ℤ, ◌-ℤ◌, length};
 ghost use Rattle.model.specs.Answer.{gives};
 ghost use Rattle.model.specs.Read.{reading};
-ghost use Rattle.model.specs.Inner.{table_most, segment_answer};
+ghost use Rattle.model.specs.Inner.{number_most, segment_answer};
 ghost use Rattle.layout.specs.Layout.{points_of};
 ghost use Rattle.layout.specs.Head.{head_rows};
 ghost use Rattle.desk_answer.specs.Inner.{Fits, copied, room as room_of, answer_for, FoundBy};
@@ -20,7 +20,7 @@ pub struct Found {
 }
 
 fn refused(number: u32) -> Found
-    requires { number ≤ table_most }
+    requires { number ≤ number_most }
     ensures { result.number ≡ neg_ℤ (pos 1000000) -ℤ pos number }
 {
     let below = -1000000 - (number as i32);

@@ -84,7 +84,8 @@ pub floor_div_nested : (x y : ℤ) {w m : ℕ} →
     0 < m →
     floor_div (x +ℤ floor_div y w) m ≡ floor_div (x *ℤ pos w +ℤ y) (w * m)
 floor_div_nested x y hw hm =
-    sym (floor_div_unique (mul-pos hw hm) (quotient_nested x (floor_div_quotient y hw) (floor_div_quotient (x +ℤ floor_div y _) hm)))
+    sym (floor_div_unique (mul-pos hw hm) (quotient_nested x (floor_div_quotient y hw)
+    (floor_div_quotient (x +ℤ floor_div y _) hm)))
 
 floor_by_1 : (z : ℤ) → floor_div z 1 ≡ z
 unfolding floor_div

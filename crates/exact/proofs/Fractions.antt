@@ -3,7 +3,7 @@
 --   propers, positivity    what `search` goes by for `Proper`, and for all three
 --   ≤_by, <_by             the certificate: y − x is, by the field tactic, a c that is not negative (above 0)
 --   ≈-.., ≤-.., <-..       the same number, and the order
---   nonneg_of_≤            from 0 ≤ x; ≡-of-keeps-order, what keeps order takes equal fractions to equal numbers
+--   nonneg_of_≤            from 0 ≤ x; ≡_of_keeps_order, what keeps order takes equal fractions to equal numbers
 --   ≤_of_leℚ, ..           from the tests to the comparisons, and back
 -- Assumes nothing.
 use mathlib.Core.Path.{◌≡◌, refl, sym, subst}

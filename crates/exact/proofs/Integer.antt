@@ -5,7 +5,7 @@
 --   *_one, one_*       a 1 = a, 1 a = a
 --   neg_*              (−a) b = −(a b)
 --   *_assoc            (a b) c = a (b c)
---   ≡-of-difference    a − b = 0 → a = b
+--   ≡_of_difference    a − b = 0 → a = b
 -- Assumes nothing.
 use mathlib.Core.Path.{◌≡◌, sym, ◌∙◌, ◌≡⟨◌⟩◌, ◌∎}
 use Prim.Native.Nat.{zero}

@@ -134,7 +134,8 @@ take_replicate (suc m) (suc n) x h = ap (x ∷◌) (take_replicate m n x (omega 
 zeros_suit : (values : List ℕ) (n : ℕ) → length values ≡ n → Suits values (replicate n (pos 0))
 zeros_suit values n e =
     let size = length-replicate n (pos 0) in
-    let zero_at : (i : ℕ) → i < n → get_or (replicate n (pos 0)) i (pos 0) ≡ pos 0 = λ i h. get_or-replicate n i (pos 0) (pos 0) h in
+    let zero_at : (i : ℕ) → i < n → get_or (replicate n (pos 0)) i (pos 0) ≡ pos 0 = λ i h. get_or-replicate n i (pos 0)
+    (pos 0) h in
     record {
       least = λ i h. rw (zero_at i (omega arith)) (Z.nonneg_pos 0);
       most = λ i h. rw (zero_at i (omega arith)) (Z.nonneg_pos slope_most);

@@ -38,7 +38,8 @@ NothingIsLost =
     import_into bytes code areas values slopes ≡ gives n →
     (i : ℕ) → i < n →
     Figures (triple_at bytes i) (pos (get_or (areas_after bytes code areas values slopes) i 0))
-    (pos (get_or (values_after bytes code areas values slopes) i 0)) (get_or (slopes_after bytes code areas values slopes) i (pos 0))
+    (pos (get_or (values_after bytes code areas values slopes) i 0))
+    (get_or (slopes_after bytes code areas values slopes) i (pos 0))
 
 -- what is taken is an accepted curve, and the count is that of its points
 pub record AcceptedCurve (ps : List Point) (code n : ℕ) : Type 0 where

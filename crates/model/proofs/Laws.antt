@@ -1,5 +1,5 @@
 -- The laws of an accepted curve, from the relations across it. Those that documents 01 and 02 (item 4) state of exact values:
--- segments-meet, convex-chords, concave-chords (specs/Laws.antt). Of factors, for the demands over every call:
+-- segments_meet, convex_chords, concave_chords (specs/Laws.antt). Of factors, for the demands over every call:
 --   factors_are_near      at most half a unit off; where it is exactly half a unit, even
 --   factors_are_ranged    from least_factor to most_factor of the curve's rule; factors_are_bounded, from −200,000 to 400,000
 --   rated_points_read     at a rated point the factor is the point's value

@@ -1,7 +1,7 @@
 -- A segment and its mirror: what holds of a shape's curve on mirrored points holds of the rule, taken from 200,000.
 --   value_most_even                  200,000 is even, so that the rounding of 200,000 less a value is 200,000 less the value's
 --   mirror_limits, mirror_neighbours, mirror_good   mirrored points keep their limits; mirrored, a segment of a mirrored rule has
---                                                   the rule's shape (mirror-inside)
+--                                                   the rule's shape (mirror_inside)
 --   curve_proper                     the exact value of a rule has a denominator above 0
 --   taken_back                       the value of a mirrored point, taken from 200,000, is the point's
 --   curve_left, curve_right          it is the point's value at both ends

@@ -1,6 +1,6 @@
--- The exact values of a segment are between least-factor and most-factor of its rule. A rising curve is between its ends, at most
--- value-most. A convex curve is not above its larger end, and not below its left tangent: that falls by at most slope-most / 100
--- for each of at most gap-most tenths. Their mirrors are 200,000 less that.
+-- The exact values of a segment are between least_factor and most_factor of its rule. A rising curve is between its ends, at most
+-- value_most. A convex curve is not above its larger end, and not below its left tangent: that falls by at most slope_most / 100
+-- for each of at most gap_most tenths. Their mirrors are 200,000 less that.
 --   Between, value_range       a fraction between two whole numbers; the exact value
 --   Within, reading_range      a whole number, so; its rounding, by any rounding that keeps order and whole numbers
 --   least_of_all, most_of_all  from −200,000 to 400,000, whichever rule

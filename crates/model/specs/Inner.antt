@@ -10,7 +10,8 @@
 --   Strides, LastOf    a search for that index in steps, and what it finds
 --   Filling            a list that is filled from the front
 -- Assumes nothing.
-use Rattle.std.specs.Prelude.{◌≡◌, not, false, List, map, ◌++◌, ◌⊎◌, ℕ, suc, ◌+◌, ◌≤◌, ◌<◌, T, eqb, ltb, pos, neg_ℤ, length, get_or, drop, ◌≤ℤ◌}
+use Rattle.std.specs.Prelude.{◌≡◌, not, false, List, map, ◌++◌, ◌⊎◌, ℕ, suc, ◌+◌}
+use Rattle.std.specs.Prelude.{◌≤◌, ◌<◌, T, eqb, ltb, pos, neg_ℤ, length, get_or, drop, ◌≤ℤ◌}
 use Rattle.model.specs.Answer.{Answer, gives, row, ◌then◌}
 use Rattle.model.specs.Points.{points_most, area_most, gap_most, value_most, slope_most, Point, Segment, Rule}
 pub use Rattle.model.specs.Points.{between, origin, point_at, segment_at}

@@ -2,7 +2,8 @@
 --   bad_area_of_large    an area above the largest is bad, whatever is before it
 --   wrapped_gap_test     one test of the wrapped difference is both tests of the gap
 -- Assumes nothing.
-use Rattle.std.proofs.Common.{◌≡◌, ℕ, ◌+◌, ◌%◌, ◌^◌, ◌<◌, ◌≤◌, true, ◌||◌, ltb, leb, inl, inr, arith, le→leb, ltb→lt, lt→ltb, leb→le, lt-ltb, le-leb}
+use Rattle.std.proofs.Common.{◌≡◌, ℕ, ◌+◌, ◌%◌, ◌^◌, ◌<◌, ◌≤◌, true, ◌||◌, ltb}
+use Rattle.std.proofs.Common.{leb, inl, inr, arith, le→leb, ltb→lt, lt→ltb, leb→le, lt-ltb, le-leb}
 use mathlib.Core.Option.{Option, none, some}
 use Rattle.exact.proofs.Tests.{same_test, compare}
 use Rattle.model.specs.Points.{area_most, gap_most}

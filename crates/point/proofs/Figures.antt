@@ -1,5 +1,5 @@
--- The figures of a point within its limits, in 32 bits: slope-size, slope-fits, slope-read, value_read; its slope with the sign
--- changed, negated_fits, negated-is.
+-- The figures of a point within its limits, in 32 bits: slope_size, slope_fits, slope_read, value_read; its slope with the sign
+-- changed, negated_fits, negated_is.
 -- Assumes nothing.
 use Rattle.std.proofs.Common.{◌≡◌, ◌≤◌, pos, ◌-ℤ◌, neg_ℤ, nat_abs, arith, to_z-of_z, w32, SFits, to_z, of_z}
 use lib.IntN.{+ℤ_idl}

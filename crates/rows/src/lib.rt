@@ -89,7 +89,16 @@ fn all_pass(areas: &[u32], values: &[u32], slopes: &[i32], shape: u32) -> bool
 }
 
 // Rows 3, 4 and 5: the first bad point.
-pub fn points_fault(areas: &[u32], values: &[u32], slopes: &[i32]) -> Fault
+fn points_fault(areas: &[u32], values: &[u32], slopes: &[i32]) -> Fault
+    requires { Lengths (length areas.now) (length values.now) (length slopes.now) }
+    ensures { fault_answer result.number result.place
+        ≡ point_rows 0 none (points areas.now values.now slopes.now) }
+{
+    bad_point(areas, values, slopes)
+}
+
+// The same of any number of points up to 64.
+pub fn bad_point(areas: &[u32], values: &[u32], slopes: &[i32]) -> Fault
     requires { Few (length areas.now) (length values.now) (length slopes.now) }
     ensures { fault_answer result.number result.place
         ≡ point_rows 0 none (points areas.now values.now slopes.now) }

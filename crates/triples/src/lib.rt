@@ -126,7 +126,7 @@ fn whole_fault(areas: &[u32], values: &[u32], slopes: &[i32]) -> Fault
         ≡ (point_rows 0 none (points areas.now values.now slopes.now)
         then refused 14 (length areas.now)) }
 {
-    let fault = rows::points_fault(areas, values, slopes);
+    let fault = rows::bad_point(areas, values, slopes);
     if fault.number != 0 {
         return fault;
     }

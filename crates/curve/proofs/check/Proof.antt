@@ -17,7 +17,8 @@ use Rattle.curve.proofs.check.Tie as tie
 returns : tie.Need-returns-then-fault-ne0
 unfolding check_answer checked_answer
 returns c =
-    sym (curve_refused _ _ _ _ _ _ c.before.before.curve_fault-fault.ensures (λ ps. gives (length (segments ps))) c.if-fault-ne0.true)
+    sym (curve_refused _ _ _ _ _ _ c.before.before.curve_fault-fault.ensures
+    (λ ps. gives (length (segments ps))) c.if-fault-ne0.true)
 
 abbrev entry : tie.Else-fault-ne0 → tie.Start
 entry c = c.before.before.before.before.before

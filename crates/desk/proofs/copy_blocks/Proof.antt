@@ -24,5 +24,6 @@ loop-again c = next c.before.before.before.before.before.loop-at.invariant 48 (o
 pub copy_blocks_spec : {M : Type 1} → statement M
 copy_blocks_spec =
     tie.close
-    (tie.spec invariant-loop decreases-loop (λ c. none_copied c.before.before.requires) (λ c. omega arith) copy-48-requires (λ c. omega arith)
+    (tie.spec invariant-loop decreases-loop (λ c. none_copied c.before.before.requires) (λ c. omega arith) copy-48-requires
+    (λ c. omega arith)
     (λ c. omega arith) loop-again (λ c. length_is c.before.loop-at.invariant) (λ c. c.before.loop-at.invariant))

@@ -37,4 +37,5 @@ put_word_spec =
     tie.close
     (tie.spec (search rules) (search rules) (search rules) (search rules) (λ c. rw length-set (omega (arith, c.requires)))
     (search rules) (search rules) (λ c. rw (length-set, length-set) (omega (arith, c.requires)))
-    (search rules) (search rules) (λ c. rw (length-set, length-set, length-set) (omega (arith, c.requires))) (search rules) returns)
+    (search rules) (search rules) (λ c. rw (length-set, length-set, length-set) (omega (arith, c.requires)))
+    (search rules) returns)

@@ -40,7 +40,8 @@ decreases-loop areas values slopes shape k start step index out₀ p q x i₀ ou
 abbrev entry : tie.After-shared_slice_known-2-1 invariant-loop decreases-loop → tie.Start invariant-loop decreases-loop
 entry c = c.before.before
 
-next_index : (c : tie.After-shared_slice_known-2-1 invariant-loop decreases-loop) → (entry c).args.k + 1 < length (entry c).args.areas.now
+next_index : (c : tie.After-shared_slice_known-2-1 invariant-loop decreases-loop) → (entry c).args.k + 1 < length
+    (entry c).args.areas.now
 next_index c = rw add-one (entry c).requires.taken.reached.inner
 
 point-at-requires : tie.Need-point_at-p-requires invariant-loop decreases-loop
@@ -173,5 +174,6 @@ fill_segment_spec =
     (tie.spec invariant-loop decreases-loop point-at-requires add_point_at point-at-requires-2 unmirrored-requires loop-holds
     area-of-requires takes-requires (λ c. c.before.before.before.before.loop-i.invariant.size) returns facing-factor-requires
     (λ c. omega (arith, i_below (at_turn c), (start (at_points (at_turn c))).well_formed)) (λ c. (at_turn c).loop-i-test.true)
-    (λ c. omega (arith, i_below (at_turn c), (start (at_points (at_turn c))).well_formed)) (λ c. omega (arith, i_below (at_turn c)))
+    (λ c. omega (arith, i_below (at_turn c), (start (at_points (at_turn c))).well_formed))
+    (λ c. omega (arith, i_below (at_turn c)))
     loop-again (λ c. c.before.loop-i.invariant.size) returns-2)

@@ -13,12 +13,14 @@ use Rattle.export_check.proofs.curve_check.Goals as goal
 
 pub refusal-requires : goal.refusal-requires
 unfolding checked_answer
-refusal-requires c = (subst Numbered (sym c.check.ensures ∙ ap checked_answer c.in-Refused.is) (in_lists _ _ _ _ (in_check _ _))).most
+refusal-requires c = (subst Numbered (sym c.check.ensures ∙ ap checked_answer c.in-Refused.is)
+    (in_lists _ _ _ _ (in_check _ _))).most
 
 pub returns-in-Refused : goal.returns-in-Refused
 unfolding checked_answer
 returns-in-Refused c =
-    rw (to_z-of_z (record { sfits = c.refusal.type_inv }), c.refusal.ensures) (c_refused pos (sym c.check.ensures ∙ ap checked_answer c.in-Refused.is))
+    rw (to_z-of_z (record { sfits = c.refusal.type_inv }), c.refusal.ensures)
+    (c_refused pos (sym c.check.ensures ∙ ap checked_answer c.in-Refused.is))
 
 pub returns-in-Segments : goal.returns-in-Segments
 unfolding checked_answer

@@ -18,7 +18,8 @@ refusal-requires c = (subst Numbered (sym c.fill_slopes.ensures.answer ∙ ap su
 pub returns-in-Refused-clause-answer : goal.returns-in-Refused-clause-answer
 unfolding supplied_answer
 returns-in-Refused-clause-answer c =
-    rw (to_z-of_z (record { sfits = c.refusal.type_inv }), c.refusal.ensures) (c_refused pos (sym c.fill_slopes.ensures.answer ∙ ap supplied_answer c.in-Refused.is))
+    rw (to_z-of_z (record { sfits = c.refusal.type_inv }), c.refusal.ensures)
+    (c_refused pos (sym c.fill_slopes.ensures.answer ∙ ap supplied_answer c.in-Refused.is))
 
 pub returns-in-Points-clause-answer : goal.returns-in-Points-clause-answer
 unfolding supplied_answer

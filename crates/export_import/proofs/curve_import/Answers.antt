@@ -6,19 +6,22 @@ use native.Mathlib.Omega.{arith}
 use lib.IntN.{pos}
 use mir.Syntax.{w64}
 use mir.Facts.{to_z-of_z, to_z_pos}
-use Rattle.model.proofs.Numbered.{Numbered}
+use Rattle.model.proofs.Numbered.{NumberedTo}
+use Rattle.model.specs.Inner.{table_most}
 use Rattle.import.specs.Calls.{imported_answer}
 use Rattle.exports.proofs.Numbers.{c_refused, c_given, in_import}
 use Rattle.export_import.proofs.curve_import.Goals as goal
 
-pub refusal-requires : goal.refusal-requires
+pub import_refusal-requires : goal.import_refusal-requires
 unfolding imported_answer
-refusal-requires c = (subst Numbered (sym c.«import».ensures.answer ∙ ap imported_answer c.in-Refused.is) (in_import _ _ _ _ _)).most
+import_refusal-requires c = (subst (NumberedTo table_most) (sym c.«import».ensures.answer ∙ ap imported_answer c.in-Refused.is)
+    (in_import _ _ _ _ _)).most
 
 pub returns-in-Refused-clause-answer : goal.returns-in-Refused-clause-answer
 unfolding imported_answer
 returns-in-Refused-clause-answer c =
-    rw (to_z-of_z (record { sfits = c.refusal.type_inv }), c.refusal.ensures) (c_refused pos (sym c.«import».ensures.answer ∙ ap imported_answer c.in-Refused.is))
+    rw (to_z-of_z (record { sfits = c.import_refusal.type_inv }), c.import_refusal.ensures)
+    (c_refused pos (sym c.«import».ensures.answer ∙ ap imported_answer c.in-Refused.is))
 
 pub returns-in-Points-clause-answer : goal.returns-in-Points-clause-answer
 unfolding imported_answer

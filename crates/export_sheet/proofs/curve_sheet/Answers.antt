@@ -13,12 +13,14 @@ use Rattle.export_sheet.proofs.curve_sheet.Goals as goal
 
 pub refusal-requires : goal.refusal-requires
 unfolding filled_answer
-refusal-requires c = (subst Numbered (sym c.sheet.ensures.answer ∙ ap filled_answer c.in-Refused.is) (in_lists _ _ _ _ (in_sheet _ _ _ _ _))).most
+refusal-requires c = (subst Numbered (sym c.sheet.ensures.answer ∙ ap filled_answer c.in-Refused.is)
+    (in_lists _ _ _ _ (in_sheet _ _ _ _ _))).most
 
 pub returns-in-Refused-clause-answer : goal.returns-in-Refused-clause-answer
 unfolding filled_answer
 returns-in-Refused-clause-answer c =
-    rw (to_z-of_z (record { sfits = c.refusal.type_inv }), c.refusal.ensures) (c_refused pos (sym c.sheet.ensures.answer ∙ ap filled_answer c.in-Refused.is))
+    rw (to_z-of_z (record { sfits = c.refusal.type_inv }), c.refusal.ensures)
+    (c_refused pos (sym c.sheet.ensures.answer ∙ ap filled_answer c.in-Refused.is))
 
 pub returns-in-Entries-clause-answer : goal.returns-in-Entries-clause-answer
 unfolding filled_answer

@@ -18,7 +18,8 @@ refusal-requires c = (subst Numbered (sym c.write.ensures.answer ∙ ap written_
 pub returns-in-Refused-clause-answer : goal.returns-in-Refused-clause-answer
 unfolding written_answer
 returns-in-Refused-clause-answer c =
-    rw (to_z-of_z (record { sfits = c.refusal.type_inv }), c.refusal.ensures) (c_refused pos (sym c.write.ensures.answer ∙ ap written_answer c.in-Refused.is))
+    rw (to_z-of_z (record { sfits = c.refusal.type_inv }), c.refusal.ensures)
+    (c_refused pos (sym c.write.ensures.answer ∙ ap written_answer c.in-Refused.is))
 
 pub returns-in-Length-clause-answer : goal.returns-in-Length-clause-answer
 unfolding written_answer

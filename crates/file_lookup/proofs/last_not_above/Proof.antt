@@ -36,6 +36,7 @@ loop-again c =
 pub last_not_above_spec : {M : Type 1} → statement M
 last_not_above_spec =
     tie.close
-    (tie.spec invariant-loop decreases-loop (λ c. omega arith) (λ c. looking_starts c.before.requires.2 c.before.requires.1.before)
+    (tie.spec invariant-loop decreases-loop (λ c. omega arith)
+    (λ c. looking_starts c.before.requires.2 c.before.requires.1.before)
     (λ c κs. record { file = omega arith }) (λ c. omega arith) (λ c. omega arith) loop-again
     (λ c. looked c.before.loop-i.invariant c.loop-i-test.false))

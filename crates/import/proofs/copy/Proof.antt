@@ -21,7 +21,8 @@ record Copying (a v : List ℕ) (s : List ℤ) (n : ℕ) (areas₀ values₀ : L
   pub slopes_are : Copied s slopes₀ slopes i
 
 abbrev invariant-loop : tie.invariant-loop-i
-invariant-loop a v s n areas₀ values₀ slopes₀ i₀ areas values slopes i = Copying a v s n areas₀ values₀ slopes₀ areas values slopes i
+invariant-loop a v s n areas₀ values₀ slopes₀ i₀ areas values slopes i =
+    Copying a v s n areas₀ values₀ slopes₀ areas values slopes i
 
 abbrev decreases-loop : tie.decreases-loop-i
 decreases-loop a v s n areas₀ values₀ slopes₀ i₀ areas values slopes i = n - i

@@ -52,7 +52,8 @@ factor-requires c κs = rw (segment_is c) (inside (start c).requires.1)
 returns : tie.Need-returns
 returns c =
     let b = c.before in
-    to_z-of_z {w = w32} (record { sfits = c.factor.type_inv }) ∙ c.factor.ensures ∙ rw (segment_is b) (sym (reading_is (start b).requires.1))
+    to_z-of_z {w = w32} (record { sfits = c.factor.type_inv }) ∙ c.factor.ensures ∙ rw (segment_is b)
+    (sym (reading_is (start b).requires.1))
 
 pub factor_at_spec : {M : Type 1} → statement M
 factor_at_spec = tie.close (tie.spec point-at-requires add_point_at point-at-requires-2 factor-requires returns)

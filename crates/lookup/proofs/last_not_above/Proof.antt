@@ -28,6 +28,7 @@ loop-again c =
 pub last_not_above_spec : {M : Type 1} → statement M
 last_not_above_spec =
     tie.close
-    (tie.spec invariant-loop decreases-loop (λ c. omega arith) (λ c. looking_starts c.requires.1 c.requires.0.before) (search rules)
+    (tie.spec invariant-loop decreases-loop (λ c. omega arith) (λ c. looking_starts c.requires.1 c.requires.0.before)
+    (search rules)
     (search rules) (λ c. omega arith) (λ c. omega arith) (λ c. omega arith) loop-again
     (λ c. looked c.before.loop-i.invariant c.loop-i-test.false))

@@ -19,7 +19,8 @@ unfolding bad_area earlier
 returns-3 c =
     let b = c.before in
     rw (b.if-first.false, le-ltb _ _ b.before.if-area-gt-AREA_MOST.false)
-    (wrapped_gap_test b.before.before.requires b.before.if-area-gt-AREA_MOST.false c.wrapping_sub_u32.type_inv c.wrapping_sub_u32.ensures)
+    (wrapped_gap_test b.before.before.requires b.before.if-area-gt-AREA_MOST.false c.wrapping_sub_u32.type_inv
+    c.wrapping_sub_u32.ensures)
 
 pub bad_area_spec : {M : Type 1} → statement M
 bad_area_spec =

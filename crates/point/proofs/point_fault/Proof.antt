@@ -38,7 +38,12 @@ returns-3 : tie.Need-returns-then-p-lt-SLOPE_LEAST
 unfolding fault_answer point_rows row ◌then◌ bad_value bad_slope
 returns-3 c i =
     let b = value_passed c.before in
-    rw (area_passed b.before.before, le-ltb _ _ b.if-p-gt-VALUE_MOST.false, rw (slope_back c.before) at c.if-p-lt-SLOPE_LEAST.true)
+    rw (
+      area_passed b.before.before,
+      le-ltb _ _ b.if-p-gt-VALUE_MOST.false,
+      rw
+          (slope_back c.before) at c.if-p-lt-SLOPE_LEAST.true,
+    )
 
 -- and the first test of row 5
 abbrev not_low : tie.After-struct_told-2-1 → tie.Else-p-lt-SLOPE_LEAST
@@ -59,7 +64,12 @@ returns-5 c i =
     let l = not_low c.before in
     let b = value_passed l.before in
     let f = slope_back l.before in
-    rw (area_passed b.before.before, le-ltb _ _ b.if-p-gt-VALUE_MOST.false, rw f at l.if-p-lt-SLOPE_LEAST.false, rw f at c.if-p-gt-SLOPE_MOST.false)
+    rw (
+      area_passed b.before.before,
+      le-ltb _ _ b.if-p-gt-VALUE_MOST.false,
+      rw f at l.if-p-lt-SLOPE_LEAST.false,
+      rw f at c.if-p-gt-SLOPE_MOST.false,
+    )
 
 pub point_fault_spec : {M : Type 1} → statement M
 point_fault_spec = tie.close (tie.spec (search rules) returns returns-2 returns-3 returns-4 returns-5)

@@ -79,7 +79,13 @@ loop-again c =
     let inner : i + 1 < n s = omega arith in
     let outer : i < n s = omega arith in
     let yes = c.before.follows.ensures c.if-not-follows.false in
-    let f = rw (e.before.record_at-in-loop-left.ensures, e.record_at-in-loop-left-2.ensures, point s i outer, point s (i + 1) inner) at yes in
+    let f = rw (
+      e.before.record_at-in-loop-left.ensures,
+      e.record_at-in-loop-left-2.ensures,
+      point s i outer,
+      point s
+          (i + 1) inner,
+    ) at yes in
     record {
       inner = omega arith;
       last_is = k.last_is;
@@ -97,6 +103,7 @@ returns-3 c = λ e.
 pub all_pass_spec : {M : Type 1} → statement M
 all_pass_spec =
     tie.close
-    (tie.spec invariant-loop decreases-loop record-at-requires (search rules) (λ c e. absurd (true≢false (sym e))) (λ c. omega arith)
+    (tie.spec invariant-loop decreases-loop record-at-requires (search rules) (λ c e. absurd (true≢false (sym e)))
+    (λ c. omega arith)
     loop-holds (λ c. omega arith) (λ c κs. record { file = omega arith }) (λ c κs. record { file = omega arith })
     follows-requires (λ c e. absurd (true≢false (sym e))) (λ c. omega arith) loop-again returns-3)

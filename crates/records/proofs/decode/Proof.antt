@@ -22,7 +22,8 @@ record Decoding (bytes : List ℕ) (n : ℕ) (areas₀ values₀ : List ℕ) (sl
   pub slopes_are : Filling (λ i. (record_at bytes i).slope) i slopes₀ slopes
 
 abbrev invariant-loop : tie.invariant-loop-i
-invariant-loop bytes n areas₀ values₀ slopes₀ i₀ areas values slopes i = Decoding bytes n areas₀ values₀ slopes₀ areas values slopes i
+invariant-loop bytes n areas₀ values₀ slopes₀ i₀ areas values slopes i =
+    Decoding bytes n areas₀ values₀ slopes₀ areas values slopes i
 
 abbrev decreases-loop : tie.decreases-loop-i
 decreases-loop bytes n areas₀ values₀ slopes₀ i₀ areas values slopes i = n - i
@@ -62,7 +63,8 @@ returns c =
 pub decode_spec : {M : Type 1} → statement M
 decode_spec =
     tie.close
-    (tie.spec invariant-loop decreases-loop loop-holds (λ c κs. record { file = omega arith }) (λ c. omega arith) (λ c. omega arith)
+    (tie.spec invariant-loop decreases-loop loop-holds (λ c κs. record { file = omega arith }) (λ c. omega arith)
+    (λ c. omega arith)
     (λ c. omega arith) (λ c. omega arith) (λ c. omega arith) (λ c. omega arith) (λ c. omega arith) (λ c. omega arith)
     loop-again (λ c. c.before.loop-i.invariant.areas_are.size) (λ c. c.before.loop-i.invariant.values_are.size)
     (λ c. c.before.loop-i.invariant.slopes_are.size) returns)

@@ -69,6 +69,7 @@ returns-3 c = λ e.
 pub all_pass_spec : {M : Type 1} → statement M
 all_pass_spec =
     tie.close
-    (tie.spec invariant-loop decreases-loop point-at-requires (search rules) (λ c e. absurd (true≢false (sym e))) (λ c. omega arith)
+    (tie.spec invariant-loop decreases-loop point-at-requires (search rules) (λ c e. absurd (true≢false (sym e)))
+    (λ c. omega arith)
     loop-holds (λ c. omega arith) point-at-requires-2
     follows-requires (λ c e. absurd (true≢false (sym e))) (λ c. omega arith) loop-again returns-3)

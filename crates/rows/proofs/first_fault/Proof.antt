@@ -78,7 +78,7 @@ module _ (c : tie.Else-bad_code) where
       rw (after_lengths alike_at, count_passed c.before.before, sym c.before.bad_code.ensures ∙ c.if-bad_code.false)
 
 points-fault-requires : tie.Need-points_fault-fault-requires
-points-fault-requires c κs = let k = lengths c in record { alike = k.alike; most = k.most }
+points-fault-requires c κs = lengths c
 
 -- the points' fault is known
 after_points : (c : tie.After-points_fault-fault) →

@@ -27,7 +27,10 @@ returns c =
     let s = c.before in
     let none = c.if-w-eq0.true in
     record {
-      divided = λ some. record { product = ap (λ (n : ℕ). n * n) none ∙ omega arith; rest = denominator_positive s.requires some };
+      divided = λ some. record {
+        product = ap (λ (n : ℕ). n * n) none ∙ omega arith;
+        rest = denominator_positive s.requires some;
+      };
       none = λ _. (refl, refl);
     }
 

@@ -67,10 +67,12 @@ plain-factor-requires c κs =
     let e = c.requires.0 in
     rw (e.code_is, e.segment_is) (inside c.args.code _ c.args.area c.requires.1 (turned c.before.before) refl)
 
-reading_read : (c : tie.After-plain_factor-f) → to_z w32 (of_z w32 c.plain_factor-f.result) ≡ read c.before.before.before (turned c.before.before.before)
+reading_read : (c : tie.After-plain_factor-f) → to_z w32 (of_z w32 c.plain_factor-f.result) ≡ read c.before.before.before
+    (turned c.before.before.before)
 reading_read c =
     let e = c.before.requires.0 in
-    to_z-of_z {w = w32} (record { sfits = c.plain_factor-f.type_inv }) ∙ (rw (e.code_is, e.segment_is) at c.plain_factor-f.ensures)
+    to_z-of_z {w = w32} (record { sfits = c.plain_factor-f.type_inv }) ∙
+    (rw (e.code_is, e.segment_is) at c.plain_factor-f.ensures)
 
 sub_result : tie.Need-overflow_sub-result
 sub_result c = rw (reading_read c.before) (result_fits c.before.before.before.before)

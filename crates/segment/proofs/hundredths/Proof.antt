@@ -27,7 +27,8 @@ module _ (c : tie.Start) where
 
   first_read : first ≡ pos (100 * c.args.left) +ℤ c.args.slope *ℤ pos c.args.t
   first_read =
-      rw (slope_read, distance_read c.requires, to_z-of_z (product_fits c.requires), from_read c.requires) (to_z-of_z (from_fits c.requires))
+      rw (slope_read, distance_read c.requires, to_z-of_z (product_fits c.requires), from_read c.requires)
+      (to_z-of_z (from_fits c.requires))
 
   sum_read : (let a = c.args in
       first +ℤ to_z w64 a.above ≡ hundredths_of (pos a.left) a.slope a.t a.above)

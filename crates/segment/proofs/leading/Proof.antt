@@ -17,7 +17,8 @@ module _ (c : tie.Start) where
   w_size = omega (arith, w_most c.requires.0, w_most_size c.requires.0)
 
   result_size : w / 32 * (w / 32) / ((c.args.a * c.args.u + w) * c.args.h / 1024 + 1) + 1 ≤ 2 * over_most + 1
-  result_size = around_most c.requires.0 (leads c.requires.0 c.requires.1) (omega (arith, large_positive c.requires.0 c.requires.1))
+  result_size = around_most c.requires.0 (leads c.requires.0 c.requires.1)
+      (omega (arith, large_positive c.requires.0 c.requires.1))
 
 mul_result : tie.Need-overflow_mul-result
 mul_result c = let n = w_size c in record { fits = product_size 32 32 (omega arith) (omega arith) }

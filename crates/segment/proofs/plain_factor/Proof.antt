@@ -9,11 +9,13 @@ use Rattle.segment.proofs.plain_factor.Tie as tie
 
 returns : tie.Need-returns-then-code-eq1
 returns c =
-    rw (rising_of_1 c.before.if-code-eq1.true) (to_z-of_z {w = w32} (record { sfits = c.rising_factor.type_inv }) ∙ c.rising_factor.ensures)
+    rw (rising_of_1 c.before.if-code-eq1.true) (to_z-of_z {w = w32} (record { sfits = c.rising_factor.type_inv })
+    ∙ c.rising_factor.ensures)
 
 returns-2 : tie.Need-returns
 returns-2 c =
-    rw (convex_of_not_1 c.before.if-code-eq1.false) (to_z-of_z {w = w32} (record { sfits = c.convex_factor.type_inv }) ∙ c.convex_factor.ensures)
+    rw (convex_of_not_1 c.before.if-code-eq1.false) (to_z-of_z {w = w32} (record { sfits = c.convex_factor.type_inv })
+    ∙ c.convex_factor.ensures)
 
 pub plain_factor_spec : {M : Type 1} → statement M
 plain_factor_spec =

@@ -132,6 +132,7 @@ returns-2 c =
 pub rising_spec : {M : Type 1} → statement M
 rising_spec =
     tie.close
-    (tie.spec (search rules) (search rules) (omega (arith, left_size)) (λ c κs. left_weights c.requires) (omega (arith, right_size))
+    (tie.spec (search rules) (search rules) (omega (arith, left_size)) (λ c κs. left_weights c.requires)
+    (omega (arith, right_size))
     (λ c κs. right_weights c.before.requires) (omega (arith, whole_size)) mul_n add_n (search rules) add_k cast-k (search rules)
     returns sub_nearest (search rules) nearest-requires returns-2)

@@ -71,6 +71,7 @@ pub all_rise_spec : {M : Type 1} → statement M
 all_rise_spec =
     tie.close
     (tie.spec invariant-loop decreases-loop (λ c κs. (c.before.before.requires, omega (arith, c.before.before.requires.least)))
-    (search rules) (λ c e. absurd (true≢false (sym e))) (λ c. omega (arith, (start c).requires.least)) loop-holds (λ c. omega arith)
+    (search rules) (λ c e. absurd (true≢false (sym e))) (λ c. omega (arith, (start c).requires.least)) loop-holds
+    (λ c. omega arith)
     (λ c κs. ((start c.before.before).requires, omega arith)) follows-requires
     (λ c e. absurd (true≢false (sym e))) (λ c. omega arith) loop-again returns-3)

@@ -177,11 +177,13 @@ module _ (c : tie.After-last_figure-last invariant-loop decreases-loop) where
 returns-3 : tie.Need-returns-then-last-gt-FIGURE_MOST invariant-loop decreases-loop
 returns-3 c =
     let l = c.before in (
-      each_first _ 5 _ _ (filled_to_end l).gentle (λ h. steep_at _ _ _ _ l.last_figure-last.ensures c.if-last-gt-FIGURE_MOST.true),
+      each_first _ 5 _ _ (filled_to_end l).gentle (λ h. steep_at _ _ _ _ l.last_figure-last.ensures
+          c.if-last-gt-FIGURE_MOST.true),
       λ h. absurd (omega (arith, (end_inside l).0)),
     )
 
-all_filled : (c : tie.Else-last-gt-FIGURE_MOST invariant-loop decreases-loop) → (let k = (started c.before).args in let l = c.before in
+all_filled : (c : tie.Else-last-gt-FIGURE_MOST invariant-loop decreases-loop) →
+    (let k = (started c.before).args in let l = c.before in
     Filled k.areas.now k.values.now k.out.now
     (set (at_loop l).loop-i.out (end l) (to_z w32 (of_z w32 (pos l.last_figure-last.result)))) (length k.areas.now))
 all_filled c =
@@ -199,7 +201,8 @@ pub fill_figures_spec : {M : Type 1} → statement M
 fill_figures_spec =
     tie.close
     (tie.spec invariant-loop decreases-loop (λ c κs. c.before.before.requires.0) returns (λ c. record { sfits = omega arith })
-    (λ c. omega (arith, (entry c).requires.0.counted.least, (entry c).requires.1)) (λ c. omega (arith, (entry c).requires.0.counted.least))
+    (λ c. omega (arith, (entry c).requires.0.counted.least, (entry c).requires.1))
+    (λ c. omega (arith, (entry c).requires.0.counted.least))
     (λ c κs. ((entry c).requires.0, omega (arith, (entry c).requires.0.counted.least))) loop-holds
     (λ c κs. ((entry (in_entry c.before)).requires.0, omega arith))
     (λ c κs. record { one = c.before.before.loop-i.invariant.before.sized; other = c.chord_at-right.ensures.sized })

@@ -1,4 +1,4 @@
--- `rows::points_fault` meets its contract. The loop's invariant: the rows from point i on decide as those from the first.
+-- `rows::bad_point` meets its contract. The loop's invariant: the rows from point i on decide as those from the first.
 -- Assumes nothing.
 use mathlib.Core.Path.{◌≡◌, refl, sym, ◌∙◌, ap}
 use mathlib.Core.List.{List, [], ◌∷◌}
@@ -16,9 +16,9 @@ use Rattle.model.proofs.Lists.{fields_of, fields_length}
 use Rattle.point.specs.Inner.{earlier, point_of}
 use Rattle.rows.proofs.Faults.{no_fault, passes, fault_then, limits_of_no_fault}
 use Rattle.rows.proofs.Faults.{points_from, earlier_of_next, point_turn, point_end}
-use Rattle.rows.proofs.points_fault.Statement.{statement}
-use Rattle.rows.proofs.points_fault.Tie as tie
-use Rattle.rows.proofs.points_fault.Lts.{else-loop-i-test, then-loop-i-test+then-number-ne0}
+use Rattle.rows.proofs.bad_point.Statement.{statement}
+use Rattle.rows.proofs.bad_point.Tie as tie
+use Rattle.rows.proofs.bad_point.Lts.{else-loop-i-test, then-loop-i-test+then-number-ne0}
 
 abbrev invariant-loop : tie.invariant-loop-i
 invariant-loop areas values slopes number₀ before₀ i₀ number before i =
@@ -63,7 +63,8 @@ loop-again : tie.Need-loop-i-preserved invariant-loop decreases-loop
 loop-again c =
     let a = c.before in
     let i = (loop-of a).loop-i.i in
-    let limits = limits_of_no_fault i _ (point_of a.before.point_at-p.result) (a.point_fault-number.ensures i) c.if-number-ne0.false in
+    let limits = limits_of_no_fault i _ (point_of a.before.point_at-p.result)
+    (a.point_fault-number.ensures i) c.if-number-ne0.false in
     let next = turn (loop-of a) _ (point_of a.before.point_at-p.result) c.loop-i-test.true a.before.point_at-p.ensures
     a.point_fault-number.ensures in
     (omega arith, c.if-number-ne0.false, limits.area, rw (earlier_of_next _ i) (sym (passes i _ c.if-number-ne0.false) ∙ next))
@@ -82,8 +83,8 @@ returns c =
           ∙ turn l _ (point_of w.point_at-p.result) w.loop-i-test.true w.point_at-p.ensures w.point_fault-number.ensures
     ]
 
-pub points_fault_spec : {M : Type 1} → statement M
-points_fault_spec =
+pub bad_point_spec : {M : Type 1} → statement M
+bad_point_spec =
     tie.close
     (tie.spec invariant-loop decreases-loop loop-holds point-at-requires (search rules) (λ c. omega arith) (λ c. omega arith)
     loop-again (λ c. omega arith) returns)

@@ -1,4 +1,4 @@
--- `exports::refusal` meets its contract.
+-- `exports::import_refusal` meets its contract.
 -- Assumes nothing.
 use mathlib.Core.Path.{◌≡◌, sym, subst}
 use mathlib.Core.List.{[], ◌∷◌}
@@ -12,8 +12,8 @@ use mir.Facts.{to_z-of_z, to_z_pos}
 use Rattle.exact.proofs.Ring.{ring, terms}
 use Rattle.exact.proofs.Magnitude.{sfits_of_size, size--}
 use Rattle.exports.specs.Exports.{word}
-use Rattle.exports.proofs.refusal.Statement.{statement}
-use Rattle.exports.proofs.refusal.Tie as tie
+use Rattle.exports.proofs.import_refusal.Statement.{statement}
+use Rattle.exports.proofs.import_refusal.Tie as tie
 
 module _ (c : tie.Start) where
   abbrev size : ℕ
@@ -34,5 +34,5 @@ sub_result c = subst (λ z. SFits w64 (pos 0 -ℤ z)) (sym (size_is c)) (result_
 returns : tie.Need-returns
 returns c = rw (size_is c, to_z-of_z (result_fits c)) (ring (pos (size c) ∷ []) (search terms depth 20 fits 9999) tt)
 
-pub refusal_spec : {M : Type 1} → statement M
-refusal_spec = tie.close (tie.spec (search rules) (λ c. omega (arith, small c)) (search rules) sub_result returns)
+pub import_refusal_spec : {M : Type 1} → statement M
+import_refusal_spec = tie.close (tie.spec (search rules) (λ c. omega (arith, small c)) (search rules) sub_result returns)
