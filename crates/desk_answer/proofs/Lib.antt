@@ -2,4 +2,3 @@
 pub mod Apart
 pub mod Same
 pub mod Opened
-pub mod Blocks
