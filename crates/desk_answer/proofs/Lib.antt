@@ -1,4 +1,4 @@
--- Theorems of the desk readings' answers; what an answer says; laws of a copy.
+-- Theorems of the desk readings' answers; what an answer says.
 pub mod Apart
 pub mod Same
 pub mod Opened
