@@ -22,7 +22,7 @@ module _ (bytes : List ℕ) where
   abbrev pub byte : ℕ → ℕ
   byte at = get_or bytes at 0
 
-  -- little_endian: the number of n bytes from an offset on
+  -- little-endian: the number of n bytes from an offset on
   unfoldable pub little_endian : ℕ → ℕ → ℕ
   little_endian at zero = 0
   little_endian at (suc n) = byte at + 256 * little_endian (suc at) n

@@ -1,5 +1,5 @@
 -- Whole numbers of any size against the limits, and the same numbers brought into range.
---   outward-clamp     an unsigned figure: as it is, or beyond every limit
+--   capped            an unsigned figure: as it is, or beyond every limit
 --   area_alike, value_alike, slope_alike    rows 3, 4 and 5 say of both the same
 --   natural_of_limit, slope_of_limit        within the limits the two are the same number
 -- Assumes nothing.

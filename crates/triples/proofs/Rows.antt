@@ -4,7 +4,7 @@
 --   points_of_passed    where they refuse nothing, these are the export's points
 --   at_most_all         as many are taken as there are, or fewer
 --   export_of_curve     rows 1 to 6 and 14, where all are taken; export_of_14, where one is not; points_of_accepted
---   count-of-table, points_of_table    how many, and which, in a table
+--   points_of_table     which points a table has
 -- Assumes nothing.
 use mathlib.Core.Path.{◌≡◌, refl, sym, ◌∙◌, ap}
 use mathlib.Core.Bool.{Bool, true, false}

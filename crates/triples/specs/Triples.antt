@@ -26,7 +26,7 @@ pub record Triple : Type 0 where
   pub slope : Float
 
 module _ (bytes : List ℕ) where
-  -- a figure: binary64, little_endian
+  -- a figure: binary64, little-endian
   unfoldable pub figure_at : ℕ → Float
   figure_at at = of_bits binary64 (little_endian bytes at 8)
 
