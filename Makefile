@@ -23,7 +23,7 @@ proved := crates.txt $(shell find crates -name out -prune -o -name '*.rt' -print
 # $(call prove,COMMAND): what it prints is shown if it fails.
 define prove
 $(call need,rt,it comes with the Rattle kit)
-@echo "make: proving what $@ is made of; from nothing this takes about two minutes" >&2
+@echo "make: proving what $@ is made of; from nothing this takes some ten minutes" >&2
 @mkdir -p target; { $(1); } >target/make.log 2>&1 || { cat target/make.log >&2; exit 1; }
 endef
 
