@@ -9,19 +9,21 @@ INSTALL ?= install
 version := $(shell cat VERSION)
 major := $(firstword $(subst ., ,$(version)))
 lib = target/lib/libfactor_curves
-exported = desk desk_two export_check export_read export_pair export_sheet export_open export_write export_fill_slopes
+exported = desk_c desk_two_c export_check export_read export_pair export_sheet export_open export_write export_fill_slopes
 objects = target/lib/objects
+# Code for every x86-64 processor; without this rt's is for x86-64-v2.
+cpu = --cpu x86-64
 program = target/bin/ratesheet
 pages = ratesheet factor-curves
 to = $(DESTDIR)$(PREFIX)
 
-# All that a proof may depend on.
-proved := crates.txt $(shell find crates -name '*.rt' -o -name '*.antt')
+# All that a proof may depend on. What rt makes stands in folders out/.
+proved := crates.txt $(shell find crates -name out -prune -o -name '*.rt' -print -o -name '*.antt' -print)
 
 # $(call prove,COMMAND): what it prints is shown if it fails.
 define prove
 $(call need,rt,it comes with the Rattle kit)
-@echo "make: proving what $@ is made of; from nothing this takes about two minutes" >&2
+@echo "make: proving what $@ is made of; from nothing this takes some ten minutes" >&2
 @mkdir -p target; { $(1); } >target/make.log 2>&1 || { cat target/make.log >&2; exit 1; }
 endef
 
@@ -41,9 +43,9 @@ lib: $(lib).a $(lib).so ## target/lib/libfactor_curves.a and .so, for C and Pyth
 
 $(lib).a: $(proved) c/refusal_words.c include/factor_curves.h
 	$(call need-cc)
-	$(call prove,for name in $(exported); do rt staticlib $$name || exit 1; done)
+	$(call prove,for name in $(exported); do (cd crates/$$name && rt lib $(cpu)) || exit 1; done)
 	@rm -rf $(objects) $@ && mkdir -p $(objects)
-	@cd $(objects) && for name in $(exported); do $(AR) x ../../staticlib/lib$$name.a || exit 1; done
+	@cd $(objects) && for name in $(exported); do $(AR) x ../../../crates/$$name/out/lib$$name.a || exit 1; done
 	@$(CC) $(CFLAGS) -fPIC -Iinclude -c c/refusal_words.c -o $(objects)/refusal_words.o
 	@$(AR) rcs $@ $(objects)/*.o
 
@@ -55,11 +57,10 @@ $(lib).so: $(lib).a
 program: $(program) ## target/bin/ratesheet, the sheet of a curve file (man/ratesheet.1)
 	@echo $(program)
 
-# rt links a program only when it proves it anew, so a program that is gone takes its stamp along.
+# rt links a program only to run it.
 $(program): $(proved)
-	@[ -x $@ ] || rm -f target/stamp/ratesheet
-	$(call prove,rt check ratesheet)
-	@test -x $@ && touch $@
+	$(call prove,cd crates/ratesheet && rt run $(cpu) -- --version)
+	@mkdir -p $(dir $@) && cp crates/ratesheet/out/ratesheet $@
 
 quote: lib ## target/quote, the sample quoting desk: target/quote samples/document-01.trf 550
 	$(call need-cc)
@@ -79,7 +80,7 @@ samples: lib ## INTO/NAME.trf from each samples/NAME.txt of an accepted curve; I
 	  -o $(INTO)/$$(basename $$text .txt).trf || exit 1; done
 	@echo $(texts:samples/%.txt=$(INTO)/%.trf)
 
-test: ## the whole gate: outside tests, proofs, must-fail edits, programs (.ci/run); it removes target/lib
+test: ## the whole gate: outside tests, proofs, must-fail edits, programs (.ci/run)
 	$(call need,rt,it comes with the Rattle kit)
 	$(call need-cc)
 	$(call need-python3)
@@ -111,8 +112,8 @@ version: ## write the number in VERSION into the header, the Python package and 
 	sed -i 's|^\(__version__ = "\)[^"]*|\1$(version)|' python/factor_curves/__init__.py
 	sed -i 's|\(b"ratesheet \)[^\\]*|\1$(version)|' crates/ratesheet/src/main.rt
 
-clean: ## remove target/, with all that was built
-	rm -rf target
+clean: ## remove target/ and the folders out/ of rt, with all that was built
+	rm -rf target crates/*/out
 
 help: ## this list
 	@awk -F ':.*## ' '/^[a-z]+:.*## / { printf "make %-9s %s\n", $$1, $$2 }' Makefile

@@ -249,7 +249,8 @@ class CannotWrite(unittest.TestCase):
         os.close(reader)
         got = run(data=EXAMPLE, stdout=writer)
         os.close(writer)
-        self.assertEqual(got.returncode, -signal.SIGPIPE)
+        # The program starts with SIGPIPE ignored and ends by itself, with the status that a shell shows for it.
+        self.assertEqual(got.returncode, 128 + signal.SIGPIPE)
 
     def pipe_with_room(self, room):
         """A pipe that never waits and takes no more than `room` bytes: its two ends, and what it holds."""
