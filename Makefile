@@ -52,7 +52,7 @@ $(lib).a: $(proved) c/refusal_words.c include/factor_curves.h
 $(lib).so: $(lib).a
 	@$(CC) $(CFLAGS) -shared -Wl,-soname,libfactor_curves.so.$(major) -Wl,-z,noexecstack -o $@ \
 	  -Wl,--whole-archive $(lib).a -Wl,--no-whole-archive
-	@ln -sf libfactor_curves.so $@.$(major)
+	@cp $@ $@.$(major)
 
 program: $(program) ## target/bin/ratesheet, the sheet of a curve file (man/ratesheet.1)
 	@echo $(program)
