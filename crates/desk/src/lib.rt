@@ -70,7 +70,8 @@ pub fn desk_reading(bytes: &[u8], area: u32, scratch: &mut [u8]) -> i32
         (point_records bytes.now) scratch.old }
 {
     let found = desk_answer::find(bytes, area, scratch.len(), false);
-    if found.number != 0 {
+    let refused = found.number != 0;
+    if refused {
         return found.number;
     }
     copy(&bytes[HEAD_SIZE..], scratch);

@@ -14,7 +14,8 @@ pub fn desk_reading_two(bytes: &[u8], area: u32, scratch: &mut [u8]) -> i32
         (segment_records bytes.now area) scratch.old }
 {
     let found = desk_answer::find(bytes, area, scratch.len(), true);
-    if found.number != 0 {
+    let refused = found.number != 0;
+    if refused {
         return found.number;
     }
     let at = HEAD_SIZE + RECORD_SIZE * found.index;

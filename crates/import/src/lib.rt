@@ -59,7 +59,8 @@ pub fn import(
     ensures slopes { slopes.new
         ≡ filled (imported_answer result) (map (λ p. p.slope) (points_of bytes.now)) slopes.old }
 {
-    if bytes.len() % TRIPLE_SIZE != 0 {
+    let cut_short = bytes.len() % TRIPLE_SIZE != 0;
+    if cut_short {
         return Imported::Refused(13, 0);
     }
     let n = bytes.len() / TRIPLE_SIZE;

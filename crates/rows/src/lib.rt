@@ -171,7 +171,8 @@ pub fn first_fault(areas: &[u32], values: &[u32], slopes: &[i32], shape: u32) ->
         };
     }
     let fault = points_fault(areas, values, slopes);
-    if fault.number != 0 {
+    let faulty = fault.number != 0;
+    if faulty {
         return fault;
     }
     segments_fault(areas, values, slopes, shape)

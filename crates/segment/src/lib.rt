@@ -38,7 +38,8 @@ fn rising(t: u64, u: u64, left: u64, rise: u64, d0: u64, d1: u64) -> i32
     let b = a + part(u, t, g, h * d1);
     let n = a * rise + b / 2;
     let k = (left + n / b) as i32;
-    if n % b != 0 {
+    let rest_left = n % b != 0;
+    if rest_left {
         return k;
     }
     exact::nearest(k - 1, b - b / 2, b)
@@ -165,7 +166,8 @@ fn nearly(n: i32) -> Near
 fn digit(r: u64) -> u64
     ensures { result ≡ sticky r }
 {
-    if r == 0 {
+    let none_left = r == 0;
+    if none_left {
         return 0;
     }
     1

@@ -127,7 +127,8 @@ fn whole_fault(areas: &[u32], values: &[u32], slopes: &[i32]) -> Fault
         then refused 14 (length areas.now)) }
 {
     let fault = rows::bad_point(areas, values, slopes);
-    if fault.number != 0 {
+    let faulty = fault.number != 0;
+    if faulty {
         return fault;
     }
     Fault {

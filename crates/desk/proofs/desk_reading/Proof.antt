@@ -18,15 +18,15 @@ use Rattle.desk.proofs.Records.{body, body_is, body_fits}
 use Rattle.desk.proofs.desk_reading.Statement.{statement}
 use Rattle.desk.proofs.desk_reading.Tie as tie
 
-returns : tie.Need-returns-then-found-ne0
+returns : tie.Need-returns-then-refused
 unfolding room
 returns c =
     let f = c.before.before.before.before.find-found.ensures in
-    let u = untouched _ _ _ f (record { sfits = c.struct_told-then-found-ne0-1.given.0.1 }) c.before.if-found-ne0.true in
+    let u = untouched _ _ _ f (record { sfits = c.struct_told-then-refused-1.given.0.1 }) c.before.if-refused.true in
     (u.number, sym (u.list _ _))
 
 -- the answer is a factor
-module _ (c : tie.Else-found-ne0) where
+module _ (c : tie.Else-refused) where
   abbrev start : tie.Start
   start = c.before.before.before.before.before.before
 
@@ -39,7 +39,7 @@ module _ (c : tie.Else-found-ne0) where
   factor : Opened (record_size * count bytes) bytes start.args.area (length start.args.scratch.now)
       found.find-found.result
   unfolding room
-  factor = opened _ _ _ _ _ found.find-found.ensures (record { sfits = c.before.struct_told-1.given.0.1 }) c.if-found-ne0.false
+  factor = opened _ _ _ _ _ found.find-found.ensures (record { sfits = c.before.struct_told-1.given.0.1 }) c.if-refused.false
 
   written : filled (desk_answer bytes start.args.area (length start.args.scratch.now)) (point_records bytes)
       start.args.scratch.now

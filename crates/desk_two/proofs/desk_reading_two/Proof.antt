@@ -18,15 +18,15 @@ use Rattle.desk_answer.proofs.Opened.{untouched, Opened, opened}
 use Rattle.desk_two.proofs.desk_reading_two.Statement.{statement}
 use Rattle.desk_two.proofs.desk_reading_two.Tie as tie
 
-returns : tie.Need-returns-then-found-ne0
+returns : tie.Need-returns-then-refused
 unfolding room
 returns c =
     let f = c.before.before.before.before.find-found.ensures in
-    let u = untouched _ _ _ f (record { sfits = c.struct_told-then-found-ne0-1.given.0.1 }) c.before.if-found-ne0.true in
+    let u = untouched _ _ _ f (record { sfits = c.struct_told-then-refused-1.given.0.1 }) c.before.if-refused.true in
     (u.number, sym (u.list _ _))
 
 -- the answer is a factor
-module _ (c : tie.Else-found-ne0) where
+module _ (c : tie.Else-refused) where
   abbrev start : tie.Start
   start = c.before.before.before.before.before.before
 
@@ -38,7 +38,7 @@ module _ (c : tie.Else-found-ne0) where
 
   factor : Opened (2 * record_size) bytes start.args.area (length start.args.scratch.now) found.find-found.result
   unfolding room
-  factor = opened _ _ _ _ _ found.find-found.ensures (record { sfits = c.before.struct_told-1.given.0.1 }) c.if-found-ne0.false
+  factor = opened _ _ _ _ _ found.find-found.ensures (record { sfits = c.before.struct_told-1.given.0.1 }) c.if-refused.false
 
   records_size : length (segment_records bytes start.args.area) ≡ 2 * record_size
   unfolding segment_records

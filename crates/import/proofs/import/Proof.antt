@@ -22,11 +22,11 @@ use Rattle.import.specs.Calls.{imported_answer}
 use Rattle.import.proofs.import.Statement.{statement}
 use Rattle.import.proofs.import.Tie as tie
 
-returns : tie.Need-returns-then-bytes-ne0
+returns : tie.Need-returns-then-cut_short
 unfolding import_answer filled imported_answer bad_length row ◌then◌
-returns c = (rw (ne_eqb _ 0 c.if-bytes-ne0.true) refl, (refl, (refl, refl)))
+returns c = (rw (ne_eqb _ 0 c.if-cut_short.true) refl, (refl, (refl, refl)))
 
-module _ (c : tie.Else-bytes-ne0) where
+module _ (c : tie.Else-cut_short) where
   abbrev start : tie.Start
   start = c.before.before.before.before
 
@@ -43,7 +43,7 @@ module _ (c : tie.Else-bytes-ne0) where
 
   even_length : bad_length bytes ≡ false
   unfolding bad_length
-  even_length = rw (eq-eqb _ 0 c.if-bytes-ne0.false) refl
+  even_length = rw (eq-eqb _ 0 c.if-cut_short.false) refl
 
 returns-2 : tie.Need-returns-then-short_list
 unfolding import_answer filled imported_answer row ◌then◌
@@ -53,7 +53,7 @@ returns-2 c =
     (rw (even_length e, short) refl, (refl, (refl, refl)))
 
 module _ (c : tie.Else-short_list) where
-  abbrev even : tie.Else-bytes-ne0
+  abbrev even : tie.Else-cut_short
   even = c.before.before
 
   -- the points decide

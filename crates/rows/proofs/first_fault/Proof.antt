@@ -88,20 +88,20 @@ after_points : (c : tie.After-points_fault-fault) →
     then segment_rows 0 (rule_of (start f).args.shape) (segments (ps f))))
 after_points c = rw (after_code c.before, sym c.points_fault-fault.ensures)
 
-returns-4 : tie.Need-returns-then-fault-ne0
+returns-4 : tie.Need-returns-then-faulty
 returns-4 c =
     let p = c.before.before in
-    rw (after_points p, fault_then p.points_fault-fault.result.place _ c.if-fault-ne0.true)
+    rw (after_points p, fault_then p.points_fault-fault.result.place _ c.if-faulty.true)
 
 segments-fault-requires : tie.Need-segments_fault-requires
 segments-fault-requires c κs =
     let p = c.before.before in
-    record { lengths = lengths p.before; points_pass = sym p.points_fault-fault.ensures ∙ no_fault _ c.if-fault-ne0.false }
+    record { lengths = lengths p.before; points_pass = sym p.points_fault-fault.ensures ∙ no_fault _ c.if-faulty.false }
 
 returns-5 : tie.Need-returns
 returns-5 c =
     let p = c.before.before.before in
-    rw (after_points p, passes p.points_fault-fault.result.place _ c.before.if-fault-ne0.false) c.segments_fault.ensures
+    rw (after_points p, passes p.points_fault-fault.result.place _ c.before.if-faulty.false) c.segments_fault.ensures
 
 pub first_fault_spec : {M : Type 1} → statement M
 first_fault_spec =

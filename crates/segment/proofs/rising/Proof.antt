@@ -92,12 +92,12 @@ cast-k : tie.Need-overflow_cast-k
 cast-k c =
     rw (c.before.part-a.ensures, c.part.ensures) (sfits_of_size w32 _ (omega (arith, k_size c.before.before)))
 
-returns : tie.Need-returns-then-n-b-ne0
+returns : tie.Need-returns-then-rest_left
 returns c =
     let e = c.before in
     let s = e.before.before in
     let split = sym (div-add-mod' (m s) (b s)) in
-    let some = rw (e.before.part-a.ensures, e.part.ensures) at c.if-n-b-ne0.true in
+    let some = rw (e.before.part-a.ensures, e.part.ensures) at c.if-rest_left.true in
     rw (e.before.part-a.ensures, e.part.ensures, k_read s)
     (sym (round_rounding.unique (proper s)
     (off_tie s.args.left (n s) (b s) (m s / b s) (m s % b s) split (omega arith) (mod-lt (m s) s.requires.above_0))))
@@ -123,7 +123,7 @@ returns-2 : tie.Need-returns
 returns-2 c =
     let e = c.before.before in
     let s = e.before.before in
-    let none = rw (e.before.part-a.ensures, e.part.ensures) at c.before.if-n-b-ne0.false in
+    let none = rw (e.before.part-a.ensures, e.part.ensures) at c.before.if-rest_left.false in
     to_z-of_z {w = w32} (record { sfits = c.nearest.type_inv })
     ∙ (rw (e.before.part-a.ensures, e.part.ensures, k_read s, to_z-of_z (before_fits s)) at c.nearest.ensures)
     ∙ ap (λ (z : ℤ). round (z over pos (b s)))
