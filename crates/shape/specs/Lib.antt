@@ -1,2 +1,3 @@
--- What contracts of inner functions cite.
+-- Shape codes; then what inner contracts cite.
+pub mod Codes
 pub mod Inner

@@ -1,15 +1,54 @@
-// The shape of one segment: row 6.
+// Shapes, segments, and whether a segment has its shape: rows 2 and 6.
 #![tactic(auto)]
 
 ghost use Rattle.std.specs.Prelude.{◌≡◌, ◌&&◌, pos};
 ghost use Rattle.std.specs.Int.Signed.{le_z};
-ghost use Rattle.model.specs.Points.{Shape, shape_of, mirror_segment, rule_of};
+ghost use Rattle.model.specs.Answer.{gives, row, ◌then◌};
+ghost use Rattle.model.specs.Points.{rising, mirror_segment, rule_of};
 ghost use Rattle.model.specs.Shape.{has_shape, segment_test};
+ghost use Rattle.model.specs.Check.{bad_code};
 ghost use Rattle.model.specs.Inner.{Neighbours};
+ghost use Rattle.refusal.specs.Refusal.{answer_at};
 ghost use Rattle.point.specs.Inner.{segment_of};
+ghost use Rattle.shape.specs.Codes.{code_of};
 ghost use Rattle.shape.specs.Inner.{SlopesOver, in_order};
 
 use point::Point;
+use refusal::Row;
+
+// A shape's code is its value.
+#[derive(Clone, Copy, Debug, PartialEq, Eq)]
+pub enum Shape {
+    Rising = 1,
+    Convex,
+    Falling,
+    Concave,
+}
+
+impl Shape {
+    pub fn code(self) -> u32
+        ensures { result ≡ code_of self }
+    {
+        self as u32
+    }
+}
+
+// Row 2.
+impl TryFrom<u32> for Shape {
+    type Error = Row;
+
+    ghost try_from_gives = { λ code r. answer_at 0 code_of r ≡ (row (bad_code code) 2 0 then gives code) };
+
+    fn try_from(code: u32) -> Result<Self, Row> {
+        match code {
+            1 => Ok(Shape::Rising),
+            2 => Ok(Shape::Convex),
+            3 => Ok(Shape::Falling),
+            4 => Ok(Shape::Concave),
+            _ => Err(Row::Code),
+        }
+    }
+}
 
 // The slopes of a segment over the denominator 100 h: left end, chord, right end, in the order of (3.22).
 #[derive(Clone, Copy)]
@@ -19,20 +58,12 @@ pub struct Slopes {
     pub right: i32,
 }
 
-pub fn slopes_of(p: Point, q: Point) -> Slopes
-    requires { Neighbours (segment_of p q) }
-    ensures { SlopesOver (segment_of p q) result }
-{
-    let h = (q.area - p.area) as i32;
-    let rise = (q.value as i32) - (p.value as i32);
-    let left = h * p.slope;
-    let chord = 100 * rise;
-    let right = h * q.slope;
-    Slopes {
-        left: left,
-        chord: chord,
-        right: right,
-    }
+// Two neighbouring points that rows 3 to 5 do not refuse.
+#[derive(Clone, Copy)]
+pub struct Segment {
+    pub left: Point,
+    pub right: Point,
+    pub ghost neighbours: { Neighbours (segment_of left right) },
 }
 
 // Neither slope is below 0. As numbers of their own the two are tested by one branch.
@@ -45,23 +76,6 @@ fn not_below_0(d0: i32, d1: i32) -> bool
     d1 >= 0
 }
 
-// Shape 1.
-fn rises(p: Point, q: Point) -> bool
-    requires { Neighbours (segment_of p q) }
-    ensures { result ≡ has_shape Shape.rising (segment_of p q) }
-{
-    if p.value < q.value {
-        return not_below_0(p.slope, q.slope);
-    }
-    if p.value != q.value {
-        return false;
-    }
-    if p.slope != 0 {
-        return false;
-    }
-    q.slope == 0
-}
-
 // Shape 2: d_i < Δ_i < d_{i+1}, as the report's (TR/10/83) (3.22) has it for one segment; or all three are equal.
 fn bends(left: i32, chord: i32, right: i32) -> bool
     ensures { result ≡ in_order left chord right }
@@ -69,44 +83,60 @@ fn bends(left: i32, chord: i32, right: i32) -> bool
     if left < chord {
         return chord < right;
     }
-    if left != chord {
-        return false;
-    }
-    chord == right
+    left == chord && chord == right
 }
 
-// The shape of codes 1 and 2.
-fn has_shape(code: u32, p: Point, q: Point) -> bool
-    requires { Neighbours (segment_of p q) }
-    ensures { result ≡ has_shape (shape_of code) (segment_of p q) }
-{
-    if code == 1 {
-        return rises(p, q);
+impl Segment {
+    pub fn slopes(self) -> Slopes
+        ensures { SlopesOver (segment_of self.left self.right) result }
+    {
+        let h = (self.right.area - self.left.area) as i32;
+        let rise = (self.right.value as i32) - (self.left.value as i32);
+        let left = h * self.left.slope;
+        let chord = 100 * rise;
+        let right = h * self.right.slope;
+        Slopes { left, chord, right }
     }
-    let e = slopes_of(p, q);
-    bends(e.left, e.chord, e.right)
-}
 
-// The shape of codes 3 and 4: that of 1 and 2 on mirrored points. There the slopes of a segment are those here with their signs
-// changed, so their order is that here from right to left.
-fn mirror_has_shape(code: u32, p: Point, q: Point) -> bool
-    requires { Neighbours (segment_of p q) }
-    ensures { result ≡ has_shape (shape_of code) (mirror_segment (segment_of p q)) }
-{
-    if code == 1 {
-        return rises(point::mirror(p), point::mirror(q));
+    // Both points mirrored.
+    pub fn mirror(self) -> Self
+        ensures { segment_of result.left result.right ≡ mirror_segment (segment_of self.left self.right) }
+    {
+        Segment {
+            left: self.left.mirror(),
+            right: self.right.mirror(),
+        }
     }
-    let e = slopes_of(p, q);
-    bends(e.right, e.chord, e.left)
-}
 
-// Row 6 is passed: the segment between two points has the shape of its code.
-pub fn segment_test(code: u32, p: Point, q: Point) -> bool
-    requires { Neighbours (segment_of p q) }
-    ensures { result ≡ segment_test (rule_of code) (segment_of p q) }
-{
-    if code > 2 {
-        return mirror_has_shape(code - 2, p, q);
+    // Shape 1.
+    fn rises(self) -> bool
+        ensures { result ≡ has_shape rising (segment_of self.left self.right) }
+    {
+        if self.left.value < self.right.value {
+            return not_below_0(self.left.slope, self.right.slope);
+        }
+        if self.left.value != self.right.value {
+            return false;
+        }
+        self.left.slope == 0 && self.right.slope == 0
     }
-    has_shape(code, p, q)
+
+    // Row 6 is passed. The slopes of a mirrored segment are those here with their signs changed, so their order is that here from
+    // right to left.
+    pub fn has_shape(self, shape: Shape) -> bool
+        ensures { result ≡ segment_test (rule_of (code_of shape)) (segment_of self.left self.right) }
+    {
+        match shape {
+            Shape::Rising => self.rises(),
+            Shape::Convex => {
+                let e = self.slopes();
+                bends(e.left, e.chord, e.right)
+            }
+            Shape::Falling => self.mirror().rises(),
+            Shape::Concave => {
+                let e = self.slopes();
+                bends(e.right, e.chord, e.left)
+            }
+        }
+    }
 }

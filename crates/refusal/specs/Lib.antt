@@ -1,0 +1,2 @@
+-- Rows of the refusal table as numbers, results as answers.
+pub mod Refusal
