@@ -8,17 +8,16 @@
 --   Large, Around    whether that quotient's numbers may pass 64 bits; a number less than one off it
 --   hundredths_of    the left value, the left tangent and what is above it, in whole hundredths
 --   About, HalfWay   less than one hundredth off n hundredths; half way between two numbers of units
---   Unmirrored       a segment as its shape reads it
+--   plain_shape, as_filed   how a segment of a shape is read, and what was filed
 --   Weights, RisingInput, BentInput, SumInput    what `part`, `rising`, `excess` and `hundredths` ask
 -- Assumes nothing.
-use Rattle.std.specs.Prelude.{◌≡◌, cond, ltb, ℕ, ◌+◌, ◌-◌, ◌*◌, ◌^◌, ◌≤◌, ◌<◌, ℤ, pos, nat_abs, ◌+ℤ◌, ◌-ℤ◌, ◌*ℤ◌}
+use Rattle.std.specs.Prelude.{◌≡◌, ℕ, ◌+◌, ◌-◌, ◌*◌, ◌^◌, ◌≤◌, ◌<◌, ℤ, pos, nat_abs, ◌+ℤ◌, ◌-ℤ◌, ◌*ℤ◌}
 use Rattle.exact.specs.Fraction.{Fraction, Proper, ◌over◌, ◌<ℚ◌}
 use Rattle.exact.specs.Inner.{Divided}
-use Rattle.model.specs.Points.{gap_most, value_most, slope_most, Segment, mirror_segment}
-use Rattle.point.specs.Inner.{segment_of}
+use Rattle.model.specs.Points.{gap_most, value_most, slope_most, Segment, mirror_segment, Shape, rising, convex}
 use Rattle.shape.specs.Inner.{over_most}
-use Rattle.segment.specs.declared.Bent.{Bent}
-use Rattle.segment.specs.declared.Facing.{Facing}
+use Rattle.shape.specs.declared.Shape as code
+use Rattle.shape.specs.declared.Shape.TheVariants.{Rising, Convex, Falling, Concave}
 
 pub record Distances (t u : ℕ) : Type 0 where
   pub most : t + u ≤ gap_most
@@ -59,14 +58,14 @@ pub record RisingInput (t u left F D₀ D₁ : ℕ) : Type 0 where
 
 -- ---- convex
 
-pub record BentAt (s : Segment) (x : ℕ) (y : Bent) : Type 0 where
-  pub t : y.t ≡ x - s.left.area
-  pub u : y.u ≡ s.right.area - x
-  pub h : y.h ≡ s.right.area - s.left.area
-  pub a : pos y.a ≡
+pub record BentAt (s : Segment) (x t u h a b : ℕ) : Type 0 where
+  pub t_is : t ≡ x - s.left.area
+  pub u_is : u ≡ s.right.area - x
+  pub h_is : h ≡ s.right.area - s.left.area
+  pub a_is : pos a ≡
       (pos s.right.area -ℤ pos s.left.area) *ℤ s.right.slope
       -ℤ pos 100 *ℤ (pos s.right.value -ℤ pos s.left.value)
-  pub b : pos y.b ≡
+  pub b_is : pos b ≡
       pos 100 *ℤ (pos s.right.value -ℤ pos s.left.value)
       -ℤ (pos s.right.area -ℤ pos s.left.area) *ℤ s.left.slope
 
@@ -111,9 +110,18 @@ pub record SumInput (left : ℕ) (slope : ℤ) (t above : ℕ) : Type 0 where
   pub near : t ≤ gap_most
   pub size : above ≤ 2 * over_most + 1
 
--- ---- all codes
+-- ---- all shapes
 
--- the code without its mirror, and the points as they stand or mirrored
-pub record Unmirrored (code : ℕ) (s : Segment) (x : Facing) : Type 0 where
-  pub code_is : x.code ≡ cond (ltb 2 code) (code - 2) code
-  pub segment_is : segment_of x.p x.q ≡ cond (ltb 2 code) (mirror_segment s) s
+-- the shape by which it is read
+abbrev pub plain_shape : code.Shape → Shape
+plain_shape Rising = rising
+plain_shape Convex = convex
+plain_shape Falling = rising
+plain_shape Concave = convex
+
+-- the segment that was filed, from the one that is read: the mirror's mirror
+abbrev pub as_filed : code.Shape → Segment → Segment
+as_filed Rising s = s
+as_filed Convex s = s
+as_filed Falling s = mirror_segment s
+as_filed Concave s = mirror_segment s

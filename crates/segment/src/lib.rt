@@ -1,20 +1,22 @@
 // The factor at an area of one segment, by one division other than by constants.
 #![tactic(auto)]
 
-ghost use Rattle.std.specs.Prelude.{◌≡◌, true, false, pos, nat_abs, ◌+ℤ◌, ◌*ℤ◌, ◌+◌, ◌*◌, ◌≤◌};
+ghost use Rattle.std.specs.Prelude.{◌≡◌, true, pos, nat_abs, ◌+ℤ◌, ◌*ℤ◌, ◌+◌, ◌*◌, ◌≤◌, IfSome};
 ghost use Rattle.segment.specs.Inner as inner;
 ghost use Rattle.segment.specs.Inner.{Weights, RisingInput, rising_value, BentAt, BentInput, Excess, Large, Around};
-ghost use Rattle.segment.specs.Inner.{SumInput, hundredths_of, About, HalfWay, Unmirrored};
+ghost use Rattle.segment.specs.Inner.{SumInput, hundredths_of, About, HalfWay, plain_shape, as_filed};
 ghost use Rattle.exact.specs.Fraction.{Fraction, ◌over◌};
-ghost use Rattle.exact.specs.Rounding.{round};
+ghost use Rattle.exact.specs.Rounding.{floor_div, round};
 ghost use Rattle.exact.specs.Inner.{sticky};
-ghost use Rattle.model.specs.Points.{Shape, Rule, plain, shape_of, rule_of};
+ghost use Rattle.model.specs.Points.{rising, convex, plain, rule_of};
 ghost use Rattle.model.specs.Interpolant.{interpolant, exact_curve};
-ghost use Rattle.model.specs.Inner.{Neighbours, Good, Inside};
+ghost use Rattle.model.specs.Inner.{Good, Inside};
 ghost use Rattle.point.specs.Inner.{segment_of};
+ghost use Rattle.shape.specs.Codes.{code_of};
 
 use exact::Quotient;
-use point::Point;
+use point::VALUE_MOST;
+use shape::{Segment, Shape};
 
 // ---- rising
 
@@ -46,19 +48,19 @@ fn rising(t: u64, u: u64, left: u64, rise: u64, d0: u64, d1: u64) -> i32
 }
 
 // u is taken as h - t, so that the compiler sees that t + u is h for every area.
-fn rising_factor(p: Point, q: Point, area: u32) -> i32
-    requires { Inside (Good (plain Shape.rising)) (segment_of p q) area }
-    ensures { result ≡ round (interpolant Shape.rising (segment_of p q) area) }
+fn rising_factor(s: Segment, area: u32) -> i32
+    requires { Inside (Good (plain rising)) (segment_of s.left s.right) area }
+    ensures { result ≡ round (interpolant rising (segment_of s.left s.right) area) }
 {
-    if q.value == p.value {
-        return p.value as i32;
+    if s.right.value == s.left.value {
+        return s.left.value as i32;
     }
-    let t = (area - p.area) as u64;
-    let u = (q.area - p.area) as u64 - t;
-    let rise = (q.value - p.value) as u64;
-    let d0 = p.slope as u64;
-    let d1 = q.slope as u64;
-    rising(t, u, p.value as u64, rise, d0, d1)
+    let t = (area - s.left.area) as u64;
+    let u = (s.right.area - s.left.area) as u64 - t;
+    let rise = (s.right.value - s.left.value) as u64;
+    let d0 = s.left.slope as u64;
+    let d1 = s.right.slope as u64;
+    rising(t, u, s.left.value as u64, rise, d0, d1)
 }
 
 // ---- convex
@@ -72,65 +74,63 @@ struct Bent {
     h: u64,
     a: u64,
     b: u64,
-}
-
-fn bent_at(p: Point, q: Point, area: u32) -> Bent
-    requires { Inside (Good (plain Shape.convex)) (segment_of p q) area }
-    ensures { BentAt (segment_of p q) area result }
-{
-    let e = shape::slopes_of(p, q);
-    let a = (e.right - e.chord) as u64;
-    let b = (e.chord - e.left) as u64;
-    Bent {
-        t: (area - p.area) as u64,
-        u: (q.area - area) as u64,
-        h: (q.area - p.area) as u64,
-        a,
-        b,
-    }
+    ghost sizes: { BentInput t u h a b },
 }
 
 // A product b h from here on, the largest w of a segment, is large: w w may pass 64 bits. b h is asked, and not w, so that all
 // areas of a segment take one branch.
 const LARGE: u64 = 0x1_0000_0000;
 
-// How far the curve is above its left tangent, in hundredths: w w / (W h) with w = b t and W = a u + w. Where h divides it is
-// t + u: the compiler would test at each area whether an h that is the same for all of them is 0.
-fn excess(t: u64, u: u64, h: u64, a: u64, b: u64) -> Quotient
-    requires { BentInput t u h a b }
-    ensures { Excess t u h a b result.q result.r }
-{
-    let w = b * t;
-    if w == 0 {
-        return Quotient { q: 0, r: 0 };
+impl Bent {
+    fn at(s: Segment, area: u32) -> Self
+        requires { Inside (Good (plain convex)) (segment_of s.left s.right) area }
+        ensures { BentAt (segment_of s.left s.right) area result.t result.u result.h result.a result.b }
+    {
+        let e = s.slopes();
+        let a = (e.right - e.chord) as u64;
+        let b = (e.chord - e.left) as u64;
+        Bent {
+            t: (area - s.left.area) as u64,
+            u: (s.right.area - area) as u64,
+            h: (s.right.area - s.left.area) as u64,
+            a,
+            b,
+        }
     }
-    let c = (a * u + w) * (t + u);
-    if b * h < LARGE {
-        let n = w * w;
-        return Quotient { q: n / c, r: n % c };
-    }
-    exact::share_by(w, w, c, 0x1000)
-}
 
-// Whether w w may pass 64 bits, and is not 0.
-fn is_large(t: u64, u: u64, h: u64, a: u64, b: u64) -> bool
-    requires { BentInput t u h a b }
-    ensures { result ≡ true → Large t h b }
-{
-    if t == 0 {
-        return false;
+    // How far the curve is above its left tangent, in hundredths: w w / (W h) with w = b t and W = a u + w. Where h divides it is
+    // t + u: the compiler would test at each area whether an h that is the same for all of them is 0.
+    fn excess(self) -> Quotient
+        ensures { Excess self.t self.u self.h self.a self.b result.q result.r }
+    {
+        let w = self.b * self.t;
+        if w == 0 {
+            return Quotient { q: 0, r: 0 };
+        }
+        let c = (self.a * self.u + w) * (self.t + self.u);
+        if self.b * self.h < LARGE {
+            let n = w * w;
+            return Quotient { q: n / c, r: n % c };
+        }
+        exact::share_by(w, w, c, 0x1000)
     }
-    b * h >= LARGE
-}
 
-// That quotient from leading bits, by a division of smaller numbers: less than one off.
-fn leading(t: u64, u: u64, h: u64, a: u64, b: u64) -> u64
-    requires { BentInput t u h a b × Large t h b }
-    ensures { Around (b * t * (b * t)) ((a * u + b * t) * h) result }
-{
-    let w = b * t;
-    let v = w / 32;
-    v * v / ((a * u + w) * h / 1024 + 1) + 1
+    // Whether w w may pass 64 bits, and is not 0.
+    fn is_large(self) -> bool
+        ensures { result ≡ true → Large self.t self.h self.b }
+    {
+        self.t != 0 && self.b * self.h >= LARGE
+    }
+
+    // That quotient from leading bits, by a division of smaller numbers: less than one off.
+    fn leading(self) -> u64
+        requires { Large self.t self.h self.b }
+        ensures { Around (self.b * self.t * (self.b * self.t)) ((self.a * self.u + self.b * self.t) * self.h) result }
+    {
+        let w = self.b * self.t;
+        let v = w / 32;
+        v * v / ((self.a * self.u + w) * self.h / 1024 + 1) + 1
+    }
 }
 
 // The left value, the left tangent and what is above it, in whole hundredths.
@@ -142,35 +142,26 @@ fn hundredths(left: u32, slope: i32, t: u64, above: u64) -> i32
     ((from as i64) + (slope as i64) * (t as i64) + (above as i64)) as i32
 }
 
-// A number of units. `sure` is false where a tie is not ruled out.
-#[derive(Clone, Copy)]
-struct Near {
-    k: i32,
-    sure: bool,
-}
-
-// What is less than one hundredth off n, in units, rounded. Unless n ends in 50, all of that is rounded alike.
-fn nearly(n: i32) -> Near
+// What is less than one hundredth off n, in units, rounded. Unless n ends in 50, all of that is rounded alike; there it is not said.
+fn nearly(n: i32) -> Option<i32>
     requires { nat_abs n ≤ 90000000 }
-    ensures sure { result.sure ≡ true → (v : Fraction) → About n v → round v ≡ result.k }
-    ensures tie { result.sure ≡ false → HalfWay n result.k }
+    ensures sure { IfSome result (λ k. (v : Fraction) → About n v → round v ≡ k) }
+    ensures tie { result ≡ None → HalfWay n (floor_div (n +ℤ pos 50) 100) }
 {
     let k = exact::floor_div(n + 50, 100);
-    Near {
-        k,
-        sure: n + 50 != 100 * k,
+    let tie = n + 50 == 100 * k;
+    if tie {
+        return None;
     }
+    Some(k)
 }
 
 // Whether a division left anything, as a digit.
 fn digit(r: u64) -> u64
     ensures { result ≡ sticky r }
 {
-    let none_left = r == 0;
-    if none_left {
-        return 0;
-    }
-    1
+    let rest_left = r != 0;
+    u64::from(rest_left)
 }
 
 // n hundredths in units, rounded; r is what is left of a hundredth more, which decides where n ends in 50.
@@ -178,94 +169,86 @@ fn units(n: i32, r: u64) -> i32
     requires { nat_abs n ≤ 90000000 }
     ensures { result ≡ round ((pos 2 *ℤ n +ℤ pos (sticky r)) over pos 200) }
 {
-    let e = nearly(n);
-    if e.sure {
-        return e.k;
+    if let Some(k) = nearly(n) {
+        return k;
     }
-    exact::nearest(e.k - 1, 100 + digit(r), 200)
+    exact::nearest(exact::floor_div(n + 50, 100) - 1, 100 + digit(r), 200)
 }
 
 // Where w w may pass 64 bits, the leading bits decide as a rule.
-fn large_factor(p: Point, q: Point, area: u32) -> i32
-    requires { Inside (Good (plain Shape.convex)) (segment_of p q) area }
-    ensures { result ≡ round (interpolant Shape.convex (segment_of p q) area) }
+fn large_factor(s: Segment, area: u32) -> i32
+    requires { Inside (Good (plain convex)) (segment_of s.left s.right) area }
+    ensures { result ≡ round (interpolant convex (segment_of s.left s.right) area) }
 {
-    let x = bent_at(p, q, area);
-    if is_large(x.t, x.u, x.h, x.a, x.b) {
-        let near = nearly(hundredths(p.value, p.slope, x.t, leading(x.t, x.u, x.h, x.a, x.b)));
-        if near.sure {
-            return near.k;
+    let x = Bent::at(s, area);
+    if x.is_large() {
+        if let Some(k) = nearly(hundredths(s.left.value, s.left.slope, x.t, x.leading())) {
+            return k;
         }
     }
-    let e = excess(x.t, x.u, x.h, x.a, x.b);
-    units(hundredths(p.value, p.slope, x.t, e.q), e.r)
+    let e = x.excess();
+    units(hundredths(s.left.value, s.left.slope, x.t, e.q), e.r)
 }
 
-fn convex_factor(p: Point, q: Point, area: u32) -> i32
-    requires { Inside (Good (plain Shape.convex)) (segment_of p q) area }
-    ensures { result ≡ round (interpolant Shape.convex (segment_of p q) area) }
+fn convex_factor(s: Segment, area: u32) -> i32
+    requires { Inside (Good (plain convex)) (segment_of s.left s.right) area }
+    ensures { result ≡ round (interpolant convex (segment_of s.left s.right) area) }
 {
-    let x = bent_at(p, q, area);
+    let x = Bent::at(s, area);
     if x.b * x.h >= LARGE {
-        return large_factor(p, q, area);
+        return large_factor(s, area);
     }
-    let e = excess(x.t, x.u, x.h, x.a, x.b);
-    units(hundredths(p.value, p.slope, x.t, e.q), e.r)
+    let e = x.excess();
+    units(hundredths(s.left.value, s.left.slope, x.t, e.q), e.r)
 }
 
 // ---- the factor
 
-// A segment as its shape reads it: a code without its mirror, 1 or 2, and both points as they stand or mirrored. In one function,
-// so that the compiler makes one branch of it and no choice for each number.
+// A segment as its shape reads it: the points as they stand, or mirrored. Made once for all areas of a segment, so that the
+// compiler makes one branch of it and no choice for each number.
 #[derive(Clone, Copy)]
 pub struct Facing {
-    pub code: u32,
-    pub p: Point,
-    pub q: Point,
+    pub shape: Shape,
+    pub segment: Segment,
+    pub ghost shaped: { Good (plain (plain_shape shape)) (segment_of segment.left segment.right) },
 }
 
-pub fn unmirrored(code: u32, p: Point, q: Point) -> Facing
-    requires { Neighbours (segment_of p q) }
-    ensures { Unmirrored code (segment_of p q) result }
-{
-    if code > 2 {
-        return Facing {
-            code: code - 2,
-            p: point::mirror(p),
-            q: point::mirror(q),
+impl Facing {
+    pub fn new(shape: Shape, s: Segment) -> Self
+        requires { Good (rule_of (code_of shape)) (segment_of s.left s.right) }
+        ensures shape { result.shape ≡ shape }
+        ensures segment { as_filed shape (segment_of result.segment.left result.segment.right) ≡ segment_of s.left s.right }
+    {
+        let segment = match shape {
+            Shape::Rising | Shape::Convex => s,
+            Shape::Falling | Shape::Concave => s.mirror(),
         };
+        Facing { shape, segment }
     }
-    Facing { code, p, q }
-}
 
-// That of codes 1 and 2.
-fn plain_factor(code: u32, p: Point, q: Point, area: u32) -> i32
-    requires { Inside (Good (plain (shape_of code))) (segment_of p q) area }
-    ensures { result ≡ round (interpolant (shape_of code) (segment_of p q) area) }
-{
-    if code == 1 {
-        return rising_factor(p, q, area);
+    // The factor at an area. Of shapes 3 and 4 it is 200,000 less that of 1 and 2 on mirrored points: 200,000 is even.
+    pub fn factor(self, area: u32) -> i32
+        requires low { self.segment.left.area ≤ area }
+        requires high { area ≤ self.segment.right.area }
+        ensures { result
+            ≡ round (exact_curve (rule_of (code_of self.shape))
+            (as_filed self.shape (segment_of self.segment.left self.segment.right)) area) }
+    {
+        let f = match self.shape {
+            Shape::Rising | Shape::Falling => rising_factor(self.segment, area),
+            Shape::Convex | Shape::Concave => convex_factor(self.segment, area),
+        };
+        match self.shape {
+            Shape::Rising | Shape::Convex => f,
+            Shape::Falling | Shape::Concave => VALUE_MOST as i32 - f,
+        }
     }
-    convex_factor(p, q, area)
-}
-
-// The factor at an area of the segment p q, from the segment as its shape reads it. Of codes 3 and 4 it is 200,000 less that of 1
-// and 2 on mirrored points: 200,000 is even.
-pub fn facing_factor(code: u32, x: Facing, p: Point, q: Point, area: u32) -> i32
-    requires { Unmirrored code (segment_of p q) x × Inside (Good (rule_of code)) (segment_of p q) area }
-    ensures { result ≡ round (exact_curve (rule_of code) (segment_of p q) area) }
-{
-    let f = plain_factor(x.code, x.p, x.q, area);
-    if code > 2 {
-        return point::VALUE_MOST as i32 - f;
-    }
-    f
 }
 
 // The factor at an area of a segment that has its shape.
-pub fn factor(code: u32, p: Point, q: Point, area: u32) -> i32
-    requires { Inside (Good (rule_of code)) (segment_of p q) area }
-    ensures { result ≡ round (exact_curve (rule_of code) (segment_of p q) area) }
+pub fn factor(shape: Shape, s: Segment, area: u32) -> i32
+    requires { Inside (Good (rule_of (code_of shape))) (segment_of s.left s.right) area }
+    ensures { result ≡ round (exact_curve (rule_of (code_of shape)) (segment_of s.left s.right) area) }
 {
-    facing_factor(code, unmirrored(code, p, q), p, q, area)
+    Facing::new(shape, s).factor(area)
 }
