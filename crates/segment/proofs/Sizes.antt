@@ -10,17 +10,17 @@
 use mathlib.Core.Path.{◌≡◌, sym, ◌∙◌, ap}
 use mathlib.Core.List.{[], ◌∷◌}
 use mathlib.Core.Logic.{inl, inr}
-use Prim.Native.Nat.{ℕ, zero, suc, ◌+◌, ◌-◌, ◌*◌, ◌/◌, ◌^◌, ◌≤◌, ◌<◌}
+use Prim.Native.Nat.{ℕ, zero, suc, ◌+◌, ◌-◌, ◌*◌, ◌/◌, ◌%◌, ◌^◌, ◌≤◌, ◌<◌}
 use native.Mathlib.Nat.{mul-le-mul, mul-le-mul_left, mul-le-mul_right, le-mul_of_pos_right, div-mul-le_self, le_trans}
-use native.Mathlib.Nat.{mul-pos, le_of_mul-le-mul_right, lt_of_mul-lt-mul_right, div-lt_iff_lt-mul, lt-mul-div-succ}
+use native.Mathlib.Nat.{mod-lt, div-add-mod', mul-pos, le_of_mul-le-mul_right, lt_of_mul-lt-mul_right, div-lt_iff_lt-mul, lt-mul-div-succ}
 use native.Mathlib.Omega.{arith}
 use lib.Arith.{digits_div}
 use lib.Dec.{lit<}
 use lib.IntN.{ℤ, pos, nat_abs, ◌+ℤ◌, ◌*ℤ◌}
 use mir.Syntax.{w32, w64}
-use mir.Val.{SFits, to_z}
-use mir.Facts.{to_z_pos}
-use Rattle.exact.specs.Inner.{Shared}
+use mir.Val.{SFits, to_z, of_z}
+use mir.Facts.{to_z-of_z, to_z_pos}
+use Rattle.exact.specs.Inner.{Divided, Shared}
 use Rattle.exact.proofs.Ring.{ring_ℕ, terms}
 use Rattle.exact.proofs.Tests.{compare}
 use Rattle.exact.proofs.Magnitude.{scaled_size, size_+, size_*, sfits_of_size}
@@ -177,6 +177,17 @@ module _ {t u h a b : ℕ} (k : BentInput t u h a b) where
           room = omega (arith, quotient_most, mul-le-mul_left e long, mul-le-mul_left w long, w_least_of, w_least);
         }
 
+  -- quotient and remainder, by which w may be divided
+  pub excess_of : {q r : ℕ} → 0 < w → Divided (w * w) (divisor * h) q r → Excess t u h a b q r
+  excess_of some d = record { divided = λ _. d; none = λ e. absurd (omega (arith, some)) }
+
+  pub excess_divided : 0 < w → Excess t u h a b (w * w / (divisor * h)) (w * w % (divisor * h))
+  excess_divided some =
+      excess_of some (record {
+        product = sym (div-add-mod' (w * w) (divisor * h));
+        rest = mod-lt (w * w) (denominator_positive (omega (arith, some)));
+      })
+
   pub large_positive : Large t h b → 0 < w
   large_positive l = omega (arith, l.large, mul-le-mul_left b h_size, le-mul_of_pos_right b l.some)
 
@@ -223,22 +234,25 @@ module _ {left : ℕ} {slope : ℤ} {t above : ℕ} (k : SumInput left slope t a
   abbrev from : ℕ
   from = 100 * left
 
-  pub slope_fits : SFits w64 slope
+  slope_fits : SFits w64 slope
   slope_fits = sfits_of_size w64 slope (omega (arith, k.steep))
 
-  pub product_fits : SFits w64 product
+  pub slope_read : to_z w64 (of_z w64 (to_z w32 (of_z w32 slope))) ≡ slope
+  slope_read = rw (to_z-of_z (sfits_of_size w32 slope (omega (arith, k.steep)))) (to_z-of_z slope_fits)
+
+  product_fits : SFits w64 product
   product_fits = sfits_of_size w64 product (omega (arith, product_most))
 
-  pub from_read : to_z w64 from ≡ pos from
+  from_read : to_z w64 from ≡ pos from
   from_read = to_z_pos w64 (omega (arith, k.value))
 
-  pub from_fits : SFits w64 (pos from +ℤ product)
+  from_fits : SFits w64 (pos from +ℤ product)
   from_fits = sfits_of_size w64 (pos from +ℤ product) (omega (arith, size_+ (pos from) product, product_most, k.value))
 
-  pub distance_read : to_z w64 t ≡ pos t
+  distance_read : to_z w64 t ≡ pos t
   distance_read = to_z_pos w64 (omega (arith, k.near))
 
-  pub above_read : to_z w64 above ≡ pos above
+  above_read : to_z w64 above ≡ pos above
   above_read = to_z_pos w64 (omega (arith, k.size))
 
   abbrev sum : ℤ
@@ -248,8 +262,16 @@ module _ {left : ℕ} {slope : ℤ} {t above : ℕ} (k : SumInput left slope t a
   sum_size =
       omega (arith, size_+ (pos from +ℤ product) (pos above), size_+ (pos from) product, product_most, k.size, k.value)
 
-  pub sum_fits : SFits w64 sum
+  sum_fits : SFits w64 sum
   sum_fits = sfits_of_size w64 sum (omega (arith, sum_size))
 
   pub sum_fits_32 : SFits w32 sum
   sum_fits_32 = sfits_of_size w32 sum (omega (arith, sum_size))
+
+  -- as the code has it, in 64 bits
+  pub sum_read :
+      to_z w64 (of_z w64
+      (to_z w64 (of_z w64 (to_z w64 from +ℤ to_z w64 (of_z w64
+      (to_z w64 (of_z w64 (to_z w32 (of_z w32 slope))) *ℤ to_z w64 t)))) +ℤ to_z w64 above)) ≡ sum
+  sum_read =
+      rw (slope_read, distance_read, to_z-of_z product_fits, from_read, to_z-of_z from_fits, above_read) (to_z-of_z sum_fits)
