@@ -237,8 +237,11 @@ module _ {left : ℕ} {slope : ℤ} {t above : ℕ} (k : SumInput left slope t a
   slope_fits : SFits w64 slope
   slope_fits = sfits_of_size w64 slope (omega (arith, k.steep))
 
-  pub slope_read : to_z w64 (of_z w64 (to_z w32 (of_z w32 slope))) ≡ slope
-  slope_read = rw (to_z-of_z (sfits_of_size w32 slope (omega (arith, k.steep)))) (to_z-of_z slope_fits)
+  slope_read_32 : to_z w32 (of_z w32 slope) ≡ slope
+  slope_read_32 = to_z-of_z (sfits_of_size w32 slope (omega (arith, k.steep)))
+
+  slope_read : to_z w64 (of_z w64 (to_z w32 (of_z w32 slope))) ≡ slope
+  slope_read = rw slope_read_32 (to_z-of_z slope_fits)
 
   product_fits : SFits w64 product
   product_fits = sfits_of_size w64 product (omega (arith, product_most))
@@ -275,3 +278,7 @@ module _ {left : ℕ} {slope : ℤ} {t above : ℕ} (k : SumInput left slope t a
       (to_z w64 (of_z w64 (to_z w32 (of_z w32 slope))) *ℤ to_z w64 t)))) +ℤ to_z w64 above)) ≡ sum
   sum_read =
       rw (slope_read, distance_read, to_z-of_z product_fits, from_read, to_z-of_z from_fits, above_read) (to_z-of_z sum_fits)
+
+  -- and what `hundredths` gives, from the slope's bits
+  pub result_read : {z : ℤ} → z ≡ hundredths_of (pos left) (to_z w32 (of_z w32 slope)) t above → to_z w32 (of_z w32 z) ≡ sum
+  result_read e = rw (e, slope_read_32) (to_z-of_z sum_fits_32)

@@ -13,7 +13,7 @@ use Rattle.exact.proofs.Magnitude.{size--, sfits_of_size}
 use Rattle.exact.proofs.Rounding.{round_rounding}
 use Rattle.exact.proofs.Mixed.{half_even_strict}
 use Rattle.segment.specs.Inner.{left_part, whole_part, RisingInput}
-use Rattle.segment.proofs.Sizes.{left_size, right_size, left_weights, right_weights, whole_size, share_size, share_most}
+use Rattle.segment.proofs.Sizes.{whole_size, share_size, share_most}
 use Rattle.segment.proofs.rising.Goals as goal
 
 -- n / b and one half, rounded down to q

@@ -1,7 +1,6 @@
 -- w w divided by W h, at once or shared out; nothing where w is 0.
 use Rattle.std.proofs.Common.{arith}
-use Rattle.exact.proofs.Magnitude.{product_size}
-use Rattle.segment.proofs.Sizes.{denominator_size, w_most, shared, excess_of, excess_divided}
+use Rattle.segment.proofs.Sizes.{denominator_size, shared, excess_of, excess_divided}
 use Rattle.segment.proofs.Bent.excess.Goals as goal
 
 pub overflow_mul-c-2 : goal.overflow_mul-c-2
