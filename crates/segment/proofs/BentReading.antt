@@ -1,6 +1,7 @@
 -- The reading of a convex segment, in the natural numbers that the code computes with.
 --   Bends, bends_inside   the end slopes' distances from the chord are natural numbers
---   bent_input            what `excess` asks; sum_input and near_input, what `hundredths` asks
+--   figures               the figures of an area; bent_input, their sizes
+--   sum_input, near_input   what `hundredths` asks
 --   bent_reads            hundredths above the left value, and what is left of one more, are the value; near_reads, hundredths
 --                         less than one off, where that decides
 -- Assumes nothing.

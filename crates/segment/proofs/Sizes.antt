@@ -1,18 +1,19 @@
--- The sizes of what `part`, `rising`, `excess`, `hundredths` and `units` compute.
---   blend_size      a sum weighted by the distances from the two ends
---   left_weights, right_weights   what the two calls of `part` ask
+-- The sizes of what `part`, `rising`, `excess`, `leading` and `hundredths` compute.
 --   whole_size, share_size, share_most   B; A F and B / 2, and the quotient by B
---   divisor_size, denominator_size, denominator_positive   the parts of the convex curve
---   w_most, w_most_size   w in the whole segment
---   shared          what the quotient of w w asks where it may pass 64 bits; excess_most, how large it is
---   slope_fits, .., sum_fits_32   the sum in hundredths and its parts fit; sum_size, how large it is
+--   denominator_size                     W h
+--   w_most, w_most_size                  w in the whole segment
+--   shared                               what the quotient of w w asks where it may pass 64 bits
+--   excess_divided, excess_most          that quotient by a division, and how large it is
+--   large_positive, leads, around_most   the same by leading bits
+--   sum_size, sum_fits_32                the sum in hundredths; sum_read, result_read, as the code has it
 -- Assumes nothing.
 use mathlib.Core.Path.{◌≡◌, sym, ◌∙◌, ap}
 use mathlib.Core.List.{[], ◌∷◌}
 use mathlib.Core.Logic.{inl, inr}
 use Prim.Native.Nat.{ℕ, zero, suc, ◌+◌, ◌-◌, ◌*◌, ◌/◌, ◌%◌, ◌^◌, ◌≤◌, ◌<◌}
 use native.Mathlib.Nat.{mul-le-mul, mul-le-mul_left, mul-le-mul_right, le-mul_of_pos_right, div-mul-le_self, le_trans}
-use native.Mathlib.Nat.{mod-lt, div-add-mod', mul-pos, le_of_mul-le-mul_right, lt_of_mul-lt-mul_right, div-lt_iff_lt-mul, lt-mul-div-succ}
+use native.Mathlib.Nat.{mod-lt, div-add-mod', mul-pos}
+use native.Mathlib.Nat.{le_of_mul-le-mul_right, lt_of_mul-lt-mul_right, div-lt_iff_lt-mul, lt-mul-div-succ}
 use native.Mathlib.Omega.{arith}
 use lib.Arith.{digits_div}
 use lib.Dec.{lit<}
@@ -20,7 +21,7 @@ use lib.IntN.{ℤ, pos, nat_abs, ◌+ℤ◌, ◌*ℤ◌}
 use mir.Syntax.{w32, w64}
 use mir.Val.{SFits, to_z, of_z}
 use mir.Facts.{to_z-of_z, to_z_pos}
-use Rattle.exact.specs.Inner.{Divided, Shared}
+use Rattle.exact.specs.Inner.{Shared}
 use Rattle.exact.proofs.Ring.{ring_ℕ, terms}
 use Rattle.exact.proofs.Tests.{compare}
 use Rattle.exact.proofs.Magnitude.{scaled_size, size_+, size_*, sfits_of_size}
@@ -36,23 +37,23 @@ blend_size t u {m = m} near k l =
 -- ---- rising
 
 module _ {t u g e : ℕ} (k : Weights t u g e) where
-  pub part_blend : g * t + e * u ≤ gap_most * over_most
+  part_blend : g * t + e * u ≤ gap_most * over_most
   part_blend = blend_size t u k.near k.first k.second
 
-  pub part_size : part t u g e ≤ t * (gap_most * over_most)
+  part_size : part t u g e ≤ t * (gap_most * over_most)
   part_size = mul-le-mul_left t part_blend
 
 module _ {t u left F D₀ D₁ : ℕ} (k : RisingInput t u left F D₀ D₁) where
-  pub left_size : (t + u) * D₀ ≤ over_most
+  left_size : (t + u) * D₀ ≤ over_most
   left_size = mul-le-mul k.distances.most k.left_slope
 
-  pub right_size : (t + u) * D₁ ≤ over_most
+  right_size : (t + u) * D₁ ≤ over_most
   right_size = mul-le-mul k.distances.most k.right_slope
 
-  pub left_weights : Weights t u (100 * F) ((t + u) * D₀)
+  left_weights : Weights t u (100 * F) ((t + u) * D₀)
   left_weights = record { near = k.distances.most; first = omega (arith, k.rise); second = left_size }
 
-  pub right_weights : Weights u t (100 * F) ((t + u) * D₁)
+  right_weights : Weights u t (100 * F) ((t + u) * D₁)
   right_weights =
       record { near = omega (arith, k.distances.most); first = omega (arith, k.rise); second = right_size }
 
@@ -126,13 +127,13 @@ module _ {t u h a b : ℕ} (k : BentInput t u h a b) where
   h_positive : 0 < h
   h_positive = omega (arith, k.distances.least, k.sum)
 
-  pub divisor_size : divisor ≤ gap_most * (2 * over_most)
+  divisor_size : divisor ≤ gap_most * (2 * over_most)
   divisor_size = blend_size u t (omega (arith, k.distances.most)) k.above k.below
 
   pub denominator_size : divisor * h ≤ gap_most * (2 * over_most) * gap_most
   denominator_size = mul-le-mul divisor_size h_size
 
-  pub denominator_positive : 0 < divisor → 0 < divisor * h
+  denominator_positive : 0 < divisor → 0 < divisor * h
   denominator_positive some = mul-pos some h_positive
 
   -- w in the whole segment
@@ -177,16 +178,16 @@ module _ {t u h a b : ℕ} (k : BentInput t u h a b) where
           room = omega (arith, quotient_most, mul-le-mul_left e long, mul-le-mul_left w long, w_least_of, w_least);
         }
 
-  -- quotient and remainder, by which w may be divided
-  pub excess_of : {q r : ℕ} → 0 < w → Divided (w * w) (divisor * h) q r → Excess t u h a b q r
-  excess_of some d = record { divided = λ _. d; none = λ e. absurd (omega (arith, some)) }
-
+  -- by a division
   pub excess_divided : 0 < w → Excess t u h a b (w * w / (divisor * h)) (w * w % (divisor * h))
   excess_divided some =
-      excess_of some (record {
-        product = sym (div-add-mod' (w * w) (divisor * h));
-        rest = mod-lt (w * w) (denominator_positive (omega (arith, some)));
-      })
+      record {
+        divided = λ _. record {
+          product = sym (div-add-mod' (w * w) (divisor * h));
+          rest = mod-lt (w * w) (denominator_positive (omega (arith, some)));
+        };
+        none = λ e. absurd (omega (arith, some));
+      }
 
   pub large_positive : Large t h b → 0 < w
   large_positive l = omega (arith, l.large, mul-le-mul_left b h_size, le-mul_of_pos_right b l.some)

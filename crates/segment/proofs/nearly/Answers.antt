@@ -1,5 +1,5 @@
 -- Between the halves next to k all is rounded to k.
-use Rattle.segment.proofs.HalfUnits.{up_read, hundreds_fits, at_half, off_half, off_half_of}
+use Rattle.segment.proofs.HalfUnits.{up_read, hundreds_fits, at_half, off_half}
 use Rattle.segment.proofs.nearly.Goals as goal
 
 pub overflow_mul-tie : goal.overflow_mul-tie
@@ -12,4 +12,4 @@ returns-then-tie-clause-tie c _ =
 pub returns-clause-sure : goal.returns-clause-sure
 returns-clause-sure c =
     let read = up_read c.args.n c.requires c.floor_div-k.ensures in
-    rw read (off_half c.args.n (off_half_of c.args.n c.requires (rw read at c.if-tie.false)))
+    rw read (off_half c.args.n c.requires (rw read at c.if-tie.false))

@@ -1,6 +1,6 @@
 -- w w divided by W h, at once or shared out; nothing where w is 0.
 use Rattle.std.proofs.Common.{arith}
-use Rattle.segment.proofs.Sizes.{denominator_size, shared, excess_of, excess_divided}
+use Rattle.segment.proofs.Sizes.{denominator_size, shared, excess_divided}
 use Rattle.segment.proofs.Bent.excess.Goals as goal
 
 pub overflow_mul-c-2 : goal.overflow_mul-c-2
@@ -14,8 +14,3 @@ pub share_by-requires : goal.share_by-requires
 share_by-requires c =
     let k = c.args.self.sizes in
     rw (← k.sum) (shared k (omega (arith, c.if-self-lt-LARGE.false)) (omega (arith, c.if-w-eq0.false)))
-
-pub returns : goal.returns
-returns c =
-    let k = c.args.self.sizes in
-    excess_of k (omega (arith, c.if-w-eq0.false)) (rw (← k.sum) at c.share_by.ensures)

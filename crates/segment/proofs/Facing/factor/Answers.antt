@@ -17,8 +17,10 @@ module _ (c : Joined-self) where
   f_is : to_z w32 c.match-self.f-bits ≡ reading c.args.self.shape inside
   f_is =
       elim c.match-self.branch [
-        | in-Rising w ↦ w.f-is ∙ to_z-of_z {w = w32} (search rules) ∙ w.rising_factor-f.ensures ∙ elim w.in-Rising.is [ inl e ↦ rw e | inr e ↦ rw e ]
-        | in-Convex w ↦ w.f-is ∙ to_z-of_z {w = w32} (search rules) ∙ w.convex_factor-f.ensures ∙ elim w.in-Convex.is [ inl e ↦ rw e | inr e ↦ rw e ]
+        | in-Rising w ↦ w.f-is ∙ to_z-of_z {w = w32} (search rules) ∙ w.rising_factor-f.ensures
+            ∙ elim w.in-Rising.is [ inl e ↦ rw e | inr e ↦ rw e ]
+        | in-Convex w ↦ w.f-is ∙ to_z-of_z {w = w32} (search rules) ∙ w.convex_factor-f.ensures
+            ∙ elim w.in-Convex.is [ inl e ↦ rw e | inr e ↦ rw e ]
       ]
 
 pub overflow_sub-result : goal.overflow_sub-result

@@ -19,4 +19,5 @@ pub invariant_of-result : goal.invariant_of-result
 invariant_of-result c = record { shaped = rw (segment_is c) (read_good c.args.shape c.requires) }
 
 pub returns-clause-segment : goal.returns-clause-segment
-returns-clause-segment c = rw (segment_is (goal.at.returns-clause-segment c).Joined-shape) (filed_twice c.args.shape c.requires.ends)
+returns-clause-segment c =
+    rw (segment_is (goal.at.returns-clause-segment c).Joined-shape) (filed_twice c.args.shape c.requires.ends)
