@@ -18,20 +18,14 @@ use Rattle.exact.proofs.Rounding.{round_rounding}
 use Rattle.model.specs.Points.{value_most, Point, Segment, mirror, mirror_segment, rising, convex, plain, mirrored, rule_of}
 use Rattle.model.specs.Interpolant.{interpolant, exact_curve}
 use Rattle.model.specs.Inner.{Limits, Neighbours, Good, Inside}
-use Rattle.model.proofs.Codes.{rule_of_1, rule_of_2, mirrored_of, rising_of_1, convex_of_2}
 use Rattle.model.proofs.Mirror.{value_most_even, mirror_good}
 use Rattle.model.proofs.Segments.{interpolant_proper}
 use Rattle.shape.specs.declared.Shape as code
 use Rattle.shape.specs.declared.Shape.TheVariants.{Rising, Convex, Falling, Concave}
 use Rattle.shape.specs.Codes.{code_of}
+use Rattle.shape.proofs.Codes.{rule_of_rising, rule_of_convex, rule_of_falling, rule_of_concave}
 use Rattle.segment.specs.Inner.{plain_shape, as_filed}
 use Rattle.segment.proofs.Distances.{factor_size}
-
-rule_of_3 : rule_of 3 ≡ mirrored rising
-rule_of_3 = rw (mirrored_of {code = 3} (lit< tt), rising_of_1 {code = 1} refl)
-
-rule_of_4 : rule_of 4 ≡ mirrored convex
-rule_of_4 = rw (mirrored_of {code = 4} (lit< tt), convex_of_2 {code = 2} refl)
 
 -- ---- the segment
 
@@ -52,10 +46,10 @@ filed_twice Concave n = segment_twice n
 
 pub read_good : (shape : code.Shape) {s : Segment} →
     Good (rule_of (code_of shape)) s → Good (plain (plain_shape shape)) (as_filed shape s)
-read_good Rising g = rw (rule_of_1 {code = 1} refl) at g
-read_good Convex g = rw (rule_of_2 {code = 2} refl) at g
-read_good Falling g = mirror_good (rw rule_of_3 at g)
-read_good Concave g = mirror_good (rw rule_of_4 at g)
+read_good Rising g = rw (rule_of_rising) at g
+read_good Convex g = rw (rule_of_convex) at g
+read_good Falling g = mirror_good (rw rule_of_falling at g)
+read_good Concave g = mirror_good (rw rule_of_concave at g)
 
 filed_left : (shape : code.Shape) (s : Segment) → (as_filed shape s).left.area ≡ s.left.area
 unfolding mirror
@@ -89,17 +83,17 @@ module _ (shape : code.Shape) {s : Segment} {x : ℕ} (i : Inside (Good (plain (
 
   pub as_it_stands : (shape ≡ Rising) ⊎ (shape ≡ Convex) → reading ≡ filed
   unfolding exact_curve
-  as_it_stands (inl e) = rw (e, rule_of_1 {code = 1} refl)
-  as_it_stands (inr e) = rw (e, rule_of_2 {code = 2} refl)
+  as_it_stands (inl e) = rw (e, rule_of_rising)
+  as_it_stands (inr e) = rw (e, rule_of_convex)
 
   pub taken_off : (shape ≡ Falling) ⊎ (shape ≡ Concave) → pos value_most -ℤ reading ≡ filed
   unfolding exact_curve
   taken_off (inl e) =
       let p = interpolant_proper (rw e at i) in
-      rw (e, rule_of_3, segment_twice i.good.ends) (sym (round_rounding.from_even (pos value_most) value_most_even _ p))
+      rw (e, rule_of_falling, segment_twice i.good.ends) (sym (round_rounding.from_even (pos value_most) value_most_even _ p))
   taken_off (inr e) =
       let p = interpolant_proper (rw e at i) in
-      rw (e, rule_of_4, segment_twice i.good.ends) (sym (round_rounding.from_even (pos value_most) value_most_even _ p))
+      rw (e, rule_of_concave, segment_twice i.good.ends) (sym (round_rounding.from_even (pos value_most) value_most_even _ p))
 
   pub taken_off_fits : SFits w32 (pos value_most -ℤ reading)
   unfolding exact_curve
