@@ -1,16 +1,21 @@
 -- Numbers of bytes.
 --   two_bytes, four_bytes     a number of so many bytes, as a sum
---   low_half, high_half       two's complement of a number below 2 ^ 31, and of one from there on
+--   low_half, high_half       two's complement of a number below 2 ^ 31, and of one from there on; signed_word, of a word
 -- Assumes nothing.
-use mathlib.Core.Path.{◌≡◌, ◌∙◌, ap}
+use mathlib.Core.Path.{◌≡◌, sym, ◌∙◌, ap}
 use mathlib.Core.Bool.{cond}
+use mathlib.Core.Logic.{inl, inr}
 use mathlib.Core.List.{List, [], ◌∷◌}
 use Prim.Native.Nat.{ℕ, suc, ◌+◌, ◌*◌, ◌-◌, ◌≤◌, ◌<◌}
 use native.Mathlib.Omega.{arith}
 use borrow.Author.Tests.{lt-ltb, le-ltb}
 use lib.IntN.{pos, neg_ℤ, ◌+ℤ◌, ◌-ℤ◌}
+use mir.Syntax.{w32}
+use mir.Val.{to_z}
+use mir.Facts.{to_z_pos, to_z-neg}
+use Rattle.exact.proofs.Tests.{compare}
 use Rattle.exact.proofs.Ring.{ring, terms}
-use Rattle.exact.proofs.Signed.{complement}
+use Rattle.exact.proofs.Signed.{complement, complement_pos}
 use Rattle.layout.specs.Layout.{twos_complement, byte, little_endian}
 
 module _ (bytes : List ℕ) (at : ℕ) where
@@ -39,3 +44,12 @@ high_half {x} h k =
   where
     turned : (m : ℕ) → pos x -ℤ (pos x +ℤ pos m +ℤ pos 1) ≡ neg_ℤ (pos 1) -ℤ pos m
     turned m = ring (pos x ∷ pos m ∷ []) (search terms depth 20 fits 9999) tt
+
+-- the signed number of a word
+pub signed_word : {x : ℕ} → x < 4294967296 → to_z w32 x ≡ twos_complement x
+signed_word {x} h = elim (compare 2147483648 x) [
+  | inl (k, t) ↦
+      let e : x ≡ 4294967296 - suc (4294967295 - x) = omega arith in
+      rw (high_half k h, complement_pos (4294967295 - x)) (ap (to_z w32) e ∙ to_z-neg w32 (4294967295 - x) (omega arith))
+  | inr (k, t) ↦ to_z_pos w32 k ∙ sym (low_half k)
+]

@@ -1,4 +1,3 @@
--- The curve file; then what inner contracts cite.
+-- The curve file.
 pub mod Layout
 pub mod Head
-pub mod Inner

@@ -1,69 +1,36 @@
 // The curve file: its head and its points.
 #![tactic(auto)]
 
-ghost use Rattle.std.specs.Prelude.{◌≡◌, suc, ◌+◌, ◌*◌, ◌≤◌, length};
-ghost use Rattle.model.specs.Inner.{fault_answer};
+ghost use Rattle.std.specs.Prelude.{◌≡◌, false, ◌+◌, ◌<◌, ◌≤◌, length};
+ghost use Rattle.model.specs.Answer.{gives, ◌then◌};
+ghost use Rattle.refusal.specs.Refusal.{answer_at};
 ghost use Rattle.point.specs.Inner.{point_of};
-ghost use Rattle.layout.specs.Layout.{twos_complement, little_endian, record_at};
+ghost use Rattle.layout.specs.Layout.{point_offset, count, shape_code, twos_complement, little_endian, record_at, points_of};
 ghost use Rattle.layout.specs.Head.{bad_head, head_rows};
-ghost use Rattle.layout.specs.Inner.{Holds};
 
 use point::Point;
+use points::Points;
+use refusal::Row;
 
 // Bytes before the points, and of each point.
 pub const HEAD_SIZE: usize = 7;
 
 pub const RECORD_SIZE: usize = 12;
 
-fn wide(x: u8) -> u32
-    ensures { result ≡ x }
-{
-    x as u32
-}
-
-// The number of 4 bytes, the lowest first.
-fn word(a: u8, b: u8, c: u8, d: u8) -> u32
-    ensures { result ≡ a + 256 * b + 65536 * c + 16777216 * d }
-{
-    wide(a) + 256 * wide(b) + 65536 * wide(c) + 16777216 * wide(d)
-}
-
 // The number of the 4 bytes from an offset on.
 pub fn unsigned(bytes: &[u8], at: usize) -> u32
     requires { at + 4 ≤ length bytes.now }
     ensures { result ≡ little_endian bytes.now at 4 }
 {
-    word(bytes[at], bytes[at + 1], bytes[at + 2], bytes[at + 3])
+    u32::from_le_bytes([bytes[at], bytes[at + 1], bytes[at + 2], bytes[at + 3]])
 }
 
-fn signed(x: u32) -> i32
-    ensures { result ≡ twos_complement x }
+// The signed number of these bytes.
+fn signed(bytes: &[u8], at: usize) -> i32
+    requires { at + 4 ≤ length bytes.now }
+    ensures { result ≡ twos_complement (little_endian bytes.now at 4) }
 {
-    if x < 2147483648 {
-        return x as i32;
-    }
-    -1 - ((4294967295 - x) as i32)
-}
-
-// The area of the point at i.
-pub fn area_of(bytes: &[u8], i: usize) -> u32
-    requires { Holds (suc i) (length bytes.now) }
-    ensures { result ≡ (record_at bytes.now i).area }
-{
-    unsigned(bytes, HEAD_SIZE + RECORD_SIZE * i)
-}
-
-// The point at i.
-pub fn record_at(bytes: &[u8], i: usize) -> Point
-    requires { Holds (suc i) (length bytes.now) }
-    ensures { point_of result ≡ record_at bytes.now i }
-{
-    let at = HEAD_SIZE + RECORD_SIZE * i;
-    Point {
-        area: unsigned(bytes, at),
-        value: unsigned(bytes, at + 4),
-        slope: signed(unsigned(bytes, at + 8)),
-    }
+    unsigned(bytes, at).cast_signed()
 }
 
 // The letters TRF and the lower byte of version 1, as the number of 4 bytes: one test instead of four.
@@ -76,21 +43,56 @@ fn bad_head(bytes: &[u8]) -> bool
     if bytes.len() < HEAD_SIZE {
         return true;
     }
-    if word(bytes[0], bytes[1], bytes[2], bytes[3]) != MARK_AND_1 {
-        return true;
-    }
-    bytes[4] != 0
+    unsigned(bytes, 0) != MARK_AND_1 || bytes[4] != 0
 }
 
-// Rows 9 and 10: the number of the first that applies, or 0.
-pub fn head_fault(bytes: &[u8]) -> u32
-    ensures { fault_answer result 0 ≡ head_rows bytes.now }
-{
-    if bad_head(bytes) {
-        return 9;
+// A file that rows 9 and 10 do not refuse.
+#[derive(Clone, Copy)]
+pub struct CurveFile<'a> {
+    pub bytes: &'a [u8],
+    pub ghost head: { bad_head bytes.now ≡ false },
+    pub ghost size: { length bytes.now ≡ point_offset (count bytes.now) },
+}
+
+impl<'a> CurveFile<'a> {
+    // Rows 9 and 10.
+    pub fn new(bytes: &'a [u8]) -> Result<Self, Row>
+        ensures { answer_at 0 (λ file. file.bytes.now) result ≡ (head_rows bytes.now then gives bytes.now) }
+    {
+        if bad_head(bytes) {
+            return Err(Row::Head);
+        }
+        if bytes.len() != HEAD_SIZE + RECORD_SIZE * usize::from(bytes[6]) {
+            return Err(Row::Size);
+        }
+        Ok(CurveFile { bytes })
     }
-    if bytes.len() != HEAD_SIZE + RECORD_SIZE * (bytes[6] as usize) {
-        return 10;
+
+    // The shape code.
+    pub fn code(&self) -> u32
+        ensures { result ≡ shape_code self.now.bytes.now }
+    {
+        u32::from(self.bytes[5])
     }
-    0
+}
+
+impl Points for CurveFile<'_> {
+    ghost points = { λ file. points_of file.bytes.now };
+
+    fn count(&self) -> usize {
+        usize::from(self.bytes[6])
+    }
+
+    fn area(&self, i: usize) -> u32 {
+        unsigned(self.bytes, HEAD_SIZE + RECORD_SIZE * i)
+    }
+
+    fn point(&self, i: usize) -> Point {
+        let at = HEAD_SIZE + RECORD_SIZE * i;
+        Point {
+            area: unsigned(self.bytes, at),
+            value: unsigned(self.bytes, at + 4),
+            slope: signed(self.bytes, at + 8),
+        }
+    }
 }

@@ -1,57 +1,37 @@
 -- Laws of rows 1 to 6, for the functions that try them.
---   no_fault, a_fault           the answer of a fault
---   passes, fault_then          what comes after it decides, or nothing does
---   limits_of_no_fault          a point without a fault keeps its limits; earlier_of_next, the area before the next
+--   then_gives, then_refused    what comes after a result decides; after a refusal nothing does
+--   limits_passed               a point that passes rows 3 to 5 keeps its limits
 --   points_from, segments_from  the rows from an index on; point_turn, segment_turn, one turn of a loop over them
 -- Assumes nothing.
-use mathlib.Core.Path.{◌≡◌, refl, sym, ◌∙◌}
+use mathlib.Core.Path.{◌≡◌, refl, sym}
 use mathlib.Core.Bool.{Bool, not}
 use mathlib.Core.List.{List, [], ◌∷◌}
 use mathlib.Core.Option.{Option, some}
 use Prim.Native.Nat.{ℕ, suc, ◌+◌, ◌<◌}
 use native.Mathlib.Numerals.{add-one}
 use native.Mathlib.Omega.{arith}
-use borrow.Author.Tests.{eq-eqb, ne_eqb}
-use lib.Dec.{eqb}
 use lib.ListN.{length, drop}
 use lib.Seq.{drop-cons, drop-length}
 use Rattle.model.specs.Answer.{Answer, gives, refused, row, ◌then◌}
 use Rattle.model.specs.Points.{Point, segments, Rule}
 use Rattle.model.specs.Shape.{segment_test}
 use Rattle.model.specs.Check.{point_rows, segment_rows}
-use Rattle.model.specs.Inner.{fault_answer, between, origin, point_at, Limits}
+use Rattle.model.specs.Inner.{between, origin, point_at, Limits}
 use Rattle.model.proofs.Rows.{passed}
-use Rattle.point.specs.Inner.{earlier}
 
--- ---- faults
-
-pub no_fault : {number : ℕ} (place : ℕ) → number ≡ 0 → fault_answer number place ≡ gives tt
-unfolding fault_answer row
-no_fault {number} place e = rw (eq-eqb number 0 e)
-
-pub a_fault : {number : ℕ} (place : ℕ) → (number ≡ 0 → ⊥) → fault_answer number place ≡ refused number place
-unfolding fault_answer row
-a_fault {number} place n = rw (ne_eqb number 0 n)
-
-pub passes : {number : ℕ} (place : ℕ) (rest : Answer (Unit {0})) → number ≡ 0 → (fault_answer number place then rest) ≡ rest
+pub then_gives : {A : Type 0} {a : Answer (Unit {0})} (rest : Answer A) → a ≡ gives tt → (a then rest) ≡ rest
 unfolding ◌then◌
-passes place rest e = rw (no_fault place e)
+then_gives rest e = rw e
 
-pub fault_then : {number : ℕ} (place : ℕ) (rest : Answer (Unit {0})) → (number ≡ 0 → ⊥) →
-    (fault_answer number place then rest) ≡ fault_answer number place
+pub then_refused : {A : Type 0} {a : Answer (Unit {0})} {number place : ℕ} (rest : Answer A) → a ≡ refused number place →
+    (a then rest) ≡ refused number place
 unfolding ◌then◌
-fault_then place rest n = rw (a_fault place n)
+then_refused rest e = rw e
+
+pub limits_passed : (i : ℕ) (before : Option ℕ) (p : Point) → point_rows i before (p ∷ []) ≡ gives tt → Limits p
+limits_passed i before p e = (passed i before p [] e).limits
 
 -- ---- one turn of a loop over points, or over segments
-
-pub earlier_of_next : (area : ℕ) (i : ℕ) → earlier (eqb (i + 1) 0) area ≡ some area
-unfolding earlier
-earlier_of_next area i = rw (ne_eqb (i + 1) 0 (omega arith))
-
--- a point without a fault keeps its limits
-pub limits_of_no_fault : {number : ℕ} (i : ℕ) (before : Option ℕ) (p : Point) →
-    fault_answer number i ≡ point_rows i before (p ∷ []) → number ≡ 0 → Limits p
-limits_of_no_fault i before p e z = (passed i before p [] (sym e ∙ no_fault i z)).limits
 
 then_regroup : (x y z rest : Answer (Unit {0})) → (x then y then z then rest) ≡ ((x then y then z then gives tt) then rest)
 unfolding ◌then◌
@@ -68,12 +48,10 @@ module _ (ps : List Point) where
   segments_from rule i = segment_rows i rule (segments (drop i ps))
 
   -- the point at i, then the rows of the points after it
-  pub point_turn : (before : Option ℕ) (i number : ℕ) (p : Point) → i < length ps →
-      p ≡ point_at ps i →
-      fault_answer number i ≡ point_rows i before (p ∷ []) →
-      (fault_answer number i then points_from (some p.area) (i + 1)) ≡ points_from before i
+  pub point_turn : (before : Option ℕ) (i : ℕ) (p : Point) → i < length ps → p ≡ point_at ps i →
+      (point_rows i before (p ∷ []) then points_from (some p.area) (i + 1)) ≡ points_from before i
   unfolding point_rows
-  point_turn before i number p h e f = rw (f, e, drop-cons ps i origin h, add-one i) (sym (then_regroup _ _ _ _))
+  point_turn before i p h e = rw (e, drop-cons ps i origin h, add-one i) (sym (then_regroup _ _ _ _))
 
   pub point_end : (before : Option ℕ) (i : ℕ) → i ≡ length ps → points_from before i ≡ gives tt
   unfolding point_rows

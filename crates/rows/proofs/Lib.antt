@@ -1,4 +1,3 @@
 -- Laws of rows 1 to 6 that other crates cite.
 pub mod Faults
 pub mod Passing
-pub mod Lists

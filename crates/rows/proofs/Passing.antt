@@ -2,21 +2,26 @@
 --   Passing            no row refuses the points to i or the segments between them
 --   passing_starts     the first point; passing_goes_on, one more
 --   accepted_of        all of them: the points are an accepted curve
+--   curve_of_rows      rows 1 to 6 are passed
+--   refused_by_code, refused_by_points, refused_by_segments    which row refuses
+--   count_passed       row 1 is passed
+--   code_passed        row 2 is passed by the code of a shape
+--   accepts_of, accepted    which is what `accepts` says
 -- Assumes nothing.
 use mathlib.Core.Path.{◌≡◌, refl, sym, ◌∙◌}
-use mathlib.Core.Bool.{false}
+use mathlib.Core.Bool.{true, false}
 use mathlib.Core.List.{List, [], ◌∷◌}
 use mathlib.Core.Option.{none, some}
-use Prim.Native.Nat.{ℕ, ◌+◌, ◌≤◌, ◌<◌}
+use Prim.Native.Nat.{ℕ, ◌+◌, ◌<◌}
 use borrow.Author.Tests.{le-ltb}
 use lib.ListN.{length}
-use Rattle.model.specs.Answer.{row, ◌then◌}
-use Rattle.model.specs.Points.{points_least, points_most, Point, rule_of}
-use Rattle.model.specs.Check.{bad_count, bad_code, point_rows, curve_rows}
-use Rattle.model.specs.Inner.{Accepted, fault_answer, Limits, point_at}
-use Rattle.model.proofs.Rows.{passed}
-use Rattle.rows.specs.Inner.{Follows}
-use Rattle.rows.proofs.Faults.{no_fault, passes, limits_of_no_fault}
+use Rattle.model.specs.Answer.{Answer, gives, refused, row, ◌then◌}
+use Rattle.model.specs.Points.{points_least, points_most, Point, segments, rule_of}
+use Rattle.model.specs.Check.{bad_count, bad_code, point_rows, segment_rows, curve_rows}
+use Rattle.model.specs.Inner.{Accepted, Limits, point_at}
+use Rattle.model.proofs.Rows.{count_of_row_1, row_passed, row_refused, then_rest, gives_injective, passed}
+use Rattle.rows.specs.Inner.{Count, Follows, gives_nothing, accepts}
+use Rattle.rows.proofs.Faults.{then_gives, limits_passed}
 use Rattle.rows.proofs.Faults.{points_from, point_turn, point_end, segments_from, segment_turn, segment_end}
 
 pub record Passing (ps : List Point) (code i : ℕ) : Type 0 where
@@ -24,14 +29,58 @@ pub record Passing (ps : List Point) (code i : ℕ) : Type 0 where
   pub points_pass : points_from ps (some (point_at ps i).area) (i + 1) ≡ points_from ps none 0
   pub segments_pass : segments_from ps (rule_of code) i ≡ segments_from ps (rule_of code) 0
 
+-- ---- rows 1 to 6 of so many points and a code from 1 to 4
+
+pub accepts_of : (ps : List Point) (code : ℕ) → curve_rows ps code ≡ gives tt → accepts ps code ≡ true
+accepts_of ps code e = rw e
+
+pub accepted : (ps : List Point) (code : ℕ) → accepts ps code ≡ true → Accepted ps code
+accepted ps code e = record { none_applies = gives_it _ e }
+  where
+    gives_it : (a : Answer (Unit {0})) → gives_nothing a ≡ true → a ≡ gives tt
+    gives_it (gives u) e = refl
+    gives_it (refused number place) e = cc
+
+pub count_passed : (n : ℕ) → bad_count n ≡ false → Count n
+count_passed n e = let k = count_of_row_1 n e in record { least = k.0; most = k.1 }
+
+pub code_passed : {x code : ℕ} → gives x ≡ (row (bad_code code) 2 0 then gives code) → (bad_code code ≡ false) × (x ≡ code)
+code_passed {code = code} e =
+    (row_passed (bad_code code) 2 0 _ (sym e), sym (gives_injective (then_rest (row (bad_code code) 2 0) _ (sym e))))
+
 module _ (ps : List Point) (code : ℕ) where
-  pub passing_starts : {number : ℕ} → 0 < length ps → number ≡ 0 →
-      fault_answer number 0 ≡ point_rows 0 none (point_at ps 0 ∷ []) →
-      Passing ps code 0
-  passing_starts h z f =
+  pub curve_of_rows : Count (length ps) → bad_code code ≡ false → point_rows 0 none ps ≡ gives tt →
+      segment_rows 0 (rule_of code) (segments ps) ≡ gives tt →
+      curve_rows ps code ≡ gives tt
+  unfolding curve_rows bad_count row ◌then◌
+  curve_of_rows n c p q = rw (le-ltb _ points_least n.least, le-ltb points_most _ n.most, c, p, q)
+
+  -- what refuses first
+  module _ {A : Type 0} (rest : Answer A) (n : bad_count (length ps) ≡ false) where
+    pub refused_by_code : {number : ℕ} → refused number 0 ≡ (row (bad_code code) 2 0 then gives code) →
+        refused number 0 ≡ (curve_rows ps code then rest)
+    unfolding curve_rows row ◌then◌
+    refused_by_code e =
+        let k = row_refused (bad_code code) 2 0 code (sym e) in
+        rw (n, k.0, k.1)
+
+    module _ (c : bad_code code ≡ false) where
+      pub refused_by_points : {number place : ℕ} → refused number place ≡ point_rows 0 none ps →
+          refused number place ≡ (curve_rows ps code then rest)
+      unfolding curve_rows row ◌then◌
+      refused_by_points e = rw (n, c, ← e)
+
+      pub refused_by_segments : {number place : ℕ} → point_rows 0 none ps ≡ gives tt →
+          refused number place ≡ segment_rows 0 (rule_of code) (segments ps) →
+          refused number place ≡ (curve_rows ps code then rest)
+      unfolding curve_rows row ◌then◌
+      refused_by_segments p e = rw (n, c, p, ← e)
+
+  pub passing_starts : 0 < length ps → point_rows 0 none (point_at ps 0 ∷ []) ≡ gives tt → Passing ps code 0
+  passing_starts h e =
       record {
-        limits = limits_of_no_fault 0 none _ f z;
-        points_pass = sym (passes 0 _ z) ∙ point_turn ps none 0 _ _ h refl f;
+        limits = limits_passed 0 none _ e;
+        points_pass = sym (then_gives _ e) ∙ point_turn ps none 0 _ h refl;
         segments_pass = refl;
       }
 
@@ -42,20 +91,13 @@ module _ (ps : List Point) (code : ℕ) where
   passing_goes_on {i} h f k =
       record {
         limits = (passed (i + 1) _ _ [] (f.point_passes (i + 1))).limits;
-        points_pass =
-            sym (passes (i + 1) _ refl)
-            ∙ point_turn ps _ (i + 1) 0 _ h refl (no_fault (i + 1) refl ∙ sym (f.point_passes (i + 1)))
-            ∙ k.points_pass;
+        points_pass = sym (then_gives _ (f.point_passes (i + 1))) ∙ point_turn ps _ (i + 1) _ h refl ∙ k.points_pass;
         segments_pass =
             segment_turn ps (rule_of code) i _ _ h refl refl (sym f.segment_passes) ∙ k.segments_pass;
       }
 
-  pub accepted_of : {i : ℕ} → points_least ≤ length ps → length ps ≤ points_most → bad_code code ≡ false →
-      i + 1 ≡ length ps →
-      Passing ps code i →
-      Accepted ps code
-  unfolding curve_rows bad_count row ◌then◌
-  accepted_of {i} least most c e k =
-      let p = sym k.points_pass ∙ point_end ps _ (i + 1) e in
-      let q = sym k.segments_pass ∙ segment_end ps _ i e in
-      record { none_applies = rw (le-ltb _ points_least least, le-ltb points_most _ most, c, p, q) }
+  pub accepted_of : {i : ℕ} → Count (length ps) → bad_code code ≡ false → i + 1 ≡ length ps → Passing ps code i →
+      accepts ps code ≡ true
+  accepted_of {i} n c e k =
+      accepts_of ps code
+      (curve_of_rows n c (sym k.points_pass ∙ point_end ps _ (i + 1) e) (sym k.segments_pass ∙ segment_end ps _ i e))

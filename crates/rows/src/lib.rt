@@ -1,210 +1,121 @@
-// Rows 1 to 6 of the refusal table, of points in three lists.
+// Accepted curves: rows 1 to 6 of the refusal table, of points wherever they stand.
 #![tactic(auto)]
 
-ghost use Rattle.std.specs.Prelude.{◌≡◌, true, false, length};
+ghost use Rattle.std.specs.Prelude.{◌≡◌, true, ℕ, length, ◌≤◌};
 ghost use Rattle.std.proofs.Math.Option.{none};
-ghost use Rattle.model.specs.Answer.{gives};
-ghost use Rattle.model.specs.Points.{points, segments, rule_of};
-ghost use Rattle.model.specs.Check.{lengths_differ, bad_count, bad_code, point_rows, segment_rows, curve_rows, on_lists};
-ghost use Rattle.model.specs.Inner.{Accepted, fault_answer, Limits};
+ghost use Rattle.model.specs.Answer.{gives, ◌then◌};
+ghost use Rattle.model.specs.Points.{points_most, segments, rule_of};
+ghost use Rattle.model.specs.Check.{bad_count, point_rows, segment_rows, curve_rows};
+ghost use Rattle.model.specs.Inner.{Limits};
+ghost use Rattle.refusal.specs.Refusal.{answer_of, checked};
 ghost use Rattle.point.specs.Inner.{point_of};
-ghost use Rattle.rows.specs.Inner.{Few, Lengths, Limited, Follows};
+ghost use Rattle.shape.specs.Codes.{code_of};
+ghost use Rattle.rows.specs.Inner.{Count, Limited, Follows, accepts};
 
 use point::Point;
+use points::Points;
+use refusal::{Refusal, Row};
+use shape::{Segment, Shape};
 
 // A curve has 2 to 64 points.
 pub const POINTS_LEAST: usize = 2;
 
 pub const POINTS_MOST: usize = 64;
 
-// A fault's number and place; the number 0 is no fault.
-#[derive(Clone, Copy)]
-pub struct Fault {
-    pub number: u32,
-    pub place: u32,
-}
-
-// Row 1, of lists.
-pub fn lengths_differ(areas: usize, values: usize, slopes: usize) -> bool
-    ensures { result ≡ lengths_differ areas values slopes }
-{
-    if areas != values {
-        return true;
-    }
-    areas != slopes
-}
-
 // Row 1, of points.
 pub fn bad_count(n: usize) -> bool
     ensures { result ≡ bad_count n }
 {
-    if n < POINTS_LEAST {
-        return true;
-    }
-    n > POINTS_MOST
-}
-
-// Row 2.
-pub fn bad_code(shape: u32) -> bool
-    ensures { result ≡ bad_code shape }
-{
-    if shape < 1 {
-        return true;
-    }
-    shape > 4
+    n < POINTS_LEAST || n > POINTS_MOST
 }
 
 // Rows 3 to 6 of the second of two points and of the segment between them.
-pub fn follows(shape: u32, p: Point, q: Point) -> bool
+fn follows(shape: Shape, p: Point, q: Point) -> bool
     requires { Limits (point_of p) }
-    ensures { result ≡ true → Follows (rule_of shape) (point_of p) (point_of q) }
+    ensures { result ≡ true → Follows (rule_of (code_of shape)) (point_of p) (point_of q) }
 {
-    if point::point_fault(false, p.area, q) != 0 {
+    if q.check(Some(p.area)).is_err() {
         return false;
     }
-    shape::segment_test(shape, p, q)
+    Segment { left: p, right: q }.has_shape(shape)
 }
 
 // Rows 3 to 6 in one pass. Where it finds a fault it does not say which.
-fn all_pass(areas: &[u32], values: &[u32], slopes: &[i32], shape: u32) -> bool
-    requires { Lengths (length areas.now) (length values.now) (length slopes.now) × (bad_code shape ≡ false) }
-    ensures { result ≡ true → Accepted (points areas.now values.now slopes.now) shape }
+fn all_pass<P: Points>(points: &P, shape: Shape) -> bool
+    requires { Count (length (P.points points.now)) }
+    ensures { result ≡ true → accepts (P.points points.now) (code_of shape) ≡ true }
 {
-    let mut p = point::point_at(areas, values, slopes, 0);
-    if point::point_fault(true, 0, p) != 0 {
+    let mut p = points.point(0);
+    if p.check(None).is_err() {
         return false;
     }
-    let last = areas.len() - 1;
-    let mut left: usize = 0;
-    while left < last {
-        let right = left + 1;
-        let q = point::point_at(areas, values, slopes, right);
+    for left in 0..points.count() - 1 {
+        let q = points.point(left + 1);
         if !follows(shape, p, q) {
             return false;
         }
         p = q;
-        left = right;
     }
     true
 }
 
 // Rows 3, 4 and 5: the first bad point.
-fn points_fault(areas: &[u32], values: &[u32], slopes: &[i32]) -> Fault
-    requires { Lengths (length areas.now) (length values.now) (length slopes.now) }
-    ensures { fault_answer result.number result.place
-        ≡ point_rows 0 none (points areas.now values.now slopes.now) }
+pub fn check_points<P: Points>(points: &P) -> Result<(), Refusal>
+    requires { length (P.points points.now) ≤ points_most }
+    ensures { checked result ≡ point_rows 0 none (P.points points.now) }
 {
-    bad_point(areas, values, slopes)
-}
-
-// The same of any number of points up to 64.
-pub fn bad_point(areas: &[u32], values: &[u32], slopes: &[i32]) -> Fault
-    requires { Few (length areas.now) (length values.now) (length slopes.now) }
-    ensures { fault_answer result.number result.place
-        ≡ point_rows 0 none (points areas.now values.now slopes.now) }
-{
-    let mut number: u32 = 0;
-    let mut before: u32 = 0;
-    let mut i: usize = 0;
-    while i < areas.len() {
-        let p = point::point_at(areas, values, slopes, i);
-        number = point::point_fault(i == 0, before, p);
-        if number != 0 {
+    let mut found = Ok(());
+    let mut before = None;
+    for i in 0..points.count() {
+        let p = points.point(i);
+        if let Err(row) = p.check(before) {
+            found = Err(row.at(i as u32));
             break;
         }
-        before = p.area;
-        i += 1;
+        before = Some(p.area);
     }
-    Fault {
-        number,
-        place: i as u32,
-    }
+    found
 }
 
 // Row 6: the first segment without its shape, at its left point.
-fn segments_fault(areas: &[u32], values: &[u32], slopes: &[i32], shape: u32) -> Fault
-    requires { Limited areas.now values.now slopes.now }
-    ensures { fault_answer result.number result.place
-        ≡ segment_rows 0 (rule_of shape) (segments (points areas.now values.now slopes.now)) }
+fn check_segments<P: Points>(points: &P, shape: Shape) -> Result<(), Refusal>
+    requires { Limited (P.points points.now) }
+    ensures { checked result ≡ segment_rows 0 (rule_of (code_of shape)) (segments (P.points points.now)) }
 {
-    let last = areas.len() - 1;
-    let mut left: usize = 0;
-    while left < last {
-        let right = left + 1;
-        let p = point::point_at(areas, values, slopes, left);
-        let q = point::point_at(areas, values, slopes, right);
-        if !shape::segment_test(shape, p, q) {
-            return Fault {
-                number: 6,
-                place: left as u32,
-            };
+    for left in 0..points.count() - 1 {
+        let segment = Segment {
+            left: points.point(left),
+            right: points.point(left + 1),
+        };
+        if !segment.has_shape(shape) {
+            return Err(Row::Segment.at(left as u32));
         }
-        left = right;
     }
-    Fault {
-        number: 0,
-        place: 0,
-    }
+    Ok(())
 }
 
-// Rows 1 to 6, one after the other.
-pub fn first_fault(areas: &[u32], values: &[u32], slopes: &[i32], shape: u32) -> Fault
-    ensures { fault_answer result.number result.place
-        ≡ on_lists areas.now values.now slopes.now (λ ps. curve_rows ps shape) }
-{
-    if lengths_differ(areas.len(), values.len(), slopes.len()) {
-        return Fault {
-            number: 1,
-            place: 0,
-        };
-    }
-    if bad_count(areas.len()) {
-        return Fault {
-            number: 1,
-            place: 0,
-        };
-    }
-    if bad_code(shape) {
-        return Fault {
-            number: 2,
-            place: 0,
-        };
-    }
-    let fault = points_fault(areas, values, slopes);
-    let faulty = fault.number != 0;
-    if faulty {
-        return fault;
-    }
-    segments_fault(areas, values, slopes, shape)
+// Points that rows 1 to 6 do not refuse, and their shape.
+#[derive(Drop)]
+pub struct Curve<P: Points> {
+    pub points: P,
+    pub shape: Shape,
+    pub ghost accepted: { accepts (P.points points) (code_of shape) ≡ true },
 }
 
-// Rows 1 to 6, 3 to 6 in one pass. Where it says false, it does not say which row refuses.
-fn accepted(areas: &[u32], values: &[u32], slopes: &[i32], shape: u32) -> bool
-    ensures { result ≡ true →
-        on_lists areas.now values.now slopes.now (λ ps. curve_rows ps shape) ≡ gives tt }
-{
-    if lengths_differ(areas.len(), values.len(), slopes.len()) {
-        return false;
+impl<P: Points> Curve<P> {
+    // Rows 1 to 6: an accepted curve is passed over once.
+    pub fn new(points: P, code: u32) -> Result<Self, Refusal>
+        ensures { answer_of {B = P × ℕ} (λ c. (c.points, code_of c.shape)) result
+            ≡ (curve_rows (P.points points) code then gives (points, code)) }
+    {
+        if bad_count(points.count()) {
+            return Err(Row::Count.at(0));
+        }
+        let shape = Shape::try_from(code)?;
+        if !all_pass(&points, shape) {
+            check_points(&points)?;
+            check_segments(&points, shape)?;
+        }
+        Ok(Curve { points, shape })
     }
-    if bad_count(areas.len()) {
-        return false;
-    }
-    if bad_code(shape) {
-        return false;
-    }
-    all_pass(areas, values, slopes, shape)
-}
-
-// Rows 1 to 6: an accepted curve is passed over once.
-pub fn curve_fault(areas: &[u32], values: &[u32], slopes: &[i32], shape: u32) -> Fault
-    ensures { fault_answer result.number result.place
-        ≡ on_lists areas.now values.now slopes.now (λ ps. curve_rows ps shape) }
-{
-    if accepted(areas, values, slopes, shape) {
-        return Fault {
-            number: 0,
-            place: 0,
-        };
-    }
-    first_fault(areas, values, slopes, shape)
 }

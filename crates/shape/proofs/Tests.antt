@@ -1,5 +1,5 @@
 -- The shape of a segment by the tests of the code. A signed number is read back from its bits where it is tested.
---   bad_code_unless  a code that is none of 1 to 4
+--   bad_code_unless  a code that is none of 1 to 4; code_of_shape, that of a shape is one
 --   climbing_shape  shape 1 where the value rises: no slope is below 0; climbing_test, as a test
 --   level_shape     where it stays: both slopes are 0; level_test, as a test
 --   descending_shape   where it falls: no
@@ -36,6 +36,9 @@ use Rattle.model.proofs.Segments.{gap, rise, e₀, g, e₁}
 use Rattle.point.proofs.Figures.{slope_fits, slope_read}
 use Rattle.shape.specs.Inner.{SlopesOver, in_order}
 use Rattle.shape.specs.declared.Slopes.{Slopes}
+use Rattle.shape.specs.declared.Shape as code
+use Rattle.shape.specs.declared.Shape.TheVariants.{Rising, Convex, Falling, Concave}
+use Rattle.shape.specs.Codes.{code_of}
 use Rattle.shape.proofs.Codes.{rule_of_falling}
 
 abbrev bits : ℤ → ℕ
@@ -55,6 +58,13 @@ bad_code_unless code n = elim (true_or_false (bad_code code)) [
   | inl e ↦ e
   | inr e ↦ let k = code_of_row_2 code e in absurd (n k.0 k.1)
 ]
+
+pub code_of_shape : (shape : code.Shape) → bad_code (code_of shape) ≡ false
+unfolding bad_code
+code_of_shape Rising = refl
+code_of_shape Convex = refl
+code_of_shape Falling = refl
+code_of_shape Concave = refl
 
 -- ---- shape 1, by what the value does
 

@@ -1,5 +1,5 @@
 -- The first row that applies decides.
-use Rattle.std.proofs.Common.{◌≡◌, false, true, pos, sym, ◌∙◌, to_z-of_z, w32, to_z, of_z, rules, le-ltb, lt-ltb}
+use Rattle.std.proofs.Common.{◌≡◌, true, pos, sym, ◌∙◌, to_z-of_z, w32, to_z, of_z, rules, le-ltb, lt-ltb}
 use lib.Signed.{lt_z}
 use Rattle.model.specs.Answer.{row, ◌then◌}
 use Rattle.model.specs.Points.{value_most, slope_most}

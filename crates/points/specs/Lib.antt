@@ -1,0 +1,2 @@
+-- What contracts of inner functions cite.
+pub mod Inner

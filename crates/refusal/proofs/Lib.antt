@@ -1,0 +1,2 @@
+-- Laws of results as answers, that other crates cite.
+pub mod Results
