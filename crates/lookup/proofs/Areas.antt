@@ -6,12 +6,16 @@
 --   reached_first       an area that is not outside is not below that of the first point
 --   neighbours_at, inside_at    the segment at an index, and an area read there
 -- Assumes nothing.
-use Rattle.std.proofs.Common.{◌≡◌, ℕ, suc, ◌+◌, ◌-◌, ◌*◌, ◌/◌, ◌≤◌, ◌<◌, List, true, false, ◌||◌, ltb, length, get_or, refl, ◌∙◌, sym, arith}
-use native.Mathlib.Nat.{mod-lt, div-add-mod', mul-le-mul_left}
+use Rattle.std.proofs.Common.{◌≡◌, ℕ, suc, ◌+◌, ◌-◌, ◌*◌, ◌/◌, ◌≤◌, ◌<◌, List, true, false, ◌||◌, ltb, length, get_or, min, inl, inr, refl, arith}
+use native.Mathlib.Nat.{mod-lt, div-add-mod', mul-le-mul_left, min-eq_left, min-eq_right}
+use Rattle.exact.proofs.Tests.{compare}
+use Rattle.model.specs.Answer.{Answer, gives, refused, ◌then◌}
+use Rattle.model.proofs.Answers.{then_refused, refused_first}
+use Rattle.model.proofs.Search.{Near, near_next, near_last}
 use lib.ListN.{length-map, get_or-map}
 use Rattle.model.specs.Points.{points_least, points_most, Point, rule_of}
 use Rattle.model.specs.Read.{segment_read, outside}
-use Rattle.model.specs.Inner.{origin, point_at, segment_at, areas_of, Neighbours, Good, Inside, Reached}
+use Rattle.model.specs.Inner.{origin, point_at, segment_at, areas_of, Good, Inside, Reached, LastOf}
 use Rattle.model.proofs.Accepted.{count_of, inside_read}
 use Rattle.model.proofs.Indexed.{read_inner}
 use Rattle.model.proofs.Outside.{outside_of, not_before}
@@ -36,6 +40,19 @@ pub strides_end : (from step end k : ℕ) → from < end → (end - from - 1) / 
 strides_end from step end k b h s =
     let d = end - from - 1 in
     omega (arith, mul-le-mul_left {m = d / step + 1} {n = k} step h, div-add-mod' d step, mod-lt d s)
+
+-- the end of the second search
+pub near_end : {areas : List ℕ} {n from x : ℕ} → length areas ≡ n → n ≤ points_most → LastOf areas from 8 (n - 1) x →
+    Near areas n from (min (n - 1) (from + 8)) x
+near_end {n = n} {from = from} size m l = elim (compare (n - 1) (from + 8)) [
+  | inl (h, t) ↦ rw (min-eq_left h) (near_last size m l)
+  | inr (h, t) ↦ rw (min-eq_right {n = from + 8} {m = n - 1} (omega arith)) (near_next size m l h)
+]
+
+-- what refuses before one result refuses before another
+pub refused_alike : {A B : Type 0} {number place : ℕ} (rows : Answer (Unit {0})) (x : A) (y : B) →
+    (rows then gives x) ≡ refused number place → (rows then gives y) ≡ refused number place
+refused_alike rows x y e = then_refused rows (gives y) (refused_first rows x e)
 
 module _ (ps : List Point) (code : ℕ) (e : accepts ps code ≡ true) where
   pub least : points_least ≤ length ps

@@ -1,6 +1,5 @@
 -- The two points are the segment read.
-use Rattle.std.proofs.Common.{w32, to_z-of_z, add-one, arith, sym, ◌∙◌, ap}
-use Rattle.exact.specs.Rounding.{round}
+use Rattle.std.proofs.Common.{w32, to_z-of_z, add-one, arith, ◌∙◌}
 use Rattle.model.specs.Read.{reading, exact_value}
 use Rattle.lookup.proofs.Areas.{most, read_before_last, inside_at}
 use Rattle.lookup.proofs.factor_at.Goals as goal

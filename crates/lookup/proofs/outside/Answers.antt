@@ -1,5 +1,5 @@
 -- Row 7 by the first and the last area.
-use Rattle.std.proofs.Common.{arith, lt-ltb, le-ltb, sym}
+use Rattle.std.proofs.Common.{arith, lt-ltb, le-ltb}
 use Rattle.lookup.proofs.Areas.{least, outside_is}
 use Rattle.lookup.proofs.outside.Goals as goal
 
