@@ -5,7 +5,9 @@
 --   lines_are                    those from the first area on are the sheet's
 --   one_more, all_lines          a text and the lines that are left: a line more; no line is left
 -- Assumes nothing.
-use Rattle.std.proofs.Common.{◌≡◌, ℕ, suc, ◌+◌, ◌-◌, ◌/◌, ◌≤◌, ◌<◌, List, [], ◌∷◌, ◌++◌, true, false, append_assoc, append-nil, length, arith, ℤ, FitsSigned, w32, to_z, of_z, to_z-of_z}
+use Rattle.std.proofs.Common.{◌≡◌, ℕ, suc, ◌+◌, ◌-◌, ◌/◌, ◌≤◌, ◌<◌, ℤ, w32, to_z, of_z, to_z-of_z, arith}
+use Rattle.std.proofs.Common.{true, false, List, [], ◌∷◌, ◌++◌, length, append_assoc, append-nil}
+use lib.Signed.{mag}
 use borrow.Author.Tests.{le-ltb}
 use Rattle.model.specs.Points.{area_most, Point, Rule}
 use Rattle.model.specs.Read.{outside, reading}
@@ -47,12 +49,12 @@ module _ (ps : List Point) (code : ℕ) where
   pub one_more : (text : List ℕ) {line whole : List ℕ} {area end : ℕ} {factor : ℤ} →
       text ++ lines_left area end ≡ whole →
       area ≤ end →
-      FitsSigned w32 factor →
+      mag factor < 2147483648 →
       factor ≡ reading ps code area →
       line ≡ entry_line area (to_z w32 (of_z w32 factor)) →
       (text ++ line) ++ lines_left (area + step) end ≡ whole
-  one_more text {area = area} {end = end} lines h fits e k =
-      rw (k, to_z-of_z fits, e, append_assoc, lines_next area end h) lines
+  one_more text {area = area} {end = end} lines h small e k =
+      rw (k, to_z-of_z (record { sfits = small }), e, append_assoc, lines_next area end h) lines
 
   lines_end : (area end : ℕ) → end < area → lines_left area end ≡ []
   unfolding entry_lines
@@ -60,7 +62,8 @@ module _ (ps : List Point) (code : ℕ) where
       let e : so_many area end ≡ 0 = omega arith in
       rw (e, entry_lines)
 
-  pub all_lines : (text : List ℕ) {whole : List ℕ} {area end : ℕ} → text ++ lines_left area end ≡ whole → end < area → text ≡ whole
+  pub all_lines : (text : List ℕ) {whole : List ℕ} {area end : ℕ} → text ++ lines_left area end ≡ whole → end < area →
+      text ≡ whole
   all_lines text {area = area} {end = end} e h = rw (lines_end area end h, append-nil) at e
 
   module _ (e : accepts ps code ≡ true) where
@@ -73,7 +76,8 @@ module _ (ps : List Point) (code : ℕ) where
     pub inside : (area : ℕ) → first ps ≤ area → area ≤ last ps → outside ps area ≡ false
     inside area h k = rw (outside_is ps code e area, le-ltb area _ h, le-ltb _ area k)
 
-pub lines_are : (ps : List Point) (code : ℕ) → accepts ps code ≡ true → lines_left ps code (first ps) (last ps) ≡ sheet_lines ps code
+pub lines_are : (ps : List Point) (code : ℕ) → accepts ps code ≡ true →
+    lines_left ps code (first ps) (last ps) ≡ sheet_lines ps code
 unfolding sheet_lines
 lines_are [] code e = absurd (omega (arith, least [] code e))
 lines_are (p ∷ ps) code e =

@@ -1,9 +1,9 @@
 -- The rows of a file for a sheet.
---   head_passed       a file whose head is right
---   head_refused      rows 9 and 10 of the file's head decide
---   too_long          a file of more than 775 bytes, whose head is right
---   points_decide     otherwise rows 1 to 6 of the points do
---   answer_map, ok_is what a result says, of its value's parts
+--   answer_map, ok_is    what a result says of a part of its value
+--   head_passed          a file whose head is right
+--   head_refused         rows 9 and 10 of the file's head decide
+--   too_long             a file of more than 775 bytes, whose head is right
+--   points_decide        otherwise rows 1 to 6 of the points do
 -- Assumes nothing.
 use Rattle.std.proofs.Common.{◌≡◌, sym, ap, ℕ, ◌≤◌, ◌<◌, Bool, true, false, List, length, arith}
 use Rattle.std.specs.Prelude.{Result, Ok, Err, IfOk}
@@ -22,7 +22,8 @@ use Rattle.file.specs.Open.{short_list, open_answer}
 use Rattle.sheet_text.specs.SheetText.{file_answer}
 
 module _ {A B C : Type 0} (f : A → B) (g : B → C) (rows : Answer (Unit {0})) (x : B) where
-  pub answer_map : (r : Result A Refusal) → answer_of f r ≡ (rows then gives x) → answer_of (λ a. g (f a)) r ≡ (rows then gives (g x))
+  pub answer_map : (r : Result A Refusal) → answer_of f r ≡ (rows then gives x) →
+      answer_of (λ a. g (f a)) r ≡ (rows then gives (g x))
   unfolding ◌then◌
   answer_map (Ok a) e = rw (then_first rows _ (sym e), gives_injective (then_rest rows _ (sym e)))
   answer_map (Err d) e = sym (then_refused rows _ (refused_first rows x (sym e)))

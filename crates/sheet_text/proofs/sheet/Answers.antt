@@ -25,7 +25,16 @@ loop-area-init c =
     let end = rw c.count-n.ensures at c.area-last.ensures in
     record {
       room = omega (arith, c.words_line-text.ensures.short, end, last_limit _ _ e);
-      lines = rw (end, c.area-first.ensures, lines_are _ _ e, c.words_line-text.ensures.line, c.code.ensures, c.count-n.ensures, size_of_points _);
+      lines =
+          rw (
+            end,
+            c.area-first.ensures,
+            lines_are _ _ e,
+            c.words_line-text.ensures.line,
+            c.code.ensures,
+            c.count-n.ensures,
+            size_of_points _,
+          );
     }
 
 pub factor-requires : goal.factor-requires
@@ -42,8 +51,7 @@ loop-area-preserved c =
     let line = c.deref.ensures.0 ∙ c.entry_line.ensures in
     record {
       room = omega (arith, c.push_str.ensures.len, k.room);
-      lines = rw c.push_str.ensures.bytes
-          (one_more _ _ _ k.lines (omega arith) (record { sfits = c.factor.type_inv }) c.factor.ensures line);
+      lines = rw c.push_str.ensures.bytes (one_more _ _ _ k.lines (omega arith) c.factor.type_inv c.factor.ensures line);
     }
 
 pub returns : goal.returns
@@ -51,8 +59,7 @@ returns c = all_lines _ _ _ c.loop-area.invariant.lines (omega arith)
 
 pub returns-2 : goal.returns-2
 returns-2 c =
+    let k = c.loop-area.invariant in
     let line = c.deref.ensures.0 ∙ c.entry_line.ensures in
-    let lines =
-    one_more _ _ _ c.loop-area.invariant.lines (omega arith) (record { sfits = c.factor.type_inv }) c.factor.ensures line
-    in
-    rw c.push_str.ensures.bytes (all_lines _ _ _ lines (omega arith))
+    let all = all_lines _ _ _ (one_more _ _ _ k.lines (omega arith) c.factor.type_inv c.factor.ensures line) (omega arith) in
+    rw c.push_str.ensures.bytes all
