@@ -12,13 +12,13 @@ use lib.Seq.{drop-length}
 use Rattle.exact.proofs.Tests.{≤_of_lt_z_false}
 use Rattle.exact.proofs.Fractions.{positivity}
 use Rattle.exact.proofs.Floor.{floor_greatest}
-use Rattle.model.specs.Answer.{gives, filled}
+use Rattle.model.specs.Answer.{gives, ◌then◌, filled}
 use Rattle.model.specs.Points.{points, segments}
-use Rattle.model.specs.Check.{check_answer, on_lists}
+use Rattle.model.specs.Check.{curve_rows, check_answer, on_lists}
+use Rattle.model.proofs.Answers.{on_lists_is, on_lists_gives}
+use Rattle.model.proofs.Lists.{fields_of, fields_length}
 use Rattle.model.proofs.Filling.{tabulate_length, tabulate_at}
 use Rattle.model.proofs.Indexed.{segments_length}
-use Rattle.rows.proofs.Faults.{no_fault}
-use Rattle.rows.proofs.Lists.{accepts, on_points}
 use Rattle.harmonic.specs.Rule.{hundredths, figure, figures}
 use Rattle.harmonic.specs.Fill.{too_steep, fill_answer, slopes_after}
 use Rattle.harmonic.specs.Inner.{Climbing}
@@ -64,13 +64,15 @@ module _ (areas values : List ℕ) (slopes : List ℤ) (n : ℕ) (e : fill_answe
       }
 
   passes : on_lists areas values (slopes_after areas values slopes) (λ ps. check_answer ps 1) ≡ gives (n - 1)
-  unfolding check_answer
+  unfolding check_answer ◌then◌
   passes =
       let rows = suited_rows g.counted (figures areas values) (sym (figures_size areas values)) suits ∙ g.rated in
-      let k = accepts areas values (figures areas values) 1 0 0 (no_fault 0 refl ∙ sym rows) refl in
+      let k = on_lists_gives areas values (figures areas values) (λ ps. curve_rows ps 1) rows in
       let ps = points areas values (figures areas values) in
-      let number : length (segments ps) ≡ n - 1 = omega (arith, segments_length ps, k.size, g.number) in
-      rw after (on_points k (λ ps. gives (length (segments ps))) ∙ ap gives number)
+      let size = fields_length (fields_of areas values (figures areas values) k.alike) in
+      let number : length (segments ps) ≡ n - 1 = omega (arith, segments_length ps, size, g.number) in
+      rw after (on_lists_is areas values (figures areas values) (λ ps. check_answer ps 1) k.same_lengths
+      ∙ (rw k.result (ap gives number)))
 
   entry : (i : ℕ) → i < n → get_or (slopes_after areas values slopes) i (pos 0) ≡ figure areas values i
   entry i h = rw after (figure_at areas values i (omega (arith, g.number)))
