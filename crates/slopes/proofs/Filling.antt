@@ -4,14 +4,14 @@
 --   refuses     the next figure is too steep
 --   written     figures that are copied over a list of as many slopes
 -- Assumes nothing.
-use Rattle.std.proofs.Common.{◌≡◌, ℕ, ◌+◌, ◌≤◌, ◌<◌, true, false, ltb, List, length, set, ℤ, pos, sym, ◌∙◌, arith}
+use Rattle.std.proofs.Common.{◌≡◌, ℕ, ◌+◌, ◌<◌, false, ltb, List, length, set, ℤ, pos, sym, ◌∙◌, arith}
 use Rattle.std.proofs.Common.{take, drop, ◌++◌, append-nil, inl, inr, lt-ltb, ltb-false, to_z, of_z, to_z-of_z, w32}
 use lib.Seq.{take_at, drop-length}
 use Rattle.exact.proofs.Tests.{compare, true_or_false}
 use Rattle.model.specs.Answer.{Answer, gives, refused, row, ◌then◌, row_at_each}
 use Rattle.model.specs.Points.{slope_most}
 use Rattle.model.proofs.Rows.{gives_injective, refused≢gives, then_rest, row_passed}
-use Rattle.model.proofs.Places.{each_first, each_passes}
+use Rattle.model.proofs.Places.{each_first}
 use Rattle.model.proofs.Filling.{Filling, filling_starts, filling_goes_on, tabulate_length}
 use Rattle.harmonic.specs.Rule.{figure, figures}
 use Rattle.harmonic.specs.Fill.{too_steep}

@@ -62,7 +62,7 @@ fn slope_at(place: u32, figure: u64) -> Result<i32, Refusal>
     Ok(figure as i32)
 }
 
-// As many areas as values: points with slopes that are all 0.
+// As many areas as values: points whose slopes are all 0.
 #[derive(Clone, Copy)]
 struct Rated<'a> {
     areas: &'a [u32],
@@ -154,7 +154,8 @@ impl Rising<'_> {
     }
 }
 
-// The number of points.
+// Row 1 of the lists; rows 1, 3, 4 and 6, which are those of a rising curve with slopes 0; row 5 of the figures. The list is
+// written only after that. The result is the number of points.
 fn supply(areas: &[u32], values: &[u32], slopes: &mut [i32]) -> Result<u32, Refusal>
     ensures answer { answer_of (λ n. n) result ≡ fill_answer areas.now values.now (length slopes.old) }
     ensures slopes { slopes.new

@@ -2,15 +2,14 @@
 use Rattle.std.proofs.Common.{◌≡◌, ℤ, length, refl, sym, ◌∙◌, arith}
 use lib.ListN.{length-take}
 use Rattle.model.specs.Answer.{gives, row, ◌then◌, filled}
-use Rattle.model.specs.Check.{lengths_differ, curve_rows}
+use Rattle.model.specs.Check.{curve_rows}
 use Rattle.model.specs.Inner.{Alike}
 use Rattle.model.proofs.Rows.{alike_of_row_1, then_first}
-use Rattle.model.proofs.Answers.{refused_first, then_refused}
 use Rattle.refusal.proofs.Results.{refused_exit}
 use Rattle.harmonic.specs.Fill.{fill_answer}
-use Rattle.harmonic.specs.Inner.{zero_slope_points, Climbing}
+use Rattle.harmonic.specs.Inner.{zero_slope_points}
 use Rattle.harmonic.proofs.Rising.{climbing_of}
-use Rattle.harmonic.proofs.Answers.{answer_refused, answer_after}
+use Rattle.harmonic.proofs.Answers.{refused_by_rows, refused_by_steep, given_all}
 use Rattle.slopes.proofs.Filling.{written}
 use Rattle.slopes.proofs.supply.Goals as goal
 use Rattle.slopes.proofs.supply.Goals.{Else-lengths_differ, In_ok-new}
@@ -34,8 +33,7 @@ invariant_of-new c = record { values_too = (alike (goal.at.invariant_of-new c).E
 pub returns-in_err-new-clause-answer : goal.returns-in_err-new-clause-answer
 returns-in_err-new-clause-answer c =
     let same = sym c.lengths_differ.ensures ∙ c.if-lengths_differ.false in
-    let e = refused_first (curve_rows (zero_slope_points c.args.areas.now c.args.values.now) c.code.result) _ (sym c.in_err-new.ensures) in
-    refused_exit _ _ _ c.from_residual.ensures.1 ∙ sym (answer_refused _ _ _ same (rw c.code.ensures at e))
+    refused_exit _ _ _ c.from_residual.ensures.1 ∙ refused_by_rows _ _ _ same _ (rw c.code.ensures at c.in_err-new.ensures)
 
 pub returns-in_err-new-clause-slopes : goal.returns-in_err-new-clause-slopes
 unfolding filled
@@ -44,9 +42,7 @@ returns-in_err-new-clause-slopes c = rw (refused_exit _ _ _ c.from_residual.ensu
 -- ---- the points climb
 
 pass : (c : In_ok-new) → curve_rows (zero_slope_points c.args.areas.now c.args.values.now) 1 ≡ gives tt
-pass c =
-    let e = then_first (curve_rows (zero_slope_points c.args.areas.now c.args.values.now) c.code.result) _ (sym c.in_ok-new.ensures) in
-    rw c.code.ensures at e
+pass c = then_first (curve_rows _ 1) _ (sym (rw c.code.ensures at c.in_ok-new.ensures))
 
 pub invariant_of-rising : goal.invariant_of-rising
 invariant_of-rising c =
@@ -56,9 +52,9 @@ invariant_of-rising c =
 pub returns-in_err-fill_figures-clause-answer : goal.returns-in_err-fill_figures-clause-answer
 returns-in_err-fill_figures-clause-answer c =
     let same = sym c.lengths_differ.ensures ∙ c.if-lengths_differ.false in
-    let k = answer_after _ _ _ same (pass (goal.at.returns-in_err-fill_figures-clause-answer c).In_ok-new) in
+    let e = pass (goal.at.returns-in_err-fill_figures-clause-answer c).In_ok-new in
     refused_exit _ _ _ c.from_residual-in_err-fill_figures.ensures.1
-    ∙ sym (k ∙ then_refused _ _ (sym c.in_err-fill_figures.ensures.answer))
+    ∙ refused_by_steep _ _ _ same e c.in_err-fill_figures.ensures.answer
 
 pub returns-in_err-fill_figures-clause-slopes : goal.returns-in_err-fill_figures-clause-slopes
 unfolding filled
@@ -73,11 +69,9 @@ copy_from_slice-requires c =
     omega (arith, (alike at.Else-lengths_differ).slopes_too, k.counted.most, c.fill_figures.array_long, length-take {A = ℤ})
 
 pub returns-clause-answer : goal.returns-clause-answer
-unfolding ◌then◌
 returns-clause-answer c =
     let same = sym c.lengths_differ.ensures ∙ c.if-lengths_differ.false in
-    let k = answer_after _ _ _ same (pass (goal.at.returns-clause-answer c).In_ok-new) in
-    sym (k ∙ (rw (← c.in_ok-fill_figures.ensures.answer)))
+    given_all _ _ _ same (pass (goal.at.returns-clause-answer c).In_ok-new) c.in_ok-fill_figures.ensures.answer
 
 pub returns-clause-slopes : goal.returns-clause-slopes
 unfolding filled

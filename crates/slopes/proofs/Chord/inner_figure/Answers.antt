@@ -1,5 +1,5 @@
 -- The quotient is the figure of the rule's case.
-use Rattle.std.proofs.Common.{sym, rules}
+use Rattle.std.proofs.Common.{sym}
 use Rattle.harmonic.proofs.Quotients.{inner_flat, inner_figure}
 use Rattle.slopes.proofs.Chord.inner_figure.Goals as goal
 

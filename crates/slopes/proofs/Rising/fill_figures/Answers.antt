@@ -1,12 +1,11 @@
 -- Each figure that row 5 passes fills one entry more; the first that it refuses decides.
-use Rattle.std.proofs.Common.{◌≡◌, ◌+◌, ◌-◌, length, refl, pos, sym, ◌∙◌, ap, arith}
+use Rattle.std.proofs.Common.{◌≡◌, ◌+◌, ◌-◌, length, pos, sym, ◌∙◌, ap, arith}
 use Rattle.model.proofs.Filling.{filled_up}
 use Rattle.model.proofs.Places.{each_passes}
 use Rattle.refusal.proofs.Results.{refused_exit}
 use Rattle.harmonic.specs.Rule.{hundredths, figure}
-use Rattle.harmonic.specs.Fill.{too_steep}
 use Rattle.harmonic.proofs.Chords.{slope_inside}
-use Rattle.slopes.proofs.Filling.{Filled, starts, goes_on, refuses}
+use Rattle.slopes.proofs.Filling.{starts, goes_on, refuses}
 use Rattle.slopes.proofs.Rising.fill_figures.Goals as goal
 use Rattle.slopes.proofs.Rising.fill_figures.Goals.{After-inner_figure}
 
