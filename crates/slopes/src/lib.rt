@@ -133,7 +133,7 @@ impl Rising<'_> {
         self.chord(n - 2).end_figure(self.chord(n - 3))
     }
 
-    // Fills the first entries with figures, unless row 5 refuses one.
+    // Fills the first entries with figures, up to the first that row 5 refuses.
     fn fill_figures(&self, out: &mut [i32; POINTS_MOST]) -> Result<(), Refusal>
         ensures answer { checked result
             ≡ row_at_each (too_steep self.now.areas.now self.now.values.now) 5 0 (length self.now.areas.now) }
@@ -154,8 +154,8 @@ impl Rising<'_> {
     }
 }
 
-// Row 1 of the lists; rows 1, 3, 4 and 6, which are those of a rising curve with slopes 0; row 5 of the figures. The list is
-// written only after that. The result is the number of points.
+// Rows 1, 3, 4 and 6 are those of a rising curve whose slopes are 0; then row 5 of the figures. The list is written last. The
+// result is the number of points.
 fn supply(areas: &[u32], values: &[u32], slopes: &mut [i32]) -> Result<u32, Refusal>
     ensures answer { answer_of (λ n. n) result ≡ fill_answer areas.now values.now (length slopes.old) }
     ensures slopes { slopes.new
