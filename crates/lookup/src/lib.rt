@@ -31,16 +31,16 @@ pub fn takes<P: Points>(curve: &Curve<P>, i: usize, area: u32) -> bool
     i + 2 == points.count() || area < points.area(i + 1)
 }
 
-// From an area that is not above the area read, the last of every STEP-th before `end` that is not. All of them are looked at, so
+// From an area that is not above the area read, the last of every step-th before `end` that is not. All of them are looked at, so
 // that no branch depends on the area read; the indices have 32 bits, so that the compiler looks at four at a time.
-fn last_not_above<P: Points, const STEP: u32>(points: &P, from: u32, end: u32, area: u32) -> u32
-    requires strides { Strides (length (P.points points.now)) from STEP end }
+fn last_not_above<P: Points>(points: &P, from: u32, step: u32, end: u32, area: u32) -> u32
+    requires strides { Strides (length (P.points points.now)) from step end }
     requires reached { Reached (areas_of (P.points points.now)) from area }
-    ensures { LastOf (areas_of (P.points points.now)) result STEP end area }
+    ensures { LastOf (areas_of (P.points points.now)) result step end area }
 {
     let mut last = from;
-    for k in 1..(end - from - 1) / STEP + 1 {
-        let i = from + STEP * k;
+    for k in 1..(end - from - 1) / step + 1 {
+        let i = from + step * k;
         if points.area(i as usize) <= area {
             last = i;
         }
@@ -58,8 +58,8 @@ fn search<P: Points>(curve: &Curve<P>, area: u32) -> usize
         return 0;
     }
     let last = (points.count() - 1) as u32;
-    let from = last_not_above::<P, 8>(&points, 0, last, area);
-    last_not_above::<P, 1>(&points, from, last.min(from + 8), area) as usize
+    let from = last_not_above(&points, 0, 8, last, area);
+    last_not_above(&points, from, 1, last.min(from + 8), area) as usize
 }
 
 // Row 7; then the index of the segment read.

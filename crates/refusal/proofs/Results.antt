@@ -1,6 +1,6 @@
 -- Results as answers.
 --   gives_no_err    what is no Err is a result
---   refused_exit    the exit of a `?` is the refusal
+--   refused_exit    the exit of a `?` is the refusal; row_exit, that of a row
 -- Assumes nothing.
 use Rattle.std.proofs.Common.{◌≡◌, ℕ, false, refl}
 use Rattle.std.specs.Prelude.{Result, Ok, Err, is_err, IsErrAnd}
@@ -17,3 +17,8 @@ pub refused_exit : {A B : Type 0} (f : A → B) (r : Result A Refusal) (d : Refu
     answer_of f r ≡ refused (number_of d.row) d.place
 refused_exit f (Ok x) d k = absurd k
 refused_exit f (Err e) d k = rw k
+
+pub row_exit : {A B : Type 0} (f : A → B) (place : ℕ) (r : Result A Row) (row : Row) → IsErrAnd r (λ e. e ≡ row) →
+    answer_at place f r ≡ refused (number_of row) place
+row_exit f place (Ok x) row k = absurd k
+row_exit f place (Err e) row k = rw k

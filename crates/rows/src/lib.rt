@@ -87,7 +87,8 @@ fn check_segments<P: Points>(points: &P, shape: Shape) -> Result<(), Refusal>
             left: points.point(left),
             right: points.point(left + 1),
         };
-        if !segment.has_shape(shape) {
+        let shaped = segment.has_shape(shape);
+        if !shaped {
             return Err(Row::Segment.at(left as u32));
         }
     }

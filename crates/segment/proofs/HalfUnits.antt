@@ -1,8 +1,10 @@
 -- The rounding of a number of hundredths, in units.
 --   half_up               n hundredths and half a unit, rounded down
+--   sticky_most           a digit is at most 1
 --   about                 n hundredths, and half of one more or none, are less than one hundredth off n
 --   at_tie                where n ends in 50 they are k − 1 and half a unit or more
---   up_read               half_up as the code has it; hundreds_fits, a hundred times that; before_read, the number before
+--   up_read               half_up as the code has it; hundreds_fits, a hundred times that; before_read, the number before,
+--                         and before_size, how large that is
 --   at_half, off_half     the code's test: n ends in 50, or all that is less than one hundredth off n is rounded to half_up
 -- Assumes nothing.
 use mathlib.Core.Path.{◌≡◌, sym, ◌∙◌, ap}
@@ -62,7 +64,7 @@ module _ (n : ℤ) where
             (Q.positive_+ (search positivity) (search positivity) (Q.positive_difference a.low) (Q.nonneg_over _ _ low)))
       ]
 
-sticky_most : (r : ℕ) → sticky r ≤ 1
+pub sticky_most : (r : ℕ) → sticky r ≤ 1
 sticky_most r = elim (true_or_false (eqb r 0)) [ inl e ↦ rw e (omega arith) | inr e ↦ rw e (omega arith) ]
 
 about_half : (n : ℤ) (s : ℕ) → s ≤ 1 → About n ((pos 2 *ℤ n +ℤ pos s) over pos 200)
@@ -133,5 +135,9 @@ module _ (n : ℤ) (most : nat_abs n ≤ 90000000) where
       let other : n +ℤ pos 50 ≡ pos 100 *ℤ half_up n → ⊥ = λ e. differ (rw half_is (ap (λ (z : ℤ). of_z w32 z) e)) in
       round_rounding.unique a.proper (off_tie n other v a)
 
-pub before_read : {n k : ℤ} → HalfWay n k → to_z w32 (of_z w32 (k -ℤ pos 1)) ≡ k -ℤ pos 1
-before_read {k = k} e = to_z-of_z (sfits_of_size w32 _ (omega (arith, size-- k (pos 1), e.size)))
+module _ {n k : ℤ} (e : HalfWay n k) where
+  pub before_size : nat_abs (k -ℤ pos 1) ≤ 1000000
+  before_size = omega (arith, size-- k (pos 1), e.size)
+
+  pub before_read : to_z w32 (of_z w32 (k -ℤ pos 1)) ≡ k -ℤ pos 1
+  before_read = to_z-of_z (sfits_of_size w32 _ (omega (arith, before_size)))

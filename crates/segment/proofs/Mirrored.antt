@@ -8,14 +8,13 @@ use mathlib.Core.Path.{◌≡◌, refl, sym, ◌∙◌, ap}
 use mathlib.Core.Logic.{◌⊎◌, inl, inr}
 use Prim.Native.Nat.{ℕ, ◌-◌}
 use native.Mathlib.Omega.{arith}
-use lib.Dec.{lit<}
 use lib.IntN.{ℤ, pos, ◌-ℤ◌, neg_ℤ-neg_ℤ}
 use mir.Syntax.{w32}
 use mir.Val.{SFits}
 use Rattle.exact.specs.Rounding.{round}
 use Rattle.exact.proofs.Magnitude.{size--, sfits_of_size}
 use Rattle.exact.proofs.Rounding.{round_rounding}
-use Rattle.model.specs.Points.{value_most, Point, Segment, mirror, mirror_segment, rising, convex, plain, mirrored, rule_of}
+use Rattle.model.specs.Points.{value_most, Point, Segment, mirror, mirror_segment, plain, rule_of}
 use Rattle.model.specs.Interpolant.{interpolant, exact_curve}
 use Rattle.model.specs.Inner.{Limits, Neighbours, Good, Inside}
 use Rattle.model.proofs.Mirror.{value_most_even, mirror_good}

@@ -20,7 +20,7 @@ returns-in-Convex c =
     rw (c.in-Convex.is, rule_of_convex)
     (rw (left_read n k, chord_read n k, right_read n k) at c.bends.ensures ∙ sym (convex_test n k))
 
--- of whichever call the arm makes
+-- No step is cited by its name, so that an edit of the arm is refused for its value.
 pub returns-in-Falling : goal.returns-in-Falling
 returns-in-Falling c =
     let code : code_of c.args.shape ≡ 3 = ap code_of c.in-Falling.is in
