@@ -8,7 +8,7 @@ use borrow.Author.Tests.{le-ltb}
 use lib.IntN.{ℤ}
 use lib.ListN.{length, take, drop}
 use lib.Seq.{take_at}
-use Rattle.model.specs.Answer.{Answer, gives, row, ◌then◌, filled}
+use Rattle.model.specs.Answer.{gives, row, ◌then◌, filled}
 use Rattle.model.specs.Points.{Point, points}
 use Rattle.model.specs.Check.{curve_rows}
 use Rattle.model.specs.Inner.{Accepted}

@@ -1,7 +1,8 @@
 -- Row 1 of the lists and rows 1 to 6, row 12, or the file. A refusal leaves the buffer as it was.
 use Rattle.std.proofs.Common.{arith}
 use Rattle.refusal.proofs.Results.{refused_exit}
-use Rattle.file.proofs.Writing.{count_listed, count_most, file_in_buffer, buffer_left, refused_by_curve, refused_by_buffer, written}
+use Rattle.file.proofs.Writing.{count_listed, count_most, file_in_buffer}
+use Rattle.file.proofs.Writing.{buffer_left, refused_by_curve, refused_by_buffer, written}
 use Rattle.file.proofs.put.Goals as goal
 
 pub returns-in_err-curve : goal.returns-in_err-curve
