@@ -6,6 +6,6 @@ use Rattle.refusal.specs.Refusal.{number_of}
 use Rattle.slopes.specs.declared.Supplied.{Supplied}
 use Rattle.slopes.specs.declared.Supplied.TheVariants as supplied
 
-unfoldable pub supplied_answer : Supplied → Answer ℕ
+abbrev pub supplied_answer : Supplied → Answer ℕ
 supplied_answer (supplied.Points count) = gives count
 supplied_answer (supplied.Refused row place) = refused (number_of row) place

@@ -3,9 +3,7 @@ use Rattle.slopes.specs.Calls.{supplied_answer}
 use Rattle.slopes.proofs.fill_slopes.Goals as goal
 
 pub returns-in-Ok : goal.returns-in-Ok
-unfolding supplied_answer
 returns-in-Ok c = c.in-Ok.ensures
 
 pub returns-in-Err : goal.returns-in-Err
-unfolding supplied_answer
 returns-in-Err c = c.in-Err.ensures
