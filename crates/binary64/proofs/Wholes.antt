@@ -84,7 +84,8 @@ few_digits s zero e t = omega arith
 few_digits s (suc m) e t = le_of_lt (bounds s m e t).digits
 
 -- two that compare equal have one value
-value_of_eq : (y : Float) (s : Bool) (q m : ℕ) (e : ℤ) → HasValue y s q 1 → eq y (fin s m e) ≡ true → m * up e ≡ q * down e
+value_of_eq : (y : Float) (s : Bool) (q m : ℕ) (e : ℤ) → HasValue y s q 1 → eq y (fin s m e) ≡ true →
+    m * up e ≡ q * down e
 unfolding eq
 value_of_eq nan s q m e v h = absurd v
 value_of_eq (inf t) s q m e v h = absurd v
@@ -109,7 +110,7 @@ in_range : (s : Bool) (n : ℕ) → cond s (neg_ℤ (pos (min n 2147483648))) (p
 unfolding saturate
 in_range false n = refl
 in_range true zero = refl
-in_range true (suc n) = refl
+in_range true (suc n) = let e : min (suc n) 2147483648 ≡ suc (min n 2147483647) = omega arith in rw e
 
 pub taken : (x : Float) → T (fits binary64 x) → float_is_finite x ≡ true → eq (trunc binary64 x) x ≡ true →
     some (to_signed 31 x) ≡ saturated (whole_number x)

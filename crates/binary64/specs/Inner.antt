@@ -3,12 +3,12 @@
 --   figure_of    an Option of the code, as one of the definitions
 -- Assumes nothing.
 use Rattle.std.specs.Prelude as code
-use Rattle.std.specs.Prelude.{suc, min, ℤ, pos, negsuc, neg_ℤ}
+use Rattle.std.specs.Prelude.{min, ℤ, pos, negsuc}
 use Rattle.std.proofs.Math.Option.{Option, none, some}
 
 unfoldable pub saturate : ℤ → ℤ
 saturate (pos n) = pos (min n 2147483647)
-saturate (negsuc n) = neg_ℤ (pos (min (suc n) 2147483648))
+saturate (negsuc n) = negsuc (min n 2147483647)
 
 unfoldable pub saturated : Option ℤ → Option ℤ
 saturated none = none

@@ -1,4 +1,3 @@
 -- Laws that other crates cite.
-pub mod Limits
-pub mod Rows
+mod Limits
 mod Taking

@@ -10,7 +10,8 @@ returns-then-trunc-x c =
     let x = c.args.x in
     let z = c.saturating_f64_to_i32 in
     rw (to_z-of_z {w = w32} {z = z.result} (record { sfits = z.type_inv }), z.ensures)
-    (taken x (T_from_true _ c.well_formed.0.1) (sym c.is_finite.ensures.value ∙ c.if-is_finite.true) (rw c.trunc.ensures at c.if-trunc-x.true))
+    (taken x (T_from_true _ c.well_formed.0.1) (sym c.is_finite.ensures.value ∙ c.if-is_finite.true)
+    (rw c.trunc.ensures at c.if-trunc-x.true))
 
 pub returns : goal.returns
 returns c =
