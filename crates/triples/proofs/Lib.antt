@@ -1,3 +1,7 @@
 -- Laws that other crates cite.
 mod Limits
 mod Taking
+mod Rows
+mod Decoding
+mod Answered
+pub mod Sizes

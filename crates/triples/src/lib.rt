@@ -89,21 +89,22 @@ impl<'a> Triples<'a> {
         requires { count self.now.bytes.now ≤ length points.old }
         ensures { map point_of result.now ≡ whole_points (exported self.now.bytes.now) }
     {
-        for i in 0..self.count() {
+        let n = self.count();
+        for i in 0..n {
             let Some(p) = self.point(i) else {
                 return &points[..i];
             };
             points[i] = p;
         }
-        &points[..self.count()]
+        &points[..n]
     }
 
     // Rows 1 to 6 and 14. The points are written into a list.
     pub fn curve<'p>(&self, code: u32, points: &'p mut [Point]) -> Result<Curve<&'p [Point]>, Refusal>
         requires { model.points_most ≤ length points.old }
-        ensures { answer_of {B = List model.Point × ℕ} (λ c. (map point_of c.points.now, code_of c.shape)) result
+        ensures { answer_of (λ curve. map point_of curve.points.now) result
             ≡ (export_rows (exported self.now.bytes.now) code
-            then gives (map point_from (exported self.now.bytes.now), code)) }
+            then gives (map point_from (exported self.now.bytes.now))) }
     {
         if rows::bad_count(self.count()) {
             return Err(Row::Count.at(0));
