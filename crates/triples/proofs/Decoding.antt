@@ -2,7 +2,7 @@
 --   Decoded             the first i entries of a list are the first points, and those after them are left
 --   decoded_starts      none; decoded_more, one more; decoded_ends, no more are taken
 -- Assumes nothing.
-use Rattle.std.proofs.Common.{◌≡◌, refl, sym, ◌∙◌, ap, ℕ, suc, ◌+◌, ◌-◌, ◌<◌, ◌≤◌, add-one, arith, append_assoc, append-nil}
+use Rattle.std.proofs.Common.{◌≡◌, refl, sym, ◌∙◌, ℕ, suc, ◌+◌, ◌-◌, ◌<◌, ◌≤◌, add-one, arith, append_assoc, append-nil}
 use Rattle.std.proofs.Common.{List, [], ◌∷◌, ◌++◌, map, length, take, set}
 use native.Mathlib.Nat.{sub-zero}
 use Rattle.std.proofs.Math.Option.{Option, none, some}

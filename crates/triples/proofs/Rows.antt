@@ -17,7 +17,7 @@ use lib.Dec.{ltb, leb, ltb→lt, lt→ltb}
 use lib.ListN.{length}
 use Rattle.exact.proofs.Tests.{same_test, or_left}
 use Rattle.model.specs.Answer.{Answer, gives, refused, row, ◌then◌}
-use Rattle.model.specs.Points.{Point, segments, rule_of}
+use Rattle.model.specs.Points.{segments, rule_of}
 use Rattle.model.specs.Check.{bad_count, bad_code, bad_area, bad_value, bad_slope, point_rows, segment_rows, curve_rows}
 use Rattle.model.specs.Inner.{Limits}
 use Rattle.model.proofs.Rows.{passed, row_refused, then_first, then_rest}

@@ -1,18 +1,16 @@
 // The statistics package's points: triples of binary64 figures.
 #![tactic(auto)]
 
-ghost use Rattle.std.specs.Prelude.{◌≡◌, false, map, suc, ◌+◌, ◌*◌, ◌<◌, ◌≤◌, ℕ, List, length};
+ghost use Rattle.std.specs.Prelude.{◌≡◌, false, map, ◌+◌, ◌<◌, ◌≤◌, length};
 ghost use Rattle.model.specs.Answer.{gives, row, ◌then◌};
-ghost use Rattle.model.specs.Points as model;
 ghost use Rattle.refusal.specs.Refusal.{answer_at, answer_of};
 ghost use Rattle.point.specs.Inner.{point_of};
-ghost use Rattle.shape.specs.Codes.{code_of};
 ghost use Rattle.triples.specs.Triples.{bad_length, figure_at, triple_at, count, taken, exported, point_from, export_rows};
 ghost use Rattle.triples.specs.Inner.{taken_point, outward, ranged, whole_points};
 
 use point::Point;
 use refusal::{Refusal, Row};
-use rows::Curve;
+use rows::{Curve, POINTS_MOST};
 use shape::Shape;
 use std::num::f64_from_bits_with_nan;
 
@@ -24,7 +22,7 @@ fn figure(bytes: &[u8], at: usize) -> f64
     requires { at + 8 ≤ length bytes.now }
     ensures { result ≡ figure_at bytes.now at }
 {
-    f64_from_bits_with_nan(u64::from_le_bytes([
+    let bits = u64::from_le_bytes([
         bytes[at],
         bytes[at + 1],
         bytes[at + 2],
@@ -33,7 +31,8 @@ fn figure(bytes: &[u8], at: usize) -> f64
         bytes[at + 5],
         bytes[at + 6],
         bytes[at + 7],
-    ]))
+    ]);
+    f64_from_bits_with_nan(bits)
 }
 
 // A number that may not be negative: where it is, one beyond every limit.
@@ -47,7 +46,7 @@ fn unsigned(z: i32) -> u32
 #[derive(Clone, Copy)]
 pub struct Triples<'a> {
     pub bytes: &'a [u8],
-    pub ghost whole: { bad_length bytes.now ≡ false },
+    pub ghost multiple: { bad_length bytes.now ≡ false },
 }
 
 impl<'a> Triples<'a> {
@@ -68,7 +67,8 @@ impl<'a> Triples<'a> {
         self.bytes.len() / TRIPLE_SIZE
     }
 
-    // The point at i, if its figures are whole. Those that 32 bits do not hold are as far beyond the limits as these allow.
+    // The point at i, if its figures are whole. Those that 32 bits do not hold, and areas and values below 0, become others that
+    // are beyond the limits too.
     fn point(&self, i: usize) -> Option<Point>
         requires { i < count self.now.bytes.now }
         ensures { taken_point result ≡ ranged (taken (triple_at self.now.bytes.now i)) }
@@ -84,7 +84,7 @@ impl<'a> Triples<'a> {
         })
     }
 
-    // Writes the points before the first with row 14 into the first entries of a list.
+    // The points before the first with row 14, which are written into the list.
     fn decode<'p>(&self, points: &'p mut [Point]) -> &'p [Point]
         requires { count self.now.bytes.now ≤ length points.old }
         ensures { map point_of result.now ≡ whole_points (exported self.now.bytes.now) }
@@ -99,22 +99,26 @@ impl<'a> Triples<'a> {
         &points[..n]
     }
 
-    // Rows 1 to 6 and 14. The points are written into a list.
-    pub fn curve<'p>(&self, code: u32, points: &'p mut [Point]) -> Result<Curve<&'p [Point]>, Refusal>
-        requires { model.points_most ≤ length points.old }
+    // Rows 1 to 6 and 14. The points are written into the list.
+    pub fn curve<'p>(
+        &self,
+        code: u32,
+        points: &'p mut [Point; POINTS_MOST],
+    ) -> Result<Curve<&'p [Point]>, Refusal>
         ensures { answer_of (λ curve. map point_of curve.points.now) result
             ≡ (export_rows (exported self.now.bytes.now) code
             then gives (map point_from (exported self.now.bytes.now))) }
     {
-        if rows::bad_count(self.count()) {
+        let n = self.count();
+        if rows::bad_count(n) {
             return Err(Row::Count.at(0));
         }
-        Shape::try_from(code)?;
         let whole = self.decode(points);
-        if whole.len() < self.count() {
-            rows::check_points(&whole)?;
-            return Err(Row::Whole.at(whole.len() as u32));
+        if whole.len() == n {
+            return Curve::new(whole, code);
         }
-        Curve::new(whole, code)
+        Shape::try_from(code)?;
+        rows::check_points(&whole)?;
+        Err(Row::Whole.at(whole.len() as u32))
     }
 }

@@ -1,5 +1,5 @@
 -- The number of eight bytes is a sum.
-use Rattle.std.proofs.Common.{◌≡◌, ℕ, suc, ◌+◌, ◌∙◌, ap, arith}
+use Rattle.std.proofs.Common.{◌≡◌, suc, ◌+◌, ◌∙◌, ap, arith}
 use lib.Ieee.{binary64, of_bits}
 use Rattle.layout.specs.Layout.{little_endian}
 use Rattle.triples.specs.Triples.{figure_at}
@@ -17,4 +17,4 @@ returns c =
     let e₆ : suc (at + 5) ≡ at + 6 = omega arith in
     let e₇ : suc (at + 6) ≡ at + 7 = omega arith in
     c.f64_from_bits_with_nan.ensures
-    ∙ ap (of_bits binary64) (rw (e₁, e₂, e₃, e₄, e₅, e₆, e₇) (omega (arith, c.from_le_bytes.ensures)))
+    ∙ ap (of_bits binary64) (rw (e₁, e₂, e₃, e₄, e₅, e₆, e₇) (omega (arith, c.from_le_bytes-bits.ensures)))

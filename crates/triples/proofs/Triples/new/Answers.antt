@@ -10,7 +10,7 @@ returns-then-cut_short c = rw (ne_eqb _ 0 c.if-cut_short.true)
 
 pub invariant_of-result : goal.invariant_of-result
 unfolding bad_length
-invariant_of-result c = record { whole = rw (eq-eqb _ 0 c.if-cut_short.false) }
+invariant_of-result c = record { multiple = rw (eq-eqb _ 0 c.if-cut_short.false) }
 
 pub returns : goal.returns
 unfolding bad_length row ◌then◌
