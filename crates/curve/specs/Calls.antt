@@ -2,6 +2,7 @@
 -- Assumes nothing.
 use Rattle.std.specs.Prelude.{ℕ, ℤ, pos, neg_ℤ, ◌≤ℤ◌}
 use Rattle.model.specs.Answer.{Answer, gives, refused}
+use Rattle.refusal.specs.Refusal.{number_of}
 use Rattle.curve.specs.declared.Checked.{Checked}
 use Rattle.curve.specs.declared.Checked.TheVariants as checked
 use Rattle.curve.specs.declared.Reading.{Reading}
@@ -11,15 +12,15 @@ use Rattle.curve.specs.declared.Filled.TheVariants as filled
 
 unfoldable pub checked_answer : Checked → Answer ℕ
 checked_answer (checked.Segments count) = gives count
-checked_answer (checked.Refused number place) = refused number place
+checked_answer (checked.Refused row place) = refused (number_of row) place
 
 unfoldable pub reading_answer : Reading → Answer ℤ
 reading_answer (reading.Factor factor) = gives factor
-reading_answer (reading.Refused number place) = refused number place
+reading_answer (reading.Refused row place) = refused (number_of row) place
 
 unfoldable pub filled_answer : Filled → Answer ℕ
 filled_answer (filled.Entries count) = gives count
-filled_answer (filled.Refused number place) = refused number place
+filled_answer (filled.Refused row place) = refused (number_of row) place
 
 -- no factor is below −200,000; nor, beyond document 01 and item 4, above 400,000
 unfoldable pub InRange : Answer ℤ → Type 0

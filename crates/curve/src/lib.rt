@@ -2,35 +2,53 @@
 #![tactic(auto)]
 
 ghost use Rattle.std.specs.Prelude.{◌≡◌, length};
+ghost use Rattle.model.specs.Answer.{gives, row, ◌then◌};
 ghost use Rattle.model.specs.Points.{points};
 ghost use Rattle.model.specs.Check.{check_answer, on_lists};
 ghost use Rattle.model.specs.Read.{read_answer};
 ghost use Rattle.model.specs.Sheet.{sheet_answer, sheet_list};
+ghost use Rattle.refusal.specs.Refusal.{answer_of};
 ghost use Rattle.curve.specs.Calls.{checked_answer, reading_answer, filled_answer, InRange};
 
+use refusal::{Refusal, Row};
+use rows::Curve;
+
 // What Check answers: the number of segments, or a refusal's number and place.
-#[derive(Clone, Copy)]
+#[derive(Clone, Copy, Debug, PartialEq, Eq)]
 pub enum Checked {
     Segments(u32),
-    Refused(u32, u32),
+    Refused(Row, u32),
 }
 
 pub fn check(areas: &[u32], values: &[u32], slopes: &[i32], shape: u32) -> Checked
     ensures { checked_answer result
         ≡ on_lists areas.now values.now slopes.now (λ ps. check_answer ps shape) }
 {
-    let fault = rows::curve_fault(areas, values, slopes, shape);
-    if fault.number != 0 {
-        return Checked::Refused(fault.number, fault.place);
+    match Curve::of_lists(areas, values, slopes, shape) {
+        Ok(_) => Checked::Segments((areas.len() - 1) as u32),
+        Err(refusal) => Checked::Refused(refusal.row, refusal.place),
     }
-    Checked::Segments((areas.len() - 1) as u32)
 }
 
 // What Read answers: the factor, or a refusal's number and place.
-#[derive(Clone, Copy)]
+#[derive(Clone, Copy, Debug, PartialEq, Eq)]
 pub enum Reading {
     Factor(i32),
-    Refused(u32, u32),
+    Refused(Row, u32),
+}
+
+fn factor(
+    areas: &[u32],
+    values: &[u32],
+    slopes: &[i32],
+    shape: u32,
+    area: u32,
+) -> Result<i32, Refusal>
+    ensures { answer_of (λ f. f) result
+        ≡ on_lists areas.now values.now slopes.now (λ ps. read_answer ps shape area) }
+{
+    let curve = Curve::of_lists(areas, values, slopes, shape)?;
+    Ok(lookup::read(&curve, area)?)
 }
 
 pub fn read(areas: &[u32], values: &[u32], slopes: &[i32], shape: u32, area: u32) -> Reading
@@ -38,22 +56,39 @@ pub fn read(areas: &[u32], values: &[u32], slopes: &[i32], shape: u32, area: u32
         ≡ on_lists areas.now values.now slopes.now (λ ps. read_answer ps shape area) }
     ensures range { InRange (reading_answer result) }
 {
-    let fault = rows::curve_fault(areas, values, slopes, shape);
-    if fault.number != 0 {
-        return Reading::Refused(fault.number, fault.place);
+    match factor(areas, values, slopes, shape, area) {
+        Ok(f) => Reading::Factor(f),
+        Err(refusal) => Reading::Refused(refusal.row, refusal.place),
     }
-    if lookup::outside(areas, area) {
-        return Reading::Refused(7, 0);
-    }
-    let i = lookup::search(areas, area);
-    Reading::Factor(lookup::factor_at(areas, values, slopes, shape, i, area))
 }
 
 // What Sheet answers: the number of entries, or a refusal's number and place.
-#[derive(Clone, Copy)]
+#[derive(Clone, Copy, Debug, PartialEq, Eq)]
 pub enum Filled {
     Entries(u32),
-    Refused(u32, u32),
+    Refused(Row, u32),
+}
+
+fn fill(
+    areas: &[u32],
+    values: &[u32],
+    slopes: &[i32],
+    shape: u32,
+    start: u32,
+    step: u32,
+    out: &mut [i32],
+) -> Result<u32, Refusal>
+    ensures answer { answer_of (λ n. n) result
+        ≡ on_lists areas.now values.now slopes.now
+        (λ ps. sheet_answer ps shape start step (length out.old)) }
+    ensures list { out.new
+        ≡ sheet_list (points areas.now values.now slopes.now) shape start step
+        (answer_of (λ n. n) result) out.old }
+{
+    let curve = Curve::of_lists(areas, values, slopes, shape)?;
+    entries::check(&curve, start, step, out.len())?;
+    entries::fill(&curve, start, step, out);
+    Ok(out.len() as u32)
 }
 
 pub fn sheet(
@@ -72,18 +107,8 @@ pub fn sheet(
         ≡ sheet_list (points areas.now values.now slopes.now) shape start step
         (filled_answer result) out.old }
 {
-    let fault = rows::curve_fault(areas, values, slopes, shape);
-    if fault.number != 0 {
-        return Filled::Refused(fault.number, fault.place);
+    match fill(areas, values, slopes, shape, start, step, out) {
+        Ok(n) => Filled::Entries(n),
+        Err(refusal) => Filled::Refused(refusal.row, refusal.place),
     }
-    let n = out.len();
-    if entries::bad_sheet(step, n) {
-        return Filled::Refused(8, 0);
-    }
-    let place = entries::first_outside(areas, start, step);
-    if place < n {
-        return Filled::Refused(7, place as u32);
-    }
-    entries::fill(areas, values, slopes, shape, start, step, out);
-    Filled::Entries(n as u32)
 }

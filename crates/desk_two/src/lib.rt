@@ -3,9 +3,29 @@
 
 ghost use Rattle.std.specs.Prelude.{◌≡◌, length};
 ghost use Rattle.model.specs.Answer.{filled};
+ghost use Rattle.refusal.specs.Refusal.{answer_of};
 ghost use Rattle.desk_answer.specs.Desk.{desk_answer_two, desk_number, segment_records};
 
-use layout::{HEAD_SIZE, RECORD_SIZE};
+use desk_answer::copy_block;
+use layout::{CurveFile, HEAD_SIZE, RECORD_SIZE};
+use refusal::{Refusal, Row};
+use rows::Curve;
+
+fn read(bytes: &[u8], area: u32, scratch: &mut [u8]) -> Result<i32, Refusal>
+    ensures answer { answer_of (λ f. f) result ≡ desk_answer_two bytes.now area (length scratch.old) }
+    ensures scratch { scratch.new
+        ≡ filled (desk_answer_two bytes.now area (length scratch.old))
+        (segment_records bytes.now area) scratch.old }
+{
+    let file = CurveFile::new(bytes)?;
+    if scratch.len() < 2 * RECORD_SIZE {
+        return Err(Row::Room.at(0));
+    }
+    let curve = Curve::new(file, file.code())?;
+    let i = lookup::locate(&curve, area)?;
+    copy_block::<24>(bytes, HEAD_SIZE + RECORD_SIZE * i, scratch, 0);
+    Ok(lookup::factor_at(&curve, i, area))
+}
 
 pub fn desk_reading_two(bytes: &[u8], area: u32, scratch: &mut [u8]) -> i32
     ensures number { result ≡ desk_number (desk_answer_two bytes.now area (length scratch.old)) }
@@ -13,12 +33,5 @@ pub fn desk_reading_two(bytes: &[u8], area: u32, scratch: &mut [u8]) -> i32
         ≡ filled (desk_answer_two bytes.now area (length scratch.old))
         (segment_records bytes.now area) scratch.old }
 {
-    let found = desk_answer::find(bytes, area, scratch.len(), true);
-    let refused = found.number != 0;
-    if refused {
-        return found.number;
-    }
-    let at = HEAD_SIZE + RECORD_SIZE * found.index;
-    desk_answer::copy_24(bytes, at, scratch, 0);
-    desk_answer::factor(bytes, found.shape, found.index, area)
+    desk_answer::number(read(bytes, area, scratch))
 }

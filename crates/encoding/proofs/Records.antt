@@ -1,14 +1,15 @@
 -- The records of points.
 --   records_length   12 bytes each; file_length, and 7 before them
 --   records_next     those of one point more; two_in_file, two neighbouring ones where they stand in the file
+--   begun            the head and the first i records; begun_none, begun_next, begun_all, begun_length
 -- Assumes nothing.
 use mathlib.Core.Path.{◌≡◌, refl, sym, ◌∙◌, ap}
 use mathlib.Core.List.{List, [], ◌∷◌, ◌++◌, append-nil, append_assoc, flat_map}
-use Prim.Native.Nat.{ℕ, zero, suc, ◌+◌, ◌*◌, ◌<◌}
+use Prim.Native.Nat.{ℕ, zero, suc, ◌+◌, ◌*◌, ◌≤◌, ◌<◌}
 use native.Mathlib.Numerals.{add-one}
 use native.Mathlib.Omega.{arith}
 use lib.ListN.{length, take, drop, length-append}
-use lib.Seq.{take-suc, drop-append-add}
+use lib.Seq.{take-suc, take-length, length-take-le, drop-append-add}
 use Rattle.model.specs.Points.{Point}
 use Rattle.model.specs.Inner.{origin, point_at}
 use Rattle.layout.specs.Layout.{record_size, point_offset}
@@ -42,6 +43,29 @@ records_next ps i h =
     ∙ ap (flat_map record_bytes) (take-suc ps i origin h)
     ∙ records_append (take i ps) (point_at ps i ∷ [])
     ∙ ap (flat_map record_bytes (take i ps) ++◌) (append-nil (record_bytes (point_at ps i)))
+
+-- a file that is begun
+module _ (ps : List Point) (code : ℕ) where
+  abbrev pub begun : ℕ → List ℕ
+  begun i = head_bytes code (length ps) ++ flat_map record_bytes (take i ps)
+
+  pub begun_length : (i : ℕ) → i ≤ length ps → length (begun i) ≡ point_offset i
+  unfolding in_bytes head_bytes
+  begun_length i h = omega (arith, records_length (take i ps), length-take-le i ps h)
+
+  pub begun_next : (i : ℕ) → i < length ps → begun i ++ record_bytes (point_at ps i) ≡ begun (i + 1)
+  begun_next i h =
+      let head = head_bytes code (length ps) in
+      append_assoc head (flat_map record_bytes (take i ps)) (record_bytes (point_at ps i))
+      ∙ ap (head ++◌) (sym (records_next ps i h))
+
+  pub begun_none : begun 0 ≡ head_bytes code (length ps)
+  unfolding flat_map
+  begun_none = append-nil (head_bytes code (length ps))
+
+  pub begun_all : begun (length ps) ≡ file_bytes ps code
+  unfolding file_bytes
+  begun_all = ap (λ (qs : List Point). head_bytes code (length ps) ++ flat_map record_bytes qs) (take-length ps)
 
 two_records : (ps : List Point) (i : ℕ) → suc i < length ps →
     take (2 * record_size) (drop (record_size * i) (flat_map record_bytes ps))

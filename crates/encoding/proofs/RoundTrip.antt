@@ -23,7 +23,7 @@ use Rattle.layout.specs.Layout.{shape_code, count, record_at, points_of}
 use Rattle.layout.specs.Head.{wrong_mark, bad_head, bad_size, head_rows}
 use Rattle.layout.proofs.Heads.{marked, size_of_passed}
 use Rattle.layout.proofs.Numbers.{two_bytes}
-use Rattle.layout.proofs.Points.{size_of_first, point_is}
+use Rattle.layout.proofs.Points.{size_of_points, point_is}
 use Rattle.encoding.specs.File.{in_bytes, in_twos_complement, record_bytes, head_bytes, file_bytes}
 use Rattle.encoding.proofs.Records.{record_length, file_length}
 use Rattle.encoding.proofs.Windows.{le_window, in_bytes_le, le_small, bytes_are, twos, twos_small, twos_back}
@@ -94,9 +94,9 @@ module _ (ps : List Point) (code : ℕ) where
   pub points_back : ((i : ℕ) → i < length ps → Limits (point_at ps i)) → points_of file ≡ ps
   unfolding in_bytes head_bytes file_bytes
   points_back l =
-      ext_get_or origin (points_of file) ps (size_of_first file (length ps))
-      (λ i h. let j : i < length ps = omega (arith, h, size_of_first file (length ps)) in
-      point_is file (length ps) i j ∙ record_back i j (l i j))
+      ext_get_or origin (points_of file) ps (size_of_points file)
+      (λ i h. let j : i < length ps = omega (arith, h, size_of_points file) in
+      point_is file i j ∙ record_back i j (l i j))
 
 -- ---- from a file to its points and back
 
@@ -142,7 +142,7 @@ module _ (bytes : List ℕ) (small : (at : ℕ) → byte bytes at < 256) where
       let low : byte bytes 3 ≡ 1 = omega (arith, m.first_version, two_bytes bytes 3) in
       let high : byte bytes 4 ≡ 0 = omega (arith, m.first_version, two_bytes bytes 3) in
       let bytes_0_to_6 = bytes_are bytes small 0 head_size (omega (arith, size_of_passed bytes e)) in
-      rw (size_of_first bytes (count bytes)) (rw (m.t, m.r, m.f, low, high) at bytes_0_to_6)
+      rw (size_of_points bytes) (rw (m.t, m.r, m.f, low, high) at bytes_0_to_6)
 
   pub file_back : head_rows bytes ≡ gives tt → file_bytes (points_of bytes) (shape_code bytes) ≡ bytes
   unfolding file_bytes

@@ -1,39 +1,57 @@
 // The entries of a sheet.
 #![tactic(auto)]
 
-ghost use Rattle.std.specs.Prelude.{◌≡◌, List, ℕ, ◌<◌, ◌≤◌, length};
-ghost use Rattle.model.specs.Points.{area_most, Point, points};
+ghost use Rattle.std.specs.Prelude.{◌≡◌, false, ℕ, ◌≤◌, ◌<◌, length};
+ghost use Rattle.model.specs.Answer.{row, ◌then◌};
+ghost use Rattle.model.specs.Points.{area_most};
 ghost use Rattle.model.specs.Read.{reading};
 ghost use Rattle.model.specs.Sheet.{bad_sheet, entry_area, entry_rows, tabulate};
-ghost use Rattle.model.specs.Inner.{first_answer, areas_of};
-ghost use Rattle.entries.specs.Inner.{Fillable, NextEntry, FilledUpTo};
+ghost use Rattle.model.specs.Inner.{first_answer};
+ghost use Rattle.refusal.specs.Refusal.{checked};
+ghost use Rattle.shape.specs.Codes.{code_of};
+ghost use Rattle.entries.specs.Inner.{AllInside, NextEntry, FilledUpTo};
+
+use points::Points;
+use refusal::{Refusal, Row};
+use rows::Curve;
+use segment::Facing;
+use shape::Segment;
 
 // The largest number of entries.
 pub const ENTRIES_MOST: usize = 1024;
 
 // Row 8.
-pub fn bad_sheet(step: u32, n: usize) -> bool
+fn bad_sheet(step: u32, n: usize) -> bool
     ensures { result ≡ bad_sheet step n }
 {
-    if step == 0 {
-        return true;
-    }
-    if n == 0 {
-        return true;
-    }
-    n > ENTRIES_MOST
+    step == 0 || n == 0 || n > ENTRIES_MOST
 }
 
-// The first entry whose area is outside the curve. The areas increase, so a division finds it.
-pub fn first_outside(areas: &[u32], start: u32, step: u32) -> usize
-    requires { (0 < length areas.now) × (0 < step) }
-    ensures { (ps : List Point) → areas_of ps ≡ areas.now → (n : ℕ) →
-        first_answer 7 result n ≡ entry_rows ps start step n }
+// How many entries from the first on are inside the curve. The areas increase, so a division says it.
+fn count_inside<P: Points>(curve: &Curve<P>, start: u32, step: u32) -> usize
+    requires { 0 < step }
+    ensures { (n : ℕ) → first_answer 7 result n ≡ entry_rows (P.points curve.now.points) start step n }
 {
-    if lookup::outside(areas, start) {
+    if lookup::outside(curve, start) {
         return 0;
     }
-    ((areas[areas.len() - 1] - start) / step) as usize + 1
+    let points = curve.points;
+    ((points.area(points.count() - 1) - start) / step) as usize + 1
+}
+
+// Row 8, then row 7 at the first entry outside.
+pub fn check<P: Points>(curve: &Curve<P>, start: u32, step: u32, n: usize) -> Result<(), Refusal>
+    ensures { checked result
+        ≡ (row (bad_sheet step n) 8 0 then entry_rows (P.points curve.now.points) start step n) }
+{
+    if bad_sheet(step, n) {
+        return Err(Row::Sheet.at(0));
+    }
+    let inside = count_inside(curve, start, step);
+    if inside < n {
+        return Err(Row::Outside.at(inside as u32));
+    }
+    Ok(())
 }
 
 // The area of an entry inside the curve.
@@ -45,56 +63,43 @@ fn area_of(start: u32, step: u32, index: usize) -> u32
 }
 
 // Fills the entries from index on that take the segment at k, and gives the index after them.
-fn fill_segment(
-    areas: &[u32],
-    values: &[u32],
-    slopes: &[i32],
-    shape: u32,
+fn fill_segment<P: Points>(
+    curve: &Curve<P>,
     k: usize,
     start: u32,
     step: u32,
     index: usize,
     out: &mut [i32],
 ) -> usize
-    requires { NextEntry areas.now values.now slopes.now shape k start step index (length out.old) }
+    requires { NextEntry (P.points curve.now.points) k start step index (length out.old) }
     ensures { FilledUpTo
-        (λ i. reading (points areas.now values.now slopes.now) shape (entry_area start step i))
-        index result out.old out.new }
+        (λ i. reading (P.points curve.now.points) (code_of curve.now.shape) (entry_area start step i))
+        (P.points curve.now.points) k start step index result out.old out.new }
 {
-    let p = point::point_at(areas, values, slopes, k);
-    let q = point::point_at(areas, values, slopes, k + 1);
-    let x = segment::unmirrored(shape, p, q);
-    let mut i = index;
-    while i < out.len() {
+    let segment = Segment {
+        left: curve.points.point(k),
+        right: curve.points.point(k + 1),
+    };
+    let facing = Facing::new(curve.shape, segment);
+    for i in index..out.len() {
         let area = area_of(start, step, i);
-        if !lookup::takes(areas, k, area) {
+        if !lookup::takes(curve, k, area) {
             return i;
         }
-        out[i] = segment::facing_factor(shape, x, p, q, area);
-        i += 1;
+        out[i] = facing.factor(area);
     }
-    i
+    out.len()
 }
 
 // The factor at each entry's area, segment by segment.
-pub fn fill(
-    areas: &[u32],
-    values: &[u32],
-    slopes: &[i32],
-    shape: u32,
-    start: u32,
-    step: u32,
-    out: &mut [i32],
-)
-    requires { Fillable areas.now values.now slopes.now shape start step (length out.old) }
+pub fn fill<P: Points>(curve: &Curve<P>, start: u32, step: u32, out: &mut [i32])
+    requires { AllInside (P.points curve.now.points) start step (length out.old) }
     ensures { out.new ≡ tabulate
-        (λ i. reading (points areas.now values.now slopes.now) shape (entry_area start step i))
+        (λ i. reading (P.points curve.now.points) (code_of curve.now.shape) (entry_area start step i))
         0 (length out.old) }
 {
-    let mut k: usize = 0;
-    let mut index: usize = 0;
-    while index < out.len() {
-        k = lookup::find(areas, k, area_of(start, step, index));
-        index = fill_segment(areas, values, slopes, shape, k, start, step, index, out);
+    let mut index = 0;
+    for k in 0..curve.points.count() - 1 {
+        index = fill_segment(curve, k, start, step, index, out);
     }
 }

@@ -1,94 +1,106 @@
-// The segment that an area takes, of points in three lists.
+// Readings of an accepted curve: row 7, the segment that an area takes, the factor there.
 #![tactic(auto)]
 
-ghost use Rattle.std.specs.Prelude.{◌≡◌, List, ◌≤◌, ◌<◌, length};
-ghost use Rattle.model.specs.Points.{points_most, Point, points};
-ghost use Rattle.model.specs.Read.{outside as lies_outside, reading};
-ghost use Rattle.model.specs.Inner.{Alike, areas_of, Reached, Taken, Strides, LastOf, Readable};
+ghost use Rattle.std.specs.Prelude.{◌≡◌, false, length};
+ghost use Rattle.model.specs.Answer.{gives, row, ◌then◌};
+ghost use Rattle.model.specs.Read.{outside as lies_outside, segment_read, reading};
+ghost use Rattle.model.specs.Inner.{areas_of, Reached, Taken, Strides, LastOf};
+ghost use Rattle.refusal.specs.Refusal.{answer_at};
+ghost use Rattle.shape.specs.Codes.{code_of};
 ghost use Rattle.lookup.specs.Inner.{TakesResult};
 
-// Row 7, of whatever points have these areas.
-pub fn outside(areas: &[u32], area: u32) -> bool
-    requires { 0 < length areas.now }
-    ensures { (ps : List Point) → areas_of ps ≡ areas.now → result ≡ lies_outside ps area }
+use points::Points;
+use refusal::Row;
+use rows::Curve;
+use shape::Segment;
+
+// Row 7.
+pub fn outside<P: Points>(curve: &Curve<P>, area: u32) -> bool
+    ensures { result ≡ lies_outside (P.points curve.now.points) area }
 {
-    if area < areas[0] {
-        return true;
-    }
-    areas[areas.len() - 1] < area
+    let points = curve.points;
+    area < points.area(0) || points.area(points.count() - 1) < area
 }
 
 // Whether an area takes the segment at i, whose left area is not above it.
-pub fn takes(areas: &[u32], i: usize, area: u32) -> bool
-    requires { Reached areas.now i area }
-    ensures { TakesResult areas.now i area result }
+pub fn takes<P: Points>(curve: &Curve<P>, i: usize, area: u32) -> bool
+    requires { Reached (areas_of (P.points curve.now.points)) i area }
+    ensures { TakesResult (areas_of (P.points curve.now.points)) i area result }
 {
-    if i + 2 == areas.len() {
-        return true;
-    }
-    area < areas[i + 1]
-}
-
-// The index of the left point of the segment that the area takes, from an index whose area is not above it.
-pub fn find(areas: &[u32], from: usize, area: u32) -> usize
-    requires { Reached areas.now from area }
-    ensures { Taken areas.now result area }
-{
-    let mut i = from;
-    while !takes(areas, i, area) {
-        i += 1;
-    }
-    i
+    let points = curve.points;
+    i + 2 == points.count() || area < points.area(i + 1)
 }
 
 // From an area that is not above the area read, the last of every step-th before `end` that is not. All of them are looked at, so
 // that no branch depends on the area read; the indices have 32 bits, so that the compiler looks at four at a time.
-fn last_not_above(areas: &[u32], from: u32, step: u32, end: u32, area: u32) -> u32
-    requires { Strides (length areas.now) from step end × Reached areas.now from area }
-    ensures { LastOf areas.now result step end area }
+fn last_not_above<P: Points>(points: &P, from: u32, step: u32, end: u32, area: u32) -> u32
+    requires strides { Strides (length (P.points points.now)) from step end }
+    requires reached { Reached (areas_of (P.points points.now)) from area }
+    ensures { LastOf (areas_of (P.points points.now)) result step end area }
 {
     let mut last = from;
-    let mut i = from + step;
-    while i < end {
-        if areas[i as usize] <= area {
+    for k in 1..(end - from - 1) / step + 1 {
+        let i = from + step * k;
+        if points.area(i as usize) <= area {
             last = i;
         }
-        i += step;
     }
     last
 }
 
-// The same index as `find` from 0: among every eighth point, then among those from there on.
-pub fn search(areas: &[u32], area: u32) -> usize
-    requires { (length areas.now ≤ points_most) × Reached areas.now 0 area }
-    ensures { Taken areas.now result area }
+// The index of the left point of the segment that an area takes: among every eighth point, then among those from there on.
+fn search<P: Points>(curve: &Curve<P>, area: u32) -> usize
+    requires { Reached (areas_of (P.points curve.now.points)) 0 area }
+    ensures { Taken (areas_of (P.points curve.now.points)) result area }
 {
-    if areas.len() == 2 {
+    let points = curve.points;
+    if points.count() == 2 {
         return 0;
     }
-    let last = (areas.len() - 1) as u32;
-    let from = last_not_above(areas, 0, 8, last, area);
-    let mut end = last;
-    if from + 8 < end {
-        end = from + 8;
-    }
-    last_not_above(areas, from, 1, end, area) as usize
+    let last = (points.count() - 1) as u32;
+    let from = last_not_above(&points, 0, 8, last, area);
+    last_not_above(&points, from, 1, last.min(from + 8), area) as usize
 }
 
-// The factor at an area that takes the segment at i.
-pub fn factor_at(
-    areas: &[u32],
-    values: &[u32],
-    slopes: &[i32],
-    shape: u32,
-    i: usize,
-    area: u32,
-) -> i32
-    requires { Alike (length areas.now) (length values.now) (length slopes.now)
-        × Readable (points areas.now values.now slopes.now) shape i area }
-    ensures { result ≡ reading (points areas.now values.now slopes.now) shape area }
+// Row 7; then the index of the segment read.
+pub fn locate<P: Points>(curve: &Curve<P>, area: u32) -> Result<usize, Row>
+    ensures { answer_at 0 (λ i. i) result
+        ≡ (row (lies_outside (P.points curve.now.points) area) 7 0
+        then gives (segment_read (P.points curve.now.points) area)) }
 {
-    let p = point::point_at(areas, values, slopes, i);
-    let q = point::point_at(areas, values, slopes, i + 1);
-    segment::factor(shape, p, q, area)
+    if outside(curve, area) {
+        return Err(Row::Outside);
+    }
+    Ok(search(curve, area))
+}
+
+// The factor at an area, from the index of the segment read.
+pub fn factor_at<P: Points>(curve: &Curve<P>, i: usize, area: u32) -> i32
+    requires inside { lies_outside (P.points curve.now.points) area ≡ false }
+    requires index { i ≡ segment_read (P.points curve.now.points) area }
+    ensures { result ≡ reading (P.points curve.now.points) (code_of curve.now.shape) area }
+{
+    let segment = Segment {
+        left: curve.points.point(i),
+        right: curve.points.point(i + 1),
+    };
+    segment::factor(curve.shape, segment, area)
+}
+
+// The factor at an area inside the curve.
+pub fn factor<P: Points>(curve: &Curve<P>, area: u32) -> i32
+    requires { lies_outside (P.points curve.now.points) area ≡ false }
+    ensures { result ≡ reading (P.points curve.now.points) (code_of curve.now.shape) area }
+{
+    factor_at(curve, search(curve, area), area)
+}
+
+// Row 7; then the factor.
+pub fn read<P: Points>(curve: &Curve<P>, area: u32) -> Result<i32, Row>
+    ensures { answer_at 0 (λ f. f) result
+        ≡ (row (lies_outside (P.points curve.now.points) area) 7 0
+        then gives (reading (P.points curve.now.points) (code_of curve.now.shape) area)) }
+{
+    let i = locate(curve, area)?;
+    Ok(factor_at(curve, i, area))
 }

@@ -6,11 +6,14 @@ ghost use Rattle.model.specs.Check.{on_lists};
 ghost use Rattle.pair.specs.Pair.{pair_answer};
 ghost use Rattle.pair.specs.Calls.{factors_answer};
 
+use curve::Reading;
+use refusal::Row;
+
 // What Pair answers: the form and plan factors and the plan factor less the form factor, or a refusal's number and place.
-#[derive(Clone, Copy)]
+#[derive(Clone, Copy, Debug, PartialEq, Eq)]
 pub enum Pair {
     Factors(i32, i32, i32),
-    Refused(u32, u32),
+    Refused(Row, u32),
 }
 
 pub fn read_pair(
@@ -26,12 +29,12 @@ pub fn read_pair(
 {
     let at_form = curve::read(areas, values, slopes, shape, form);
     match at_form {
-        curve::Reading::Refused(number, place) => Pair::Refused(number, place),
-        curve::Reading::Factor(f) => {
+        Reading::Refused(row, place) => Pair::Refused(row, place),
+        Reading::Factor(f) => {
             let at_plan = curve::read(areas, values, slopes, shape, plan);
             match at_plan {
-                curve::Reading::Refused(number, _) => Pair::Refused(number, 1),
-                curve::Reading::Factor(p) => Pair::Factors(f, p, p - f),
+                Reading::Refused(row, _) => Pair::Refused(row, 1),
+                Reading::Factor(p) => Pair::Factors(f, p, p - f),
             }
         }
     }

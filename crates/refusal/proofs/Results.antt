@@ -1,11 +1,16 @@
 -- Results as answers.
 --   gives_no_err    what is no Err is a result
---   refused_exit    the exit of a `?` is the refusal
+--   answer_through  an answer, and what a function makes of it
+--   refused_exit    the exit of a `?` is the refusal; row_exit, that of a row
+--   number_most     the largest number
 -- Assumes nothing.
-use Rattle.std.proofs.Common.{◌≡◌, ℕ, false, refl}
+use Rattle.std.proofs.Common.{◌≡◌, ℕ, ◌≤◌, lit≤, false, refl, sym, ap}
 use Rattle.std.specs.Prelude.{Result, Ok, Err, is_err, IsErrAnd}
-use Rattle.model.specs.Answer.{gives, refused}
+use Rattle.model.specs.Answer.{Answer, gives, refused, ◌then◌}
+use Rattle.model.proofs.Rows.{gives_injective, refused≢gives}
 use Rattle.refusal.specs.declared.Row.{Row}
+use Rattle.refusal.specs.declared.Row.TheVariants.{Count, Code, Area, Value, Slope, Segment, Outside}
+use Rattle.refusal.specs.declared.Row.TheVariants.{Sheet, Head, Size, Room, Buffer, Triples, Whole}
 use Rattle.refusal.specs.declared.Refusal.{Refusal}
 use Rattle.refusal.specs.Refusal.{number_of, answer_at, answer_of}
 
@@ -17,3 +22,32 @@ pub refused_exit : {A B : Type 0} (f : A → B) (r : Result A Refusal) (d : Refu
     answer_of f r ≡ refused (number_of d.row) d.place
 refused_exit f (Ok x) d k = absurd k
 refused_exit f (Err e) d k = rw k
+
+pub row_exit : {A B : Type 0} (f : A → B) (place : ℕ) (r : Result A Row) (row : Row) → IsErrAnd r (λ e. e ≡ row) →
+    answer_at place f r ≡ refused (number_of row) place
+row_exit f place (Ok x) row k = absurd k
+row_exit f place (Err e) row k = rw k
+
+pub answer_through : {A B C : Type 0} (f : A → B) (h : B → C) (r : Result A Refusal) (rows : Answer (Unit {0})) (b : B) →
+    answer_of f r ≡ (rows then gives b) → answer_of (λ x. h (f x)) r ≡ (rows then gives (h b))
+unfolding ◌then◌
+answer_through f h (Ok x) (gives u) b e = ap (λ y. gives (h y)) (gives_injective e)
+answer_through f h (Ok x) (refused number place) b e = absurd (refused≢gives (sym e))
+answer_through f h (Err d) (gives u) b e = absurd (refused≢gives e)
+answer_through f h (Err d) (refused number place) b e = cc
+
+pub number_most : (row : Row) → number_of row ≤ 14
+number_most Count = lit≤ tt
+number_most Code = lit≤ tt
+number_most Area = lit≤ tt
+number_most Value = lit≤ tt
+number_most Slope = lit≤ tt
+number_most Segment = lit≤ tt
+number_most Outside = lit≤ tt
+number_most Sheet = lit≤ tt
+number_most Head = lit≤ tt
+number_most Size = lit≤ tt
+number_most Room = lit≤ tt
+number_most Buffer = lit≤ tt
+number_most Triples = lit≤ tt
+number_most Whole = lit≤ tt

@@ -1,11 +1,12 @@
 // Accepted curves: rows 1 to 6 of the refusal table, of points wherever they stand.
 #![tactic(auto)]
 
-ghost use Rattle.std.specs.Prelude.{◌≡◌, true, ℕ, length, ◌≤◌};
+ghost use Rattle.std.specs.Prelude.{◌≡◌, true, ℕ, List, length, ◌≤◌};
 ghost use Rattle.std.proofs.Math.Option.{none};
 ghost use Rattle.model.specs.Answer.{gives, ◌then◌};
-ghost use Rattle.model.specs.Points.{points_most, segments, rule_of};
-ghost use Rattle.model.specs.Check.{bad_count, point_rows, segment_rows, curve_rows};
+ghost use Rattle.model.specs.Points as spec;
+ghost use Rattle.model.specs.Points.{points as points_of_lists, points_most, segments, rule_of};
+ghost use Rattle.model.specs.Check.{bad_count, point_rows, segment_rows, curve_rows, on_lists};
 ghost use Rattle.model.specs.Inner.{Limits};
 ghost use Rattle.refusal.specs.Refusal.{answer_of, checked};
 ghost use Rattle.point.specs.Inner.{point_of};
@@ -13,7 +14,7 @@ ghost use Rattle.shape.specs.Codes.{code_of};
 ghost use Rattle.rows.specs.Inner.{Count, Limited, Follows, accepts};
 
 use point::Point;
-use points::Points;
+use points::{Lists, Points};
 use refusal::{Refusal, Row};
 use shape::{Segment, Shape};
 
@@ -87,7 +88,8 @@ fn check_segments<P: Points>(points: &P, shape: Shape) -> Result<(), Refusal>
             left: points.point(left),
             right: points.point(left + 1),
         };
-        if !segment.has_shape(shape) {
+        let shaped = segment.has_shape(shape);
+        if !shaped {
             return Err(Row::Segment.at(left as u32));
         }
     }
@@ -117,5 +119,21 @@ impl<P: Points> Curve<P> {
             check_segments(&points, shape)?;
         }
         Ok(Curve { points, shape })
+    }
+}
+
+impl<'a> Curve<Lists<'a>> {
+    // The same of three lists.
+    pub fn of_lists(
+        areas: &'a [u32],
+        values: &'a [u32],
+        slopes: &'a [i32],
+        code: u32,
+    ) -> Result<Self, Refusal>
+        ensures { answer_of {B = List spec.Point × ℕ}
+            (λ c. (points_of_lists c.points.areas.now c.points.values.now c.points.slopes.now, code_of c.shape)) result
+            ≡ on_lists areas.now values.now slopes.now (λ ps. curve_rows ps code then gives (ps, code)) }
+    {
+        Curve::new(Lists::new(areas, values, slopes)?, code)
     }
 }

@@ -1,10 +1,11 @@
 -- The reading of a convex segment, in the natural numbers that the code computes with.
 --   Bends, bends_inside   the end slopes' distances from the chord are natural numbers
---   bent_input            what `excess` asks; sum_input and near_input, what `hundredths` asks
+--   figures               the figures of an area; bent_input, their sizes
+--   sum_input, near_input   what `hundredths` asks
 --   bent_reads            hundredths above the left value, and what is left of one more, are the value; near_reads, hundredths
 --                         less than one off, where that decides
 -- Assumes nothing.
-use mathlib.Core.Path.{◌≡◌, sym, ◌∙◌, ap}
+use mathlib.Core.Path.{◌≡◌, refl, sym, ◌∙◌, ap}
 use mathlib.Core.List.{[], ◌∷◌}
 use Prim.Native.Nat.{ℕ, ◌+◌, ◌*◌, ◌≤◌, ◌<◌}
 use native.Mathlib.Omega.{arith}
@@ -36,7 +37,6 @@ use Rattle.point.proofs.Figures.{slope_size}
 use Rattle.shape.specs.Inner.{over_most}
 use Rattle.shape.proofs.Figures.{h, gap_is, a_size, b_size}
 use Rattle.segment.specs.Inner.{BentAt, BentInput, Excess, Large, Around, SumInput, hundredths_of, About}
-use Rattle.segment.specs.declared.Bent.{Bent}
 use Rattle.segment.proofs.Distances.{t, u, from_left, from_right, h_is, distances}
 use Rattle.segment.proofs.Sizes.{large_positive, around_most, excess_most}
 
@@ -204,25 +204,31 @@ bends_inside {s} i =
 
 -- ---- of the figures that the code has
 
-module _ {s : Segment} {x : ℕ} {y : Bent} (i : Inside (Good (plain convex)) s x) (k : BentAt s x y) where
-  a_is : y.a ≡ above s
-  a_is = Z.pos_injective (k.a ∙ (bends_inside i).above_is)
+pub figures : {s : Segment} {x : ℕ} → Inside (Good (plain convex)) s x →
+    BentAt s x (t s x) (u s x) (h s) (above s) (below s)
+figures i =
+    let f = bends_inside i in
+    record { t_is = refl; u_is = refl; h_is = refl; a_is = sym f.above_is; b_is = sym f.below_is }
 
-  b_is : y.b ≡ below s
-  b_is = Z.pos_injective (k.b ∙ (bends_inside i).below_is)
+module _ {s : Segment} {x t u h a b : ℕ} (i : Inside (Good (plain convex)) s x) (k : BentAt s x t u h a b) where
+  a_is : a ≡ above s
+  a_is = Z.pos_injective (k.a_is ∙ (bends_inside i).above_is)
 
-  pub bent_input : BentInput y.t y.u y.h y.a y.b
+  b_is : b ≡ below s
+  b_is = Z.pos_injective (k.b_is ∙ (bends_inside i).below_is)
+
+  pub bent_input : BentInput t u h a b
   bent_input =
       let n = i.good.ends in
       record {
-        distances = rw (k.t, k.u) (distances i n);
-        sum = rw (k.t, k.u, k.h) (h_is i);
-        above = omega (arith, ap nat_abs k.a, a_size n);
-        below = omega (arith, ap nat_abs k.b, b_size n);
+        distances = rw (k.t_is, k.u_is) (distances i n);
+        sum = rw (k.t_is, k.u_is, k.h_is) (h_is i);
+        above = omega (arith, ap nat_abs k.a_is, a_size n);
+        below = omega (arith, ap nat_abs k.b_is, b_size n);
       }
 
   -- so many hundredths above the left tangent
-  sum_of : {m : ℕ} → m ≤ 2 * over_most + 1 → SumInput s.left.value s.left.slope y.t m
+  sum_of : {m : ℕ} → m ≤ 2 * over_most + 1 → SumInput s.left.value s.left.slope t m
   sum_of most =
       let n = i.good.ends in
       record {
@@ -233,23 +239,22 @@ module _ {s : Segment} {x : ℕ} {y : Bent} (i : Inside (Good (plain convex)) s 
       }
 
   -- by leading bits
-  pub near_input : {m : ℕ} → Large y.t y.h y.b →
-      Around (y.b * y.t * (y.b * y.t)) ((y.a * y.u + y.b * y.t) * y.h) m →
-      SumInput s.left.value s.left.slope y.t m
+  pub near_input : {m : ℕ} → Large t h b → Around (b * t * (b * t)) ((a * u + b * t) * h) m →
+      SumInput s.left.value s.left.slope t m
   near_input large e = sum_of (around_most bent_input e (omega (arith, large_positive bent_input large)))
 
-  pub near_reads : {m : ℕ} → Around (y.b * y.t * (y.b * y.t)) ((y.a * y.u + y.b * y.t) * y.h) m →
-      (k : ℤ) → ((v : Fraction) → About (hundredths_of (pos s.left.value) s.left.slope y.t m) v → round v ≡ k) →
+  pub near_reads : {m : ℕ} → Around (b * t * (b * t)) ((a * u + b * t) * h) m →
+      (k : ℤ) → ((v : Fraction) → About (hundredths_of (pos s.left.value) s.left.slope t m) v → round v ≡ k) →
       round (interpolant convex s x) ≡ k
   near_reads {m} e n reads =
-      (bends_inside i).nearly (rw (k.t, k.u, k.h, a_is, b_is) at e) n (λ v about. reads v (rw k.t about))
+      (bends_inside i).nearly (rw (k.t_is, k.u_is, k.h_is, a_is, b_is) at e) n (λ v about. reads v (rw k.t_is about))
 
-  module _ {q r : ℕ} (e : Excess y.t y.u y.h y.a y.b q r) where
-    pub sum_input : SumInput s.left.value s.left.slope y.t q
+  module _ {q r : ℕ} (e : Excess t u h a b q r) where
+    pub sum_input : SumInput s.left.value s.left.slope t q
     sum_input = let m = excess_most bent_input e in sum_of (omega arith)
 
     pub bent_reads :
-        round ((pos 2 *ℤ hundredths_of (pos s.left.value) s.left.slope y.t q +ℤ pos (sticky r)) over pos 200)
+        round ((pos 2 *ℤ hundredths_of (pos s.left.value) s.left.slope t q +ℤ pos (sticky r)) over pos 200)
         ≡ round (interpolant convex s x)
     bent_reads =
-        rw k.t (sym ((bends_inside i).reads (rw (k.t, k.u, k.h, a_is, b_is) at e)))
+        rw k.t_is (sym ((bends_inside i).reads (rw (k.t_is, k.u_is, k.h_is, a_is, b_is) at e)))

@@ -1,6 +1,5 @@
 -- An area inside a segment, in machine numbers.
 --   t, u            its distances from the two ends; h_is, their sum is the gap; u_read, as the code computes the second
---   mirror_back     200,000 less a mirrored value is the value
 --   factor_size     a factor is from −200,000 to 400,000
 -- Assumes nothing.
 use mathlib.Core.Path.{◌≡◌, ◌∙◌}
@@ -13,7 +12,7 @@ use Rattle.exact.proofs.Ring.{ring, terms}
 use Rattle.exact.proofs.Order as Z
 use Rattle.exact.proofs.Magnitude.{size_between}
 use Rattle.exact.proofs.Rounding.{round_rounding}
-use Rattle.model.specs.Points.{value_most, Segment, Rule}
+use Rattle.model.specs.Points.{Segment, Rule}
 use Rattle.model.specs.Inner.{Neighbours, Good, Inside}
 use Rattle.model.specs.Interpolant.{exact_curve}
 use Rattle.model.proofs.Segments.{gap, distance}
@@ -46,9 +45,6 @@ module _ {G : Segment → Type 0} {s : Segment} {x : ℕ} (i : Inside G s x) whe
 
   pub distances : Neighbours s → Distances (t s x) (u s x)
   distances n = record { most = omega (arith, n.near, h_is); least = omega (arith, n.ordered, h_is) }
-
-pub mirror_back : {l : ℕ} → l ≤ value_most → pos value_most -ℤ pos (value_most - l) ≡ pos l
-mirror_back {l} most = rw (← Z.difference_of_≤ most) (ring (pos l ∷ []) (search terms depth 20 fits 9999) tt)
 
 module _ {rule : Rule} {s : Segment} {x : ℕ} (i : Inside (Good rule) s x) where
   pub factor_size : nat_abs (round (exact_curve rule s x)) ≤ 400000

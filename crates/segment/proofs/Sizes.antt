@@ -1,25 +1,26 @@
--- The sizes of what `part`, `rising`, `excess`, `hundredths` and `units` compute.
---   blend_size      a sum weighted by the distances from the two ends
---   left_weights, right_weights   what the two calls of `part` ask
+-- The sizes of what `part`, `rising`, `excess`, `leading` and `hundredths` compute.
 --   whole_size, share_size, share_most   B; A F and B / 2, and the quotient by B
---   divisor_size, denominator_size, denominator_positive   the parts of the convex curve
---   w_most, w_most_size   w in the whole segment
---   shared          what the quotient of w w asks where it may pass 64 bits; excess_most, how large it is
---   slope_fits, .., sum_fits_32   the sum in hundredths and its parts fit; sum_size, how large it is
+--   denominator_size                     W h
+--   w_most, w_most_size                  w in the whole segment
+--   shared                               what the quotient of w w asks where it may pass 64 bits
+--   excess_divided, excess_most          that quotient by a division, and how large it is
+--   large_positive, leads, around_most   the same by leading bits
+--   sum_size, sum_fits_32                the sum in hundredths; sum_read, result_read, as the code has it
 -- Assumes nothing.
 use mathlib.Core.Path.{◌≡◌, sym, ◌∙◌, ap}
 use mathlib.Core.List.{[], ◌∷◌}
 use mathlib.Core.Logic.{inl, inr}
-use Prim.Native.Nat.{ℕ, zero, suc, ◌+◌, ◌-◌, ◌*◌, ◌/◌, ◌^◌, ◌≤◌, ◌<◌}
+use Prim.Native.Nat.{ℕ, zero, suc, ◌+◌, ◌-◌, ◌*◌, ◌/◌, ◌%◌, ◌^◌, ◌≤◌, ◌<◌}
 use native.Mathlib.Nat.{mul-le-mul, mul-le-mul_left, mul-le-mul_right, le-mul_of_pos_right, div-mul-le_self, le_trans}
-use native.Mathlib.Nat.{mul-pos, le_of_mul-le-mul_right, lt_of_mul-lt-mul_right, div-lt_iff_lt-mul, lt-mul-div-succ}
+use native.Mathlib.Nat.{mod-lt, div-add-mod', mul-pos}
+use native.Mathlib.Nat.{le_of_mul-le-mul_right, lt_of_mul-lt-mul_right, div-lt_iff_lt-mul, lt-mul-div-succ}
 use native.Mathlib.Omega.{arith}
 use lib.Arith.{digits_div}
 use lib.Dec.{lit<}
 use lib.IntN.{ℤ, pos, nat_abs, ◌+ℤ◌, ◌*ℤ◌}
 use mir.Syntax.{w32, w64}
-use mir.Val.{SFits, to_z}
-use mir.Facts.{to_z_pos}
+use mir.Val.{SFits, to_z, of_z}
+use mir.Facts.{to_z-of_z, to_z_pos}
 use Rattle.exact.specs.Inner.{Shared}
 use Rattle.exact.proofs.Ring.{ring_ℕ, terms}
 use Rattle.exact.proofs.Tests.{compare}
@@ -36,23 +37,23 @@ blend_size t u {m = m} near k l =
 -- ---- rising
 
 module _ {t u g e : ℕ} (k : Weights t u g e) where
-  pub part_blend : g * t + e * u ≤ gap_most * over_most
+  part_blend : g * t + e * u ≤ gap_most * over_most
   part_blend = blend_size t u k.near k.first k.second
 
-  pub part_size : part t u g e ≤ t * (gap_most * over_most)
+  part_size : part t u g e ≤ t * (gap_most * over_most)
   part_size = mul-le-mul_left t part_blend
 
 module _ {t u left F D₀ D₁ : ℕ} (k : RisingInput t u left F D₀ D₁) where
-  pub left_size : (t + u) * D₀ ≤ over_most
+  left_size : (t + u) * D₀ ≤ over_most
   left_size = mul-le-mul k.distances.most k.left_slope
 
-  pub right_size : (t + u) * D₁ ≤ over_most
+  right_size : (t + u) * D₁ ≤ over_most
   right_size = mul-le-mul k.distances.most k.right_slope
 
-  pub left_weights : Weights t u (100 * F) ((t + u) * D₀)
+  left_weights : Weights t u (100 * F) ((t + u) * D₀)
   left_weights = record { near = k.distances.most; first = omega (arith, k.rise); second = left_size }
 
-  pub right_weights : Weights u t (100 * F) ((t + u) * D₁)
+  right_weights : Weights u t (100 * F) ((t + u) * D₁)
   right_weights =
       record { near = omega (arith, k.distances.most); first = omega (arith, k.rise); second = right_size }
 
@@ -126,13 +127,13 @@ module _ {t u h a b : ℕ} (k : BentInput t u h a b) where
   h_positive : 0 < h
   h_positive = omega (arith, k.distances.least, k.sum)
 
-  pub divisor_size : divisor ≤ gap_most * (2 * over_most)
+  divisor_size : divisor ≤ gap_most * (2 * over_most)
   divisor_size = blend_size u t (omega (arith, k.distances.most)) k.above k.below
 
   pub denominator_size : divisor * h ≤ gap_most * (2 * over_most) * gap_most
   denominator_size = mul-le-mul divisor_size h_size
 
-  pub denominator_positive : 0 < divisor → 0 < divisor * h
+  denominator_positive : 0 < divisor → 0 < divisor * h
   denominator_positive some = mul-pos some h_positive
 
   -- w in the whole segment
@@ -176,6 +177,17 @@ module _ {t u h a b : ℕ} (k : BentInput t u h a b) where
           size = omega (arith, mul-le-mul w_most_all w_most_all);
           room = omega (arith, quotient_most, mul-le-mul_left e long, mul-le-mul_left w long, w_least_of, w_least);
         }
+
+  -- by a division
+  pub excess_divided : 0 < w → Excess t u h a b (w * w / (divisor * h)) (w * w % (divisor * h))
+  excess_divided some =
+      record {
+        divided = λ _. record {
+          product = sym (div-add-mod' (w * w) (divisor * h));
+          rest = mod-lt (w * w) (denominator_positive (omega (arith, some)));
+        };
+        none = λ e. absurd (omega (arith, some));
+      }
 
   pub large_positive : Large t h b → 0 < w
   large_positive l = omega (arith, l.large, mul-le-mul_left b h_size, le-mul_of_pos_right b l.some)
@@ -223,22 +235,28 @@ module _ {left : ℕ} {slope : ℤ} {t above : ℕ} (k : SumInput left slope t a
   abbrev from : ℕ
   from = 100 * left
 
-  pub slope_fits : SFits w64 slope
+  slope_fits : SFits w64 slope
   slope_fits = sfits_of_size w64 slope (omega (arith, k.steep))
 
-  pub product_fits : SFits w64 product
+  slope_read_32 : to_z w32 (of_z w32 slope) ≡ slope
+  slope_read_32 = to_z-of_z (sfits_of_size w32 slope (omega (arith, k.steep)))
+
+  slope_read : to_z w64 (of_z w64 (to_z w32 (of_z w32 slope))) ≡ slope
+  slope_read = rw slope_read_32 (to_z-of_z slope_fits)
+
+  product_fits : SFits w64 product
   product_fits = sfits_of_size w64 product (omega (arith, product_most))
 
-  pub from_read : to_z w64 from ≡ pos from
+  from_read : to_z w64 from ≡ pos from
   from_read = to_z_pos w64 (omega (arith, k.value))
 
-  pub from_fits : SFits w64 (pos from +ℤ product)
+  from_fits : SFits w64 (pos from +ℤ product)
   from_fits = sfits_of_size w64 (pos from +ℤ product) (omega (arith, size_+ (pos from) product, product_most, k.value))
 
-  pub distance_read : to_z w64 t ≡ pos t
+  distance_read : to_z w64 t ≡ pos t
   distance_read = to_z_pos w64 (omega (arith, k.near))
 
-  pub above_read : to_z w64 above ≡ pos above
+  above_read : to_z w64 above ≡ pos above
   above_read = to_z_pos w64 (omega (arith, k.size))
 
   abbrev sum : ℤ
@@ -248,8 +266,20 @@ module _ {left : ℕ} {slope : ℤ} {t above : ℕ} (k : SumInput left slope t a
   sum_size =
       omega (arith, size_+ (pos from +ℤ product) (pos above), size_+ (pos from) product, product_most, k.size, k.value)
 
-  pub sum_fits : SFits w64 sum
+  sum_fits : SFits w64 sum
   sum_fits = sfits_of_size w64 sum (omega (arith, sum_size))
 
   pub sum_fits_32 : SFits w32 sum
   sum_fits_32 = sfits_of_size w32 sum (omega (arith, sum_size))
+
+  -- as the code has it, in 64 bits
+  pub sum_read :
+      to_z w64 (of_z w64
+      (to_z w64 (of_z w64 (to_z w64 from +ℤ to_z w64 (of_z w64
+      (to_z w64 (of_z w64 (to_z w32 (of_z w32 slope))) *ℤ to_z w64 t)))) +ℤ to_z w64 above)) ≡ sum
+  sum_read =
+      rw (slope_read, distance_read, to_z-of_z product_fits, from_read, to_z-of_z from_fits, above_read) (to_z-of_z sum_fits)
+
+  -- and what `hundredths` gives, from the slope's bits
+  pub result_read : {z : ℤ} → z ≡ hundredths_of (pos left) (to_z w32 (of_z w32 slope)) t above → to_z w32 (of_z w32 z) ≡ sum
+  result_read e = rw (e, slope_read_32) (to_z-of_z sum_fits_32)

@@ -142,7 +142,8 @@ fn hundredths(left: u32, slope: i32, t: u64, above: u64) -> i32
     ((from as i64) + (slope as i64) * (t as i64) + (above as i64)) as i32
 }
 
-// What is less than one hundredth off n, in units, rounded. Unless n ends in 50, all of that is rounded alike; there it is not said.
+// What is less than one hundredth off n hundredths, in units, rounded. All of that is rounded alike unless n ends in 50: there it
+// is None.
 fn nearly(n: i32) -> Option<i32>
     requires { nat_abs n ≤ 90000000 }
     ensures sure { IfSome result (λ k. (v : Fraction) → About n v → round v ≡ k) }

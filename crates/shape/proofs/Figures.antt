@@ -73,7 +73,7 @@ module _ {s : Segment} (n : Neighbours s) where
   pub b_fits : SFits w32 (b s)
   b_fits = over_fits (b s) b_size
 
-  -- what `slopes_of` gives, and a and b from it
+  -- what `slopes` gives, and a and b from it
   module _ {e : Slopes} (k : SlopesOver s e) where
     pub left_read : to_z w32 (of_z w32 e.left) ≡ e.left
     left_read = rw k.left (to_z-of_z e₀_fits)

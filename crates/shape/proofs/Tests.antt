@@ -3,6 +3,7 @@
 --   climbing_shape  shape 1 where the value rises: no slope is below 0; climbing_test, as a test
 --   level_shape     where it stays: both slopes are 0; level_test, as a test
 --   descending_shape   where it falls: no
+--   falling_test    shape 3 is shape 1 of the mirrored segment
 --   order_test      shape 2: left slope below chord and chord below right slope, or all three equal, as a test
 --   convex_test     of the slopes of a segment; concave_test, of the mirrored segment: the same slopes from right to left
 --   mirrored_slope, mirrored_chord   which are those of the segment with their signs changed
@@ -25,8 +26,8 @@ use Rattle.exact.proofs.Integer.{*_one}
 use Rattle.exact.proofs.Ring.{ring, terms}
 use Rattle.exact.proofs.Order as Z
 use Rattle.exact.proofs.Tests.{true_or_false, le_z_not_lt_z, same_test, T_true}
-use Rattle.model.specs.Points.{Point, gradient, Segment, rising, convex, mirror, mirror_segment}
-use Rattle.model.specs.Shape.{rises, bends, fits, has_shape}
+use Rattle.model.specs.Points.{Point, gradient, Segment, rising, convex, mirror, mirror_segment, rule_of}
+use Rattle.model.specs.Shape.{rises, bends, fits, has_shape, segment_test}
 use Rattle.model.specs.Check.{bad_code}
 use Rattle.model.specs.Inner.{Neighbours}
 use Rattle.model.proofs.Rows.{code_of_row_2}
@@ -38,6 +39,7 @@ use Rattle.shape.specs.declared.Slopes.{Slopes}
 use Rattle.shape.specs.declared.Shape as code
 use Rattle.shape.specs.declared.Shape.TheVariants.{Rising, Convex, Falling, Concave}
 use Rattle.shape.specs.Codes.{code_of}
+use Rattle.shape.proofs.Codes.{rule_of_falling}
 
 abbrev bits : ℤ → ℕ
 bits z = of_z w32 z
@@ -103,6 +105,12 @@ module _ {s : Segment} (n : Neighbours s) where
       has_shape rising s ≡ (eqb (bits s.left.slope) 0 && eqb (bits s.right.slope) 0)
   level_test e =
       rw (eq_bits (slope_fits n.left) (zero_fits w32), eq_bits (slope_fits n.right) (zero_fits w32)) (level_shape s e)
+
+-- ---- shape 3, by the mirrored points
+
+pub falling_test : (s : Segment) → segment_test (rule_of 3) s ≡ has_shape rising (mirror_segment s)
+unfolding segment_test
+falling_test s = rw rule_of_falling
 
 -- ---- shape 2: the order of the slopes
 

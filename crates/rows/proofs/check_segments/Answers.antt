@@ -18,21 +18,21 @@ invariant_of-segment g c =
           (chained_at Neighbours (λ s g. g.ordered) n c.loop-left.left (omega arith));
     }
 
-pub returns-then-not-has_shape : goal.returns-then-not-has_shape
+pub returns-then-not-shaped : goal.returns-then-not-shaped
 unfolding row ◌then◌
-returns-then-not-has_shape g c =
+returns-then-not-shaped g c =
     rw c.at.ensures
-    (rw c.if-not-has_shape.true at
+    (rw c.if-not-shaped.true at
     (segment_turn _ (rule_of (code_of c.args.shape)) c.loop-left.left _ _ (omega arith)
-    c.point.ensures c.point-in-loop-left.ensures c.has_shape.ensures)
+    c.point.ensures c.point-in-loop-left.ensures c.has_shape-shaped.ensures)
     ∙ c.loop-left.invariant)
 
 pub loop-left-preserved : goal.loop-left-preserved
 unfolding row ◌then◌
 loop-left-preserved g c =
-    rw c.if-not-has_shape.false at
+    rw c.if-not-shaped.false at
     (segment_turn _ (rule_of (code_of c.args.shape)) c.loop-left.left _ _ (omega arith)
-    c.point.ensures c.point-in-loop-left.ensures c.has_shape.ensures)
+    c.point.ensures c.point-in-loop-left.ensures c.has_shape-shaped.ensures)
     ∙ c.loop-left.invariant
 
 pub returns : goal.returns

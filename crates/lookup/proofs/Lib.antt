@@ -1,0 +1,2 @@
+-- Laws of accepted curves that other crates cite.
+pub mod Areas

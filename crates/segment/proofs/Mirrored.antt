@@ -1,0 +1,99 @@
+-- A segment as its shape reads it, and the one that was filed.
+--   filed_twice    each is the other's mirror, or the same
+--   read_good      the one that is read has the shape by which it is read
+--   read_left, read_right     their areas are the same
+--   as_it_stands, taken_off   the factor of the one that was filed, from that of the one that is read; taken_off_fits
+-- Assumes nothing.
+use mathlib.Core.Path.{◌≡◌, refl, sym, ◌∙◌, ap}
+use mathlib.Core.Logic.{◌⊎◌, inl, inr}
+use Prim.Native.Nat.{ℕ, ◌-◌}
+use native.Mathlib.Omega.{arith}
+use lib.IntN.{ℤ, pos, ◌-ℤ◌, neg_ℤ-neg_ℤ}
+use mir.Syntax.{w32}
+use mir.Val.{SFits}
+use Rattle.exact.specs.Rounding.{round}
+use Rattle.exact.proofs.Magnitude.{size--, sfits_of_size}
+use Rattle.exact.proofs.Rounding.{round_rounding}
+use Rattle.model.specs.Points.{value_most, Point, Segment, mirror, mirror_segment, plain, rule_of}
+use Rattle.model.specs.Interpolant.{interpolant, exact_curve}
+use Rattle.model.specs.Inner.{Limits, Neighbours, Good, Inside}
+use Rattle.model.proofs.Mirror.{value_most_even, mirror_good}
+use Rattle.model.proofs.Segments.{interpolant_proper}
+use Rattle.shape.specs.declared.Shape as code
+use Rattle.shape.specs.declared.Shape.TheVariants.{Rising, Convex, Falling, Concave}
+use Rattle.shape.specs.Codes.{code_of}
+use Rattle.shape.proofs.Codes.{rule_of_rising, rule_of_convex, rule_of_falling, rule_of_concave}
+use Rattle.segment.specs.Inner.{plain_shape, as_filed}
+use Rattle.segment.proofs.Distances.{factor_size}
+
+-- ---- the segment
+
+mirror_twice : {p : Point} → Limits p → mirror (mirror p) ≡ p
+unfolding mirror
+mirror_twice {p} l =
+    let value : value_most - (value_most - p.value) ≡ p.value = (let k = l.value in omega arith) in
+    rw (value, neg_ℤ-neg_ℤ p.slope)
+
+segment_twice : {s : Segment} → Neighbours s → mirror_segment (mirror_segment s) ≡ s
+segment_twice n = rw (mirror_twice n.left, mirror_twice n.right)
+
+pub filed_twice : (shape : code.Shape) {s : Segment} → Neighbours s → as_filed shape (as_filed shape s) ≡ s
+filed_twice Rising n = refl
+filed_twice Convex n = refl
+filed_twice Falling n = segment_twice n
+filed_twice Concave n = segment_twice n
+
+pub read_good : (shape : code.Shape) {s : Segment} →
+    Good (rule_of (code_of shape)) s → Good (plain (plain_shape shape)) (as_filed shape s)
+read_good Rising g = rw (rule_of_rising) at g
+read_good Convex g = rw (rule_of_convex) at g
+read_good Falling g = mirror_good (rw rule_of_falling at g)
+read_good Concave g = mirror_good (rw rule_of_concave at g)
+
+filed_left : (shape : code.Shape) (s : Segment) → (as_filed shape s).left.area ≡ s.left.area
+unfolding mirror
+filed_left Rising s = refl
+filed_left Convex s = refl
+filed_left Falling s = refl
+filed_left Concave s = refl
+
+filed_right : (shape : code.Shape) (s : Segment) → (as_filed shape s).right.area ≡ s.right.area
+unfolding mirror
+filed_right Rising s = refl
+filed_right Convex s = refl
+filed_right Falling s = refl
+filed_right Concave s = refl
+
+module _ (shape : code.Shape) (r : Segment) {s : Segment} (e : as_filed shape r ≡ s) where
+  pub read_left : r.left.area ≡ s.left.area
+  read_left = sym (filed_left shape r) ∙ ap (λ (x : Segment). x.left.area) e
+
+  pub read_right : r.right.area ≡ s.right.area
+  read_right = sym (filed_right shape r) ∙ ap (λ (x : Segment). x.right.area) e
+
+-- ---- the factor
+
+module _ (shape : code.Shape) {s : Segment} {x : ℕ} (i : Inside (Good (plain (plain_shape shape))) s x) where
+  abbrev pub reading : ℤ
+  reading = round (interpolant (plain_shape shape) s x)
+
+  abbrev filed : ℤ
+  filed = round (exact_curve (rule_of (code_of shape)) (as_filed shape s) x)
+
+  pub as_it_stands : (shape ≡ Rising) ⊎ (shape ≡ Convex) → reading ≡ filed
+  unfolding exact_curve
+  as_it_stands (inl e) = rw (e, rule_of_rising)
+  as_it_stands (inr e) = rw (e, rule_of_convex)
+
+  pub taken_off : (shape ≡ Falling) ⊎ (shape ≡ Concave) → pos value_most -ℤ reading ≡ filed
+  unfolding exact_curve
+  taken_off (inl e) =
+      let p = interpolant_proper (rw e at i) in
+      rw (e, rule_of_falling, segment_twice i.good.ends) (sym (round_rounding.from_even (pos value_most) value_most_even _ p))
+  taken_off (inr e) =
+      let p = interpolant_proper (rw e at i) in
+      rw (e, rule_of_concave, segment_twice i.good.ends) (sym (round_rounding.from_even (pos value_most) value_most_even _ p))
+
+  pub taken_off_fits : SFits w32 (pos value_most -ℤ reading)
+  unfolding exact_curve
+  taken_off_fits = sfits_of_size w32 _ (omega (arith, size-- (pos value_most) reading, factor_size i))
