@@ -6,6 +6,6 @@ use Rattle.refusal.specs.Refusal.{number_of}
 use Rattle.import.specs.declared.Imported.{Imported}
 use Rattle.import.specs.declared.Imported.TheVariants as imported
 
-unfoldable pub imported_answer : Imported → Answer ℕ
+abbrev pub imported_answer : Imported → Answer ℕ
 imported_answer (imported.Points n) = gives n
 imported_answer (imported.Refused row place) = refused (number_of row) place
