@@ -1,10 +1,9 @@
 -- The points that a loop has decoded.
 --   Decoded             the first i entries of a list are the first points, and those after them are left
---   decoded_starts      none; decoded_more, one more; decoded_ends, no more are taken
+--   decoded_more        one more; decoded_ends, one that is not taken; decoded_all, no more
 -- Assumes nothing.
 use Rattle.std.proofs.Common.{◌≡◌, refl, sym, ◌∙◌, ℕ, suc, ◌+◌, ◌-◌, ◌<◌, ◌≤◌, add-one, arith, append_assoc, append-nil}
 use Rattle.std.proofs.Common.{List, [], ◌∷◌, ◌++◌, map, length, take, set}
-use native.Mathlib.Nat.{sub-zero}
 use Rattle.std.proofs.Math.Option.{Option, none, some}
 use Rattle.std.proofs.lemmas.List.{map-append, take_more_set}
 use Rattle.model.specs.Points as model
@@ -52,18 +51,12 @@ module _ (f : ℕ → Option WholePoint) (n : ℕ) where
   pub record Decoded (l : List Point) (i : ℕ) : Type 0 where
     pub is : map point_of (take i l) ++ left i ≡ whole_points (tabulate f 0 n)
 
-  pub decoded_starts : (l : List Point) → Decoded l 0
-  decoded_starts l = record { is = rw (sub-zero n) }
-
   module _ {l : List Point} {i : ℕ} (k : Decoded l i) where
     pub decoded_more : (p : Point) → i < n → i < length l → some (point_of p) ≡ ranged (f i) → Decoded (set l i p) (i + 1)
     decoded_more p h r e =
         let q = in_range_of (f i) (point_of p) e in
-        record {
-          is =
-              rw (take_more_set l i p r, map-append point_of (take i l) (p ∷ []), append_assoc, ← q.in_range, ← left_more i q.p h q.is)
-              k.is;
-        }
+        let one = map-append point_of (take i l) (p ∷ []) in
+        record { is = rw (take_more_set l i p r, one, append_assoc, ← q.in_range, ← left_more i q.p h q.is) k.is }
 
     all_here : left i ≡ [] → map point_of (take i l) ≡ whole_points (tabulate f 0 n)
     all_here e = sym (append-nil _) ∙ rw e at k.is
