@@ -1,6 +1,7 @@
 -- What contracts of inner functions cite. Nothing here need be believed: the call's contract cites document 02's definitions.
 --   outward         an integer as an unsigned number that is beyond every limit if it is negative
 --   ranged_point    a point with its figures brought into range: 32 bits hold them, and rows 3 to 5 refuse what they refused
+--   ranged          the same, if the point is taken
 --   taken_point     what the code takes of a triple
 --   whole_points    the points before the first that is not taken
 -- Assumes nothing.
