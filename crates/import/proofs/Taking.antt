@@ -3,7 +3,7 @@
 --   Passed, passed         row 13 is passed
 --   Given, given           all are, and the points are the export's; few, 64 at most
 --   room                   there is room for the points
---   left_as_found          a refusal leaves a list; after_list, a list into which the points are written
+--   after_list             a list into which the points are written
 -- Assumes nothing.
 use Rattle.std.proofs.Common.{◌≡◌, sym, ap, ◌∙◌, ℕ, ◌≤◌, true, false, ◌||◌, ltb, ltb-false, List, map, ◌++◌, length, drop}
 use lib.ListN.{length-map}
@@ -14,6 +14,7 @@ use Rattle.model.proofs.Answers.{then_refused, refused_first}
 use Rattle.model.proofs.Rows.{gives_injective, then_first, then_rest, row_passed, row_refused, count_of_row_1}
 use Rattle.points.specs.Inner.{Room}
 use Rattle.file.specs.Open.{short_list}
+use Rattle.file.proofs.Room.{room_of_row_11}
 use Rattle.triples.specs.Triples.{bad_length, count, exported, export_rows}
 use Rattle.triples.proofs.Sizes.{exported_length, points_length}
 use Rattle.import.specs.Import.{points_of, import_answer}
@@ -78,22 +79,7 @@ few bytes code e =
 pub room : (bytes : List ℕ) (areas values slopes : ℕ) {ps : List Point} →
     short_list (count bytes) areas values slopes ≡ false → ps ≡ points_of bytes →
     Room (length ps) areas values slopes
-unfolding short_list
-room bytes areas values slopes e is =
-    let n = count bytes in
-    let size = ap length is ∙ points_length bytes in
-    let f = or_left _ (ltb slopes n) e in
-    rw size (
-    record {
-      in_areas = ltb-false areas n (or_left _ (ltb values n) f);
-      in_values = ltb-false values n (or_right (ltb areas n) _ f);
-      in_slopes = ltb-false slopes n (or_right (ltb areas n || ltb values n) _ e);
-    })
-
-pub left_as_found : {A B : Type 0} {n i : ℕ} (a : Answer A) (written found : List B) → a ≡ refused n i →
-    found ≡ filled a written found
-unfolding filled
-left_as_found a written found e = rw e
+room bytes areas values slopes e is = rw (ap length is, points_length bytes) (room_of_row_11 e)
 
 pub after_list : {B : Type 0} (field : Point → B) (bytes : List ℕ) {ps : List Point} (found : List B) (n : ℕ) →
     ps ≡ points_of bytes →

@@ -2,8 +2,9 @@
 use Rattle.std.proofs.Common.{refl, sym, ◌∙◌, arith}
 use Rattle.model.specs.Answer.{filled}
 use Rattle.refusal.proofs.Results.{refused_exit}
+use Rattle.file.proofs.Filled.{after_refusal}
 use Rattle.import.proofs.Taking.{passed, refused_by_13, refused_by_11, refused_by_points, all_pass, given, few}
-use Rattle.import.proofs.Taking.{room, left_as_found, after_list}
+use Rattle.import.proofs.Taking.{room, after_list}
 use Rattle.import.proofs.take.Goals as goal
 
 pub returns-in_err-export-clause-answer : goal.returns-in_err-export-clause-answer
@@ -11,13 +12,13 @@ returns-in_err-export-clause-answer c =
     refused_exit _ _ _ c.from_residual.ensures.1 ∙ refused_by_13 _ _ _ _ _ c.in_err-export.ensures
 
 pub returns-in_err-export-clause-areas : goal.returns-in_err-export-clause-areas
-returns-in_err-export-clause-areas c = left_as_found _ _ _ (refused_exit _ _ _ c.from_residual.ensures.1)
+returns-in_err-export-clause-areas c = after_refusal _ (refused_exit _ _ _ c.from_residual.ensures.1)
 
 pub returns-in_err-export-clause-values : goal.returns-in_err-export-clause-values
-returns-in_err-export-clause-values c = left_as_found _ _ _ (refused_exit _ _ _ c.from_residual.ensures.1)
+returns-in_err-export-clause-values c = after_refusal _ (refused_exit _ _ _ c.from_residual.ensures.1)
 
 pub returns-in_err-export-clause-slopes : goal.returns-in_err-export-clause-slopes
-returns-in_err-export-clause-slopes c = left_as_found _ _ _ (refused_exit _ _ _ c.from_residual.ensures.1)
+returns-in_err-export-clause-slopes c = after_refusal _ (refused_exit _ _ _ c.from_residual.ensures.1)
 
 pub returns-then-short_list-clause-answer : goal.returns-then-short_list-clause-answer
 returns-then-short_list-clause-answer c =
@@ -45,13 +46,13 @@ returns-in_err-curve-clause-answer c =
     ∙ refused_by_points _ _ _ _ _ k.multiple room (rw k.same at c.in_err-curve.ensures)
 
 pub returns-in_err-curve-clause-areas : goal.returns-in_err-curve-clause-areas
-returns-in_err-curve-clause-areas c = left_as_found _ _ _ (refused_exit _ _ _ c.from_residual-in_err-curve.ensures.1)
+returns-in_err-curve-clause-areas c = after_refusal _ (refused_exit _ _ _ c.from_residual-in_err-curve.ensures.1)
 
 pub returns-in_err-curve-clause-values : goal.returns-in_err-curve-clause-values
-returns-in_err-curve-clause-values c = left_as_found _ _ _ (refused_exit _ _ _ c.from_residual-in_err-curve.ensures.1)
+returns-in_err-curve-clause-values c = after_refusal _ (refused_exit _ _ _ c.from_residual-in_err-curve.ensures.1)
 
 pub returns-in_err-curve-clause-slopes : goal.returns-in_err-curve-clause-slopes
-returns-in_err-curve-clause-slopes c = left_as_found _ _ _ (refused_exit _ _ _ c.from_residual-in_err-curve.ensures.1)
+returns-in_err-curve-clause-slopes c = after_refusal _ (refused_exit _ _ _ c.from_residual-in_err-curve.ensures.1)
 
 pub fill-requires : goal.fill-requires
 fill-requires c =
