@@ -5,10 +5,9 @@
 --   room                   there is room for the points
 --   after_list             a list into which the points are written
 -- Assumes nothing.
-use Rattle.std.proofs.Common.{◌≡◌, sym, ap, ◌∙◌, ℕ, ◌≤◌, true, false, ◌||◌, ltb, ltb-false, List, map, ◌++◌, length, drop}
+use Rattle.std.proofs.Common.{◌≡◌, sym, ap, ℕ, ◌≤◌, true, false, List, map, ◌++◌, length, drop}
 use lib.ListN.{length-map}
-use Rattle.exact.proofs.Tests.{or_left, or_right}
-use Rattle.model.specs.Answer.{Answer, gives, refused, row, ◌then◌, filled}
+use Rattle.model.specs.Answer.{gives, refused, row, ◌then◌, filled}
 use Rattle.model.specs.Points.{points_most, Point}
 use Rattle.model.proofs.Answers.{then_refused, refused_first}
 use Rattle.model.proofs.Rows.{gives_injective, then_first, then_rest, row_passed, row_refused, count_of_row_1}
