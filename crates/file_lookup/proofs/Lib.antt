@@ -1,2 +1,0 @@
--- Laws of a file's points.
-pub mod Placed

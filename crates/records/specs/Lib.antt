@@ -1,2 +1,0 @@
--- What contracts of inner functions cite.
-pub mod Inner
