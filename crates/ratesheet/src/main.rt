@@ -1,10 +1,11 @@
 // Prints the sheet of the curve file on standard input.
 #![tactic(auto)]
 
-ghost use Rattle.std.specs.Prelude.{◌≡◌, IfOk, IfSome};
+ghost use Rattle.std.specs.Prelude.{◌≡◌, IfOk, IfSome, length, take};
+ghost use Rattle.std.specs.Io.{ReadsAtMost};
 ghost use Rattle.sheet_text.specs.SheetText.{sheet_text};
 
-use arrayvec::{ArrayString, ArrayVec};
+use arrayvec::ArrayString;
 use sheet_text::Text;
 use std::env::{Env, FillError};
 use std::fmt::Write as _;
@@ -91,13 +92,30 @@ fn print_help(rt: &(impl Print + Eprint)) -> ExitCode {
 // The first 776 bytes of a file decide its sheet.
 const READ_MOST: usize = sheet_text::FILE_MOST + 1;
 
+// Reads until the buffer is full or the input ends. A read that a signal interrupts fails and is not tried again.
+fn read_all<R: Read>(input: &mut R, buf: &mut [u8]) -> io::Result<usize>
+    ensures bound { ReadsAtMost result buf.new }
+    ensures bytes { IfOk result (λ n. IfSome (R.remaining input.old)
+        (λ bytes. take n buf.new ≡ take (length buf.old) bytes)) }
+{
+    let mut n = 0;
+    while n < buf.len() {
+        let more = input.read(&mut buf[n..])?;
+        if more == 0 {
+            return Ok(n);
+        }
+        n += more;
+    }
+    Ok(n)
+}
+
 // The sheet of the file that a reader gives.
-fn sheet<R: Read + Drop>(input: R) -> io::Result<Text>
+fn sheet<R: Read + Drop>(mut input: R) -> io::Result<Text>
     ensures { IfOk result (λ text. IfSome (R.remaining input) (λ bytes. text.bytes ≡ sheet_text bytes)) }
 {
-    let mut bytes = ArrayVec::<u8, READ_MOST>::new();
-    io::copy(&mut input.take(READ_MOST as u64), &mut bytes)?;
-    Ok(sheet_text::sheet_text(&bytes))
+    let mut bytes = [0u8; READ_MOST];
+    let n = read_all(&mut input, &mut bytes)?;
+    Ok(sheet_text::sheet_text(&bytes[..n]))
 }
 
 fn print_sheet(rt: &(impl Print + Eprint), input: impl Read + Drop) -> ExitCode {
