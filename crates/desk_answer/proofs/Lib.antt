@@ -1,5 +1,3 @@
--- Theorems of the desk readings' answers; what an answer says; laws of a copy.
+-- Theorems of the desk readings' answers.
 pub mod Apart
 pub mod Same
-pub mod Opened
-pub mod Blocks
