@@ -15,7 +15,7 @@ pub extern "C" fn curve_check(areas: &[u32], values: &[u32], slopes: &[i32], sha
         (λ ps. check_answer ps shape)) }
 {
     match curve::check(areas, values, slopes, shape) {
-        Checked::Refused(number, place) => refusal(number, place),
+        Checked::Refused(row, place) => refusal(row, place),
         Checked::Segments(n) => n as i64,
     }
 }

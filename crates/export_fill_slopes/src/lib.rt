@@ -16,7 +16,7 @@ pub extern "C" fn curve_fill_slopes(areas: &[u32], values: &[u32], slopes: &mut 
         ≡ slopes_after areas.now values.now slopes.old }
 {
     match slopes::fill_slopes(areas, values, slopes) {
-        Supplied::Refused(number, place) => refusal(number, place),
+        Supplied::Refused(row, place) => refusal(row, place),
         Supplied::Points(n) => n as i64,
     }
 }

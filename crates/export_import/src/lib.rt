@@ -6,7 +6,7 @@ ghost use Rattle.model.specs.Answer.{filled};
 ghost use Rattle.import.specs.Import.{points_of, import_answer};
 ghost use Rattle.exports.specs.Exports.{c_number};
 
-use exports::import_refusal;
+use exports::refusal;
 use import::Imported;
 
 #[unsafe(no_mangle)]
@@ -34,7 +34,7 @@ pub extern "C" fn curve_import(
         (map (λ p. p.slope) (points_of bytes.now)) slopes.old }
 {
     match import::import(bytes, shape, areas, values, slopes) {
-        Imported::Refused(number, place) => import_refusal(number, place),
+        Imported::Refused(row, place) => refusal(row, place),
         Imported::Points(n) => n as i64,
     }
 }

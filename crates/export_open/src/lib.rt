@@ -34,7 +34,7 @@ pub extern "C" fn curve_open(
         (map (λ p. p.slope) (points_of bytes.now)) slopes.old }
 {
     match file::open(bytes, areas, values, slopes) {
-        Opened::Refused(number, place) => refusal(number, place),
-        Opened::Curve(shape, count) => (256 * (shape as u64) + (count as u64)) as i64,
+        Opened::Refused(row, place) => refusal(row, place),
+        Opened::Curve(shape, count) => (256 * (shape.code() as u64) + (count as u64)) as i64,
     }
 }

@@ -6,6 +6,7 @@ ghost use Rattle.exports.specs.Exports.{c_number, pair_entries, c_pair_answer, c
 
 use exports::refusal;
 use pair::Pair;
+use refusal::Row;
 
 const PAIR_ENTRIES: usize = 3;
 
@@ -27,10 +28,10 @@ pub extern "C" fn curve_pair(
         shape form plan (length out.old)) out.old }
 {
     if out.len() < PAIR_ENTRIES {
-        return refusal(11, 0);
+        return refusal(Row::Room, 0);
     }
     match pair::read_pair(areas, values, slopes, shape, form, plan) {
-        Pair::Refused(number, place) => refusal(number, place),
+        Pair::Refused(row, place) => refusal(row, place),
         Pair::Factors(at_form, at_plan, difference) => {
             out[0] = at_form;
             out[1] = at_plan;

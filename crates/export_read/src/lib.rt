@@ -22,7 +22,7 @@ pub extern "C" fn curve_read(
         (λ ps. read_answer ps shape area)) }
 {
     match curve::read(areas, values, slopes, shape, area) {
-        Reading::Refused(number, place) => refusal(number, place),
+        Reading::Refused(row, place) => refusal(row, place),
         Reading::Factor(factor) => factor as i64,
     }
 }

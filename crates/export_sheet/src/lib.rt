@@ -30,7 +30,7 @@ pub extern "C" fn curve_sheet(
         out.old }
 {
     match curve::sheet(areas, values, slopes, shape, start, step, out) {
-        Filled::Refused(number, place) => refusal(number, place),
+        Filled::Refused(row, place) => refusal(row, place),
         Filled::Entries(n) => n as i64,
     }
 }

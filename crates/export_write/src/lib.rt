@@ -29,7 +29,7 @@ pub extern "C" fn curve_write(
         (file_bytes (points areas.now values.now slopes.now) shape) out.old }
 {
     match file::write(areas, values, slopes, shape, out) {
-        Written::Refused(number, place) => refusal(number, place),
+        Written::Refused(row, place) => refusal(row, place),
         Written::Length(n) => n as i64,
     }
 }

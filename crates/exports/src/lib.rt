@@ -1,24 +1,17 @@
 // What the calls give to C for a refusal.
 #![tactic(auto)]
 
-ghost use Rattle.std.specs.Prelude.{◌≡◌, ◌≤◌, ◌+◌, ◌*◌, pos, neg_ℤ};
-ghost use Rattle.model.specs.Inner.{number_most, table_most};
+ghost use Rattle.std.specs.Prelude.{◌≡◌, ◌+◌, ◌*◌, pos, neg_ℤ};
+ghost use Rattle.refusal.specs.Refusal.{number_of};
 ghost use Rattle.exports.specs.Exports.{word};
+
+use refusal::Row;
 
 // 2^32
 const WORD: u64 = 4294967296;
 
-pub fn refusal(number: u32, place: u32) -> i64
-    requires { number ≤ number_most }
-    ensures { result ≡ neg_ℤ (pos (word * number + place)) }
+pub fn refusal(row: Row, place: u32) -> i64
+    ensures { result ≡ neg_ℤ (pos (word * number_of row + place)) }
 {
-    import_refusal(number, place)
-}
-
-// The same of Import, whose refusals have two numbers more.
-pub fn import_refusal(number: u32, place: u32) -> i64
-    requires { number ≤ table_most }
-    ensures { result ≡ neg_ℤ (pos (word * number + place)) }
-{
-    -((WORD * (number as u64) + (place as u64)) as i64)
+    -((WORD * (row.number() as u64) + (place as u64)) as i64)
 }

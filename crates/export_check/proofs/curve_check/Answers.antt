@@ -11,11 +11,6 @@ use Rattle.curve.specs.Calls.{checked_answer}
 use Rattle.exports.proofs.Numbers.{c_refused, c_given}
 use Rattle.export_check.proofs.curve_check.Goals as goal
 
-pub refusal-requires : goal.refusal-requires
-unfolding checked_answer
-refusal-requires c = (subst Numbered (sym c.check.ensures ∙ ap checked_answer c.in-Refused.is)
-    (in_lists _ _ _ _ (in_check _ _))).most
-
 pub returns-in-Refused : goal.returns-in-Refused
 unfolding checked_answer
 returns-in-Refused c =

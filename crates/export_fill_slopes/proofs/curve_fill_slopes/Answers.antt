@@ -11,10 +11,6 @@ use Rattle.slopes.specs.Calls.{supplied_answer}
 use Rattle.exports.proofs.Numbers.{c_refused, c_given, in_fill}
 use Rattle.export_fill_slopes.proofs.curve_fill_slopes.Goals as goal
 
-pub refusal-requires : goal.refusal-requires
-unfolding supplied_answer
-refusal-requires c = (subst Numbered (sym c.fill_slopes.ensures.answer ∙ ap supplied_answer c.in-Refused.is) (in_fill _ _ _)).most
-
 pub returns-in-Refused-clause-answer : goal.returns-in-Refused-clause-answer
 unfolding supplied_answer
 returns-in-Refused-clause-answer c =

@@ -12,15 +12,10 @@ use Rattle.import.specs.Calls.{imported_answer}
 use Rattle.exports.proofs.Numbers.{c_refused, c_given, in_import}
 use Rattle.export_import.proofs.curve_import.Goals as goal
 
-pub import_refusal-requires : goal.import_refusal-requires
-unfolding imported_answer
-import_refusal-requires c = (subst (NumberedTo table_most) (sym c.«import».ensures.answer ∙ ap imported_answer c.in-Refused.is)
-    (in_import _ _ _ _ _)).most
-
 pub returns-in-Refused-clause-answer : goal.returns-in-Refused-clause-answer
 unfolding imported_answer
 returns-in-Refused-clause-answer c =
-    rw (to_z-of_z (record { sfits = c.import_refusal.type_inv }), c.import_refusal.ensures)
+    rw (to_z-of_z (record { sfits = c.refusal.type_inv }), c.refusal.ensures)
     (c_refused pos (sym c.«import».ensures.answer ∙ ap imported_answer c.in-Refused.is))
 
 pub returns-in-Points-clause-answer : goal.returns-in-Points-clause-answer

@@ -6,14 +6,12 @@ use native.Mathlib.Omega.{arith}
 use mir.Syntax.{w64}
 use mir.Facts.{to_z-of_z, to_z_pos}
 use Rattle.model.proofs.Numbered.{Numbered}
+use Rattle.shape.specs.Codes.{code_of}
+use Rattle.shape.proofs.Codes.{code_most}
 use Rattle.file.specs.Calls.{opened_answer}
 use Rattle.exports.specs.Exports.{c_shape_and_count}
 use Rattle.exports.proofs.Numbers.{c_refused, c_given, in_open}
 use Rattle.export_open.proofs.curve_open.Goals as goal
-
-pub refusal-requires : goal.refusal-requires
-unfolding opened_answer
-refusal-requires c = (subst Numbered (sym c.«open».ensures.answer ∙ ap opened_answer c.in-Refused.is) (in_open _ _ _ _)).most
 
 pub returns-in-Refused-clause-answer : goal.returns-in-Refused-clause-answer
 unfolding opened_answer
@@ -24,5 +22,6 @@ returns-in-Refused-clause-answer c =
 pub returns-in-Curve-clause-answer : goal.returns-in-Curve-clause-answer
 unfolding opened_answer c_shape_and_count
 returns-in-Curve-clause-answer c =
-    let small : 256 * c.in-Curve.shape + c.in-Curve.count < 2 ^ 63 = omega arith in
-    to_z_pos w64 small ∙ c_given c_shape_and_count (sym c.«open».ensures.answer ∙ ap opened_answer c.in-Curve.is)
+    let small : 256 * code_of c.in-Curve.shape + c.in-Curve.count < 2 ^ 63 = omega (arith, code_most c.in-Curve.shape) in
+    rw c.code.ensures
+    (to_z_pos w64 small ∙ c_given c_shape_and_count (sym c.«open».ensures.answer ∙ ap opened_answer c.in-Curve.is))

@@ -50,15 +50,6 @@ returns-then-out-lt-PAIR_ENTRIES-clause-list c =
     let s = c.args in
     rw (too_short s.areas.now s.values.now s.slopes.now s.shape s.form s.plan _ c.if-out-lt-PAIR_ENTRIES.true) refl
 
-pub refusal-requires-in-Refused : goal.refusal-requires-in-Refused
-unfolding factors_answer
-refusal-requires-in-Refused c =
-    let s = c.args in
-    let e = pair_decides s.areas.now s.values.now s.slopes.now s.shape s.form s.plan _ c.read_pair.result
-    c.if-out-lt-PAIR_ENTRIES.false
-    c.read_pair.ensures in
-    (subst Numbered (e ∙ ap factors_answer c.in-Refused.is) (in_pair _ _ _ _ _ _ _)).most
-
 pub returns-in-Refused-clause-answer : goal.returns-in-Refused-clause-answer
 unfolding factors_answer
 returns-in-Refused-clause-answer c =

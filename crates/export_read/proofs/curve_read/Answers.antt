@@ -17,11 +17,6 @@ use lib.IntN.{neg_ℤ, pos}
 use lib.Signed.{◌≤ℤ◌}
 use Rattle.export_read.proofs.curve_read.Goals as goal
 
-pub refusal-requires : goal.refusal-requires
-unfolding reading_answer
-refusal-requires c =
-    (subst Numbered (sym c.read.ensures.answer ∙ ap reading_answer c.in-Refused.is) (in_lists _ _ _ _ (in_reading _ _ _))).most
-
 pub returns-in-Refused : goal.returns-in-Refused
 unfolding reading_answer
 returns-in-Refused c =

@@ -11,11 +11,6 @@ use Rattle.curve.specs.Calls.{filled_answer}
 use Rattle.exports.proofs.Numbers.{c_refused, c_given}
 use Rattle.export_sheet.proofs.curve_sheet.Goals as goal
 
-pub refusal-requires : goal.refusal-requires
-unfolding filled_answer
-refusal-requires c = (subst Numbered (sym c.sheet.ensures.answer ∙ ap filled_answer c.in-Refused.is)
-    (in_lists _ _ _ _ (in_sheet _ _ _ _ _))).most
-
 pub returns-in-Refused-clause-answer : goal.returns-in-Refused-clause-answer
 unfolding filled_answer
 returns-in-Refused-clause-answer c =

@@ -11,10 +11,6 @@ use Rattle.file.specs.Calls.{written_answer}
 use Rattle.exports.proofs.Numbers.{c_refused, c_given, in_write}
 use Rattle.export_write.proofs.curve_write.Goals as goal
 
-pub refusal-requires : goal.refusal-requires
-unfolding written_answer
-refusal-requires c = (subst Numbered (sym c.write.ensures.answer ∙ ap written_answer c.in-Refused.is) (in_write _ _ _ _ _)).most
-
 pub returns-in-Refused-clause-answer : goal.returns-in-Refused-clause-answer
 unfolding written_answer
 returns-in-Refused-clause-answer c =
