@@ -2,10 +2,12 @@
 --   drop_later, copied_more   where the first entries are copied: those after them, and what a copy of the next ones leaves
 --   length_is, next, last     the length of such a list; where m more are copied; what a copy of all the rest leaves
 --   joined                    what one loop left was found by a later one
+--   block_inside              a block that a loop copies is in the list
 -- Assumes nothing.
 use mathlib.Core.Path.{◌≡◌, refl, sym, ◌∙◌, ap}
 use mathlib.Core.List.{List, ◌++◌, append_assoc}
-use Prim.Native.Nat.{ℕ, ◌+◌, ◌-◌, ◌≤◌}
+use Prim.Native.Nat.{ℕ, ◌+◌, ◌-◌, ◌*◌, ◌/◌, ◌≤◌, ◌<◌}
+use native.Mathlib.Nat.{div-add-mod', mul-le-mul_left}
 use native.Mathlib.Omega.{arith}
 use borrow.Rule.Slice.PartMut.{put_mid}
 use lib.ListN.{length, take, drop, length-append, length-drop}
@@ -74,3 +76,8 @@ joined {src} {found} {at = at} j h k =
       inner = k.inner;
       is = k.is ∙ rw j.is (ap (λ xs. take at src ++ xs) (drop_later _ src found j.inner h));
     }
+
+pub block_inside : (from size n k : ℕ) → from ≤ size → k < (size - from) / n → from + n * k + n ≤ size
+block_inside from size n k h t =
+    let blocks = (size - from) / n in
+    omega (arith, mul-le-mul_left {m = k + 1} {n = blocks} n (omega arith), div-add-mod' (size - from) n)

@@ -1,7 +1,7 @@
 // The desk reading.
 #![tactic(auto)]
 
-ghost use Rattle.std.specs.Prelude.{◌≡◌, ◌≤◌, ◌++◌, length, take, drop};
+ghost use Rattle.std.specs.Prelude.{◌≡◌, ◌<◌, ◌≤◌, ◌++◌, length, take, drop};
 ghost use Rattle.model.specs.Answer.{filled};
 ghost use Rattle.refusal.specs.Refusal.{answer_of};
 ghost use Rattle.desk_answer.specs.Desk.{desk_answer, desk_number, point_records};
@@ -15,8 +15,10 @@ use rows::Curve;
 
 // Copies from an index on by blocks of N bytes, and gives the index after them.
 fn copy_blocks<const N: usize>(src: &[u8], from: usize, dst: &mut [u8]) -> usize
-    requires { CopiedTo src.now dst.old dst.old from }
-    ensures { CopiedTo src.now dst.old dst.new result }
+    requires begun { CopiedTo src.now dst.old dst.old from }
+    requires size { 0 < N }
+    ensures copied { CopiedTo src.now dst.old dst.new result }
+    ensures onward { from ≤ result }
 {
     let blocks = (src.len() - from) / N;
     for k in 0..blocks {
