@@ -55,19 +55,6 @@ module _ {src found dst : List ℕ} {at : ℕ} (k : CopiedTo src found dst at) w
       rw (e, drop-drop m at dst, k.is)
       (copied_more at src found k.inner m (omega (arith, k.inner)) ∙ ap (λ (j : ℕ). take j src ++ drop j found) all)
 
--- nothing is copied yet
-pub none_copied : {src dst : List ℕ} → length src ≤ length dst → CopiedTo src dst dst 0
-none_copied h = record { room = h; inner = omega arith; is = refl }
-
--- what dst is now is what a later loop finds
-pub restart : {src found dst : List ℕ} {at : ℕ} → CopiedTo src found dst at → CopiedTo src dst dst at
-restart {src} {found} {at = at} k =
-    record {
-      room = rw (length_is k) k.room;
-      inner = k.inner;
-      is = k.is ∙ rw (← drop_later at src found k.inner {at = at} (omega arith), ← k.is);
-    }
-
 pub joined : {src found middle dst : List ℕ} {m at : ℕ} → CopiedTo src found middle m → m ≤ at → CopiedTo src middle dst at →
     CopiedTo src found dst at
 joined {src} {found} {at = at} j h k =

@@ -46,9 +46,8 @@ fn copy(src: &[u8], dst: &mut [u8])
 
 fn read(bytes: &[u8], area: u32, scratch: &mut [u8]) -> Result<i32, Refusal>
     ensures answer { answer_of (λ f. f) result ≡ desk_answer bytes.now area (length scratch.old) }
-    ensures scratch { scratch.new
-        ≡ filled (desk_answer bytes.now area (length scratch.old))
-        (point_records bytes.now) scratch.old }
+    ensures scratch { let answer = desk_answer bytes.now area (length scratch.old) in
+        scratch.new ≡ filled answer (point_records bytes.now) scratch.old }
 {
     let file = CurveFile::new(bytes)?;
     if scratch.len() < RECORD_SIZE * file.count() {

@@ -11,7 +11,7 @@ use Rattle.desk.proofs.read.Goals as goal
 pub returns-in_err-file : goal.returns-in_err-file
 returns-in_err-file c =
     let e = by_head (record_size * count c.args.bytes.now) c.args.bytes.now c.args.area (length c.args.scratch.now) _
-        c.in_err-file.ensures in
+    c.in_err-file.ensures in
     record { answer = refused_exit _ _ _ c.from_residual.ensures.1 ∙ sym e; scratch = sym (untouched _ _ e) }
 
 pub overflow_mul-count : goal.overflow_mul-count
@@ -23,14 +23,14 @@ pub returns-then-scratch-count : goal.returns-then-scratch-count
 returns-then-scratch-count c =
     let o = opened _ _ c.in_ok-file.ensures in
     let e = by_room (record_size * count c.args.bytes.now) c.args.bytes.now c.args.area (length c.args.scratch.now) o
-        (omega (arith, o.points)) in
+    (omega (arith, o.points)) in
     record { answer = rw c.at.ensures (sym e); scratch = sym (untouched _ _ e) }
 
 pub returns-in_err-curve : goal.returns-in_err-curve
 returns-in_err-curve c =
     let o = opened _ _ c.in_ok-file.ensures in
     let e = by_curve (record_size * count c.args.bytes.now) c.args.bytes.now c.args.area (length c.args.scratch.now) o
-        (omega (arith, o.points)) _ c.code.ensures c.in_err-curve.ensures in
+    (omega (arith, o.points)) _ c.code.ensures c.in_err-curve.ensures in
     record { answer = refused_exit _ _ _ c.from_residual-in_err-curve.ensures.1 ∙ sym e; scratch = sym (untouched _ _ e) }
 
 pub returns-in_err-i : goal.returns-in_err-i
@@ -38,7 +38,7 @@ returns-in_err-i c =
     let o = opened _ _ c.in_ok-file.ensures in
     let k = accepted _ _ _ _ _ o c.code.ensures c.in_ok-curve.ensures in
     let e = by_area (record_size * count c.args.bytes.now) c.args.bytes.now c.args.area (length c.args.scratch.now) o
-        (omega (arith, o.points)) k _ c.in_err-i.ensures in
+    (omega (arith, o.points)) k _ c.in_err-i.ensures in
     record { answer = refused_exit _ _ _ c.from_residual-in_err-i.ensures.1 ∙ sym e; scratch = sym (untouched _ _ e) }
 
 pub slice_bounds-copy-count : goal.slice_bounds-copy-count
@@ -63,6 +63,6 @@ returns c =
     let o = opened _ _ c.in_ok-file.ensures in
     let k = accepted _ _ _ _ _ o c.code.ensures c.in_ok-curve.ensures in
     let e = by_reading (record_size * count c.args.bytes.now) c.args.bytes.now c.args.area (length c.args.scratch.now) o
-        (omega (arith, o.points)) k (row_passed _ 7 0 _ (sym c.in_ok-i.ensures)) in
+    (omega (arith, o.points)) k (row_passed _ 7 0 _ (sym c.in_ok-i.ensures)) in
     let factor = to_z-of_z {w = w32} {z = c.factor_at.result} (record { sfits = c.factor_at.type_inv }) ∙ c.factor_at.ensures in
     record { answer = ap gives factor ∙ sym e; scratch = c.copy.ensures ∙ written _ o.size _ e }

@@ -1,5 +1,5 @@
 -- The factor, or −1,000,000 less the number of the row, which is small.
-use Rattle.std.proofs.Common.{◌≡◌, ℕ, w32, to_z, of_z, to_z-of_z, ℤ, pos, neg_ℤ, ◌-ℤ◌, ◌≤◌, arith, rules}
+use Rattle.std.proofs.Common.{◌≡◌, ℕ, w32, to_z, of_z, to_z-of_z, pos, neg_ℤ, ◌-ℤ◌, ◌≤◌, arith, rules}
 use mir.Facts.{to_z_pos}
 use Rattle.exact.proofs.Magnitude.{sfits_of_size, size--}
 use Rattle.refusal.proofs.Results.{number_most}

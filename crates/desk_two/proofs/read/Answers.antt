@@ -26,7 +26,7 @@ pub returns-in_err-curve : goal.returns-in_err-curve
 returns-in_err-curve c =
     let o = opened _ _ c.in_ok-file.ensures in
     let e = by_curve (2 * record_size) c.args.bytes.now c.args.area (length c.args.scratch.now) o (omega arith) _ c.code.ensures
-        c.in_err-curve.ensures in
+    c.in_err-curve.ensures in
     record { answer = refused_exit _ _ _ c.from_residual-in_err-curve.ensures.1 ∙ sym e; scratch = sym (untouched _ _ e) }
 
 pub returns-in_err-i : goal.returns-in_err-i
@@ -34,7 +34,7 @@ returns-in_err-i c =
     let o = opened _ _ c.in_ok-file.ensures in
     let k = accepted _ _ _ _ _ o c.code.ensures c.in_ok-curve.ensures in
     let e = by_area (2 * record_size) c.args.bytes.now c.args.area (length c.args.scratch.now) o (omega arith) k _
-        c.in_err-i.ensures in
+    c.in_err-i.ensures in
     record { answer = refused_exit _ _ _ c.from_residual-in_err-i.ensures.1 ∙ sym e; scratch = sym (untouched _ _ e) }
 
 fit : (c : In_ok-i) → point_offset c.in_ok-i.i + 2 * record_size ≤ length c.args.bytes.now
@@ -45,7 +45,7 @@ fit c =
     records_fit _ _ _ _ o.size k.same index (read_before_last _ _ c.in_ok-curve.curve.accepted c.args.area)
 
 pub overflow_mul-i : goal.overflow_mul-i
-overflow_mul-i c = record { fits = omega (arith, fit c, c.ranges) }
+overflow_mul-i c = record { fits = omega (arith, fit c) }
 
 pub overflow_add-i : goal.overflow_add-i
 overflow_add-i c = record { fits = omega (arith, fit c) }
@@ -64,7 +64,7 @@ returns c =
     let o = opened _ _ c.in_ok-file.ensures in
     let k = accepted _ _ _ _ _ o c.code.ensures c.in_ok-curve.ensures in
     let e = by_reading (2 * record_size) c.args.bytes.now c.args.area (length c.args.scratch.now) o (omega arith) k
-        (row_passed _ 7 0 _ (sym c.in_ok-i.ensures)) in
+    (row_passed _ 7 0 _ (sym c.in_ok-i.ensures)) in
     let factor = to_z-of_z {w = w32} {z = c.factor_at.result} (record { sfits = c.factor_at.type_inv }) ∙ c.factor_at.ensures in
     let index = gives_injective (sym (then_rest (row _ 7 0) _ (sym c.in_ok-i.ensures))) in
     record {
