@@ -1,5 +1,4 @@
 -- Laws that other crates cite.
 pub mod Values
-mod Large
-pub mod Figures
+mod Wholes
 pub mod Laws

@@ -7,11 +7,10 @@ use mathlib.Core.Path.{◌≡◌, refl, sym, ◌∙◌, ap, subst}
 use mathlib.Core.Bool.{Bool, true, false}
 use mathlib.Core.List.{[], ◌∷◌}
 use mathlib.Core.Logic.{◌⊎◌, inl, inr}
-use mathlib.Core.Option.{Option, none, some}
+use mathlib.Core.Option.{none, some}
 use Prim.Native.Nat.{ℕ, ◌*◌, ◌<◌}
 use native.Mathlib.Omega.{arith}
 use lib.IntN.{ℤ, pos, nat_abs, ◌+ℤ◌, ◌-ℤ◌, ◌*ℤ◌}
-use lib.Dec.{T}
 use lib.Ieee.{fin, up, down}
 use lib.Ieee.Fits.{down_pos}
 use Rattle.exact.specs.Fraction.{Fraction, ◌over◌, whole, ◌≈ℚ◌, eqℚ}
@@ -23,7 +22,6 @@ use Rattle.exact.proofs.Fractions.{≈_of_eqℚ, eqℚ_of_≈}
 use Rattle.exact.proofs.Floor.{Quotient, floor_div_unique}
 use Rattle.exact.proofs.Magnitude.{size_*, size_neg}
 use Rattle.exact.proofs.Tests.{true_or_false, T_true}
-use Rattle.binary64.specs.Inner.{present}
 use Rattle.binary64.specs.Value.{signed, float_value, whole_of, whole_number}
 
 some_injective : {A : Type 0} {x y : A} → some x ≡ some y → x ≡ y
@@ -31,11 +29,6 @@ some_injective e = cc
 
 pub none≢some : {A : Type 0} {x : A} → none ≡ some x → ⊥
 none≢some e = let z : ◌≡◌ {A = ℕ} 0 1 = cc in omega arith
-
-pub present_is : {A : Type 0} (o : Option A) → T (present o) → (x : A) × (o ≡ some x)
-unfolding present
-present_is none t = absurd t
-present_is (some x) t = (x, refl)
 
 pub signed_* : (negative : Bool) (n d : ℕ) → signed negative (n * d) ≡ signed negative n *ℤ pos d
 signed_* true n d = ring (pos n ∷ pos d ∷ []) (search terms depth 20 fits 9999) tt

@@ -10,19 +10,19 @@ use Rattle.curve.specs.declared.Reading.TheVariants as reading
 use Rattle.curve.specs.declared.Filled.{Filled}
 use Rattle.curve.specs.declared.Filled.TheVariants as filled
 
-unfoldable pub checked_answer : Checked → Answer ℕ
+abbrev pub checked_answer : Checked → Answer ℕ
 checked_answer (checked.Segments count) = gives count
 checked_answer (checked.Refused row place) = refused (number_of row) place
 
-unfoldable pub reading_answer : Reading → Answer ℤ
+abbrev pub reading_answer : Reading → Answer ℤ
 reading_answer (reading.Factor factor) = gives factor
 reading_answer (reading.Refused row place) = refused (number_of row) place
 
-unfoldable pub filled_answer : Filled → Answer ℕ
+abbrev pub filled_answer : Filled → Answer ℕ
 filled_answer (filled.Entries count) = gives count
 filled_answer (filled.Refused row place) = refused (number_of row) place
 
 -- no factor is below −200,000; nor, beyond document 01 and item 4, above 400,000
-unfoldable pub InRange : Answer ℤ → Type 0
+abbrev pub InRange : Answer ℤ → Type 0
 InRange (gives factor) = (neg_ℤ (pos 200000) ≤ℤ factor) × (factor ≤ℤ pos 400000)
 InRange (refused number place) = Unit {0}

@@ -8,7 +8,7 @@ use borrow.Author.Tests.{le-ltb}
 use lib.IntN.{ℤ}
 use lib.ListN.{length, take, drop}
 use lib.Seq.{take_at}
-use Rattle.model.specs.Answer.{Answer, gives, row, ◌then◌, filled}
+use Rattle.model.specs.Answer.{gives, row, ◌then◌, filled}
 use Rattle.model.specs.Points.{Point, points}
 use Rattle.model.specs.Check.{curve_rows}
 use Rattle.model.specs.Inner.{Accepted}
@@ -16,10 +16,11 @@ use Rattle.model.proofs.Rows.{gives_injective, then_first, then_rest}
 use Rattle.model.proofs.Answers.{on_lists_gives, on_lists_of_is}
 use Rattle.model.proofs.Lists.{fields_of, fields_length, points_of_fields}
 use Rattle.model.proofs.Accepted.{limits_of}
-use Rattle.layout.specs.Layout.{point_offset, shape_code, count, points_of}
+use Rattle.model.proofs.Filling.{field_first}
+use Rattle.layout.specs.Layout.{point_offset, shape_code, count, record_at, points_of}
 use Rattle.layout.specs.Head.{head_rows}
 use Rattle.layout.proofs.Heads.{size_of_passed}
-use Rattle.layout.proofs.Points.{size_of_first, first_of}
+use Rattle.layout.proofs.Points.{size_of_points}
 use Rattle.encoding.specs.File.{in_bytes, head_bytes, file_bytes}
 use Rattle.encoding.proofs.Records.{file_length}
 use Rattle.encoding.proofs.RoundTrip.{head_passes, points_back, file_back}
@@ -27,12 +28,7 @@ use Rattle.file.specs.Open.{ShapeAndCount, short_list, open_answer}
 use Rattle.file.specs.Write.{short_buffer, write_answer}
 use Rattle.file.specs.Laws.{Bytes, write_into, buffer_after, open_into, areas_after, values_after, slopes_after}
 use Rattle.file.specs.Laws.{OpeningGivesBack, OneFile, WrittenBack}
-
--- a lent list after a call that gives a result
-after_result : {A B : Type 0} {a : Answer A} {x : A} {list written : List B} (found : List B) → a ≡ gives x → list ≡ written →
-    filled a list found ≡ written ++ drop (length written) found
-unfolding filled
-after_result found e k = rw (e, k)
+use Rattle.file.proofs.Filled.{after_result}
 
 -- ---- the file of an accepted curve
 
@@ -138,7 +134,7 @@ unfolding write_answer short_buffer row ◌then◌
 writes bytes buffer small h k =
     let ps = points_of bytes in
     let size : point_offset (length ps) ≡ length bytes =
-    ap point_offset (size_of_first bytes (count bytes)) ∙ sym (size_of_passed bytes k.headed) in
+    ap point_offset (size_of_points bytes) ∙ sym (size_of_passed bytes k.headed) in
     let long = le-ltb (length buffer) (length bytes) h in
     let answer : write_into (map (λ p. p.area) ps) (map (λ p. p.value) ps) (map (λ p. p.slope) ps) (shape_code bytes) buffer
     ≡ gives (length bytes) = on_lists_of_is ps _ ∙ (rw (k.accepted.none_applies, size, long)) in
@@ -156,7 +152,7 @@ opened_first : (bytes : List ℕ) (head : ShapeAndCount) (areas values slopes : 
     ≡ take head.count (filled (open_answer bytes areas values slopes) (map field (points_of bytes)) found)
 opened_first bytes head areas values slopes e field found =
     let after = filled (open_answer bytes areas values slopes) (map field (points_of bytes)) found in
-    sym (first_of bytes (count bytes) field _ (after_result found e refl))
+    sym (field_first (record_at bytes) field (count bytes) _ (after_result found e refl))
     ∙ ap (λ (n : ℕ). take n after) (file_accepted bytes areas values slopes head e).count_is
 
 pub written_back : WrittenBack

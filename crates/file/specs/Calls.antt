@@ -10,10 +10,10 @@ use Rattle.file.specs.declared.Opened.TheVariants as opened
 use Rattle.file.specs.declared.Written.{Written}
 use Rattle.file.specs.declared.Written.TheVariants as written
 
-unfoldable pub opened_answer : Opened → Answer ShapeAndCount
+abbrev pub opened_answer : Opened → Answer ShapeAndCount
 opened_answer (opened.Curve shape count) = gives (record { shape = code_of shape; count = count })
 opened_answer (opened.Refused row place) = refused (number_of row) place
 
-unfoldable pub written_answer : Written → Answer ℕ
+abbrev pub written_answer : Written → Answer ℕ
 written_answer (written.Length n) = gives n
 written_answer (written.Refused row place) = refused (number_of row) place

@@ -20,6 +20,7 @@ use rows::Curve;
 use shape::Shape;
 
 // Row 11.
+#[tactic(auto, using(std::proofs::lemmas::Bool::Decides::nat_tests), unfolding(crate::specs::Open::short_list))]
 pub fn short_list(n: usize, areas: usize, values: usize, slopes: usize) -> bool
     ensures { result ≡ short_list n areas values slopes }
 {

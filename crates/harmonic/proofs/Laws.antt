@@ -1,31 +1,38 @@
 -- What is proved of the filling.
 -- Assumes nothing.
 use mathlib.Core.Path.{◌≡◌, refl, sym, ◌∙◌, ap}
+use mathlib.Core.Bool.{false}
 use mathlib.Core.List.{List, append-nil}
 use mathlib.Core.Logic.{inl, inr}
 use Prim.Native.Nat.{ℕ, ◌+◌, ◌-◌, ◌<◌}
 use native.Mathlib.Nat.{zero-add}
 use native.Mathlib.Omega.{arith}
+use borrow.Author.Tests.{eq-eqb}
 use lib.IntN.{ℤ, pos}
 use lib.ListN.{length, get_or}
 use lib.Seq.{drop-length}
 use Rattle.exact.proofs.Tests.{≤_of_lt_z_false}
 use Rattle.exact.proofs.Fractions.{positivity}
 use Rattle.exact.proofs.Floor.{floor_greatest}
-use Rattle.model.specs.Answer.{gives, filled}
+use Rattle.model.specs.Answer.{gives, ◌then◌, filled}
 use Rattle.model.specs.Points.{points, segments}
-use Rattle.model.specs.Check.{check_answer, on_lists}
+use Rattle.model.specs.Check.{lengths_differ, check_answer, on_lists}
+use Rattle.model.specs.Inner.{Alike}
+use Rattle.model.proofs.Answers.{on_lists_is}
+use Rattle.model.proofs.Lists.{fields_of, fields_length}
 use Rattle.model.proofs.Filling.{tabulate_length, tabulate_at}
 use Rattle.model.proofs.Indexed.{segments_length}
-use Rattle.rows.proofs.Faults.{no_fault}
-use Rattle.rows.proofs.Lists.{accepts, on_points}
 use Rattle.harmonic.specs.Rule.{hundredths, figure, figures}
 use Rattle.harmonic.specs.Fill.{too_steep, fill_answer, slopes_after}
 use Rattle.harmonic.specs.Inner.{Climbing}
 use Rattle.harmonic.specs.Laws.{FilledSlopes}
-use Rattle.harmonic.proofs.Rising.{Suits, suited_rows, climbing_of}
+use Rattle.harmonic.proofs.Rising.{Suits, rising_rows, zero_slope_rows, climbing_of}
 use Rattle.harmonic.proofs.Answers.{Given, given}
 use Rattle.harmonic.proofs.Figures.{regular, not_negative, level}
+
+same_of : {areas values slopes : ℕ} → Alike areas values slopes → lengths_differ areas values slopes ≡ false
+unfolding lengths_differ
+same_of k = rw (eq-eqb _ _ k.values_too, eq-eqb _ _ k.slopes_too)
 
 module _ (areas values : List ℕ) where
   figures_size : length (figures areas values) ≡ length areas
@@ -39,19 +46,19 @@ module _ (areas values : List ℕ) (slopes : List ℤ) (n : ℕ) (e : fill_answe
   g = given areas values (length slopes) n e
 
   climbs : Climbing areas values
-  climbs = climbing_of g.counted g.rated
+  climbs = climbing_of areas values g.alike.values_too g.rows_pass
 
   after : slopes_after areas values slopes ≡ figures areas values
   unfolding filled
   after =
-      let size : length (figures areas values) ≡ length slopes = figures_size areas values ∙ g.slopes_too in
+      let size : length (figures areas values) ≡ length slopes = figures_size areas values ∙ g.alike.slopes_too in
       rw (e, size, drop-length slopes) (append-nil (figures areas values))
 
   suits : Suits values (figures areas values)
   unfolding too_steep
   suits =
       let size = figures_size areas values in
-      let same = g.counted.same_length in
+      let same = g.alike.values_too in
       record {
         least = λ i h. rw (figure_at areas values i (omega arith)) (not_negative climbs i (omega arith));
         most = λ i h. rw (figure_at areas values i (omega arith)) (≤_of_lt_z_false (g.gentle i (omega arith)));
@@ -64,19 +71,22 @@ module _ (areas values : List ℕ) (slopes : List ℤ) (n : ℕ) (e : fill_answe
       }
 
   passes : on_lists areas values (slopes_after areas values slopes) (λ ps. check_answer ps 1) ≡ gives (n - 1)
-  unfolding check_answer
+  unfolding check_answer ◌then◌
   passes =
-      let rows = suited_rows g.counted (figures areas values) (sym (figures_size areas values)) suits ∙ g.rated in
-      let k = accepts areas values (figures areas values) 1 0 0 (no_fault 0 refl ∙ sym rows) refl in
+      let alike : Alike (length areas) (length values) (length (figures areas values)) =
+      record { values_too = g.alike.values_too; slopes_too = sym (figures_size areas values) } in
       let ps = points areas values (figures areas values) in
-      let number : length (segments ps) ≡ n - 1 = omega (arith, segments_length ps, k.size, g.number) in
-      rw after (on_points k (λ ps. gives (length (segments ps))) ∙ ap gives number)
+      let rows = rising_rows areas values _ alike suits ∙ sym (zero_slope_rows areas values g.alike.values_too) ∙ g.rows_pass in
+      let size = fields_length (fields_of areas values (figures areas values) alike) in
+      let number : length (segments ps) ≡ n - 1 = omega (arith, segments_length ps, size, g.number) in
+      rw after (on_lists_is areas values (figures areas values) (λ ps. check_answer ps 1) (same_of alike)
+      ∙ (rw rows (ap gives number)))
 
   entry : (i : ℕ) → i < n → get_or (slopes_after areas values slopes) i (pos 0) ≡ figure areas values i
   entry i h = rw after (figure_at areas values i (omega (arith, g.number)))
 
   again : fill_answer areas values (length (slopes_after areas values slopes)) ≡ gives n
-  again = rw (after, figures_size areas values, g.slopes_too) e
+  again = rw (after, figures_size areas values, g.alike.slopes_too) e
 
 pub filled_slopes : FilledSlopes
 unfolding hundredths

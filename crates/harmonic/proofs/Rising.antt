@@ -1,39 +1,39 @@
 -- Rows 3 to 6 of a rising curve, by its areas and values: slopes that suit the values decide none of them.
---   Suits          slopes from 0 to 10,000, and 0 at both ends of a level segment; zeros_suit, slopes that are all 0
---   suited_rows    rows 1 to 6 of points with such slopes are rows 3, 4 and 6; zero_slope_rows, zeros_rows, with slopes 0
---   climbing_of    what these rows leave
+--   Suits              slopes from 0 to 10,000, and 0 at both ends of a level segment
+--   rising_rows        rows 1 to 6 of points with such slopes are rows 1, 3, 4 and 6
+--   zero_slope_size, zero_slope_at    points with slopes that are all 0; zero_slope_rows, rows 1 to 6 of them
+--   climbing_of        what these rows leave
 -- Assumes nothing.
-use mathlib.Core.Path.{◌≡◌, refl, sym, ◌∙◌, ap}
+use mathlib.Core.Path.{◌≡◌, refl, sym, ◌∙◌}
 use mathlib.Core.Bool.{Bool, false, not, not-not}
 use mathlib.Core.List.{List, [], ◌∷◌}
 use mathlib.Core.Logic.{inl, inr}
 use mathlib.Core.Option.{Option, none, some}
-use Prim.Native.Nat.{ℕ, zero, suc, ◌+◌, ◌-◌, ◌≤◌, ◌<◌}
+use Prim.Native.Nat.{ℕ, zero, suc, ◌+◌, ◌-◌, ◌<◌}
 use native.Mathlib.Numerals.{add-one}
 use native.Mathlib.Omega.{arith}
-use borrow.Author.Tests.{eq-eqb, lt-ltb, le-ltb, ltb-false}
+use borrow.Author.Tests.{lt-ltb, le-ltb, ltb-false}
 use lib.Dec.{ltb}
 use lib.IntN.{ℤ, pos}
-use lib.ListN.{length, get_or, take, replicate, length-replicate, get_or-replicate}
+use lib.ListN.{length, get_or, replicate, length-replicate, get_or-replicate}
 use lib.Signed.{◌≤ℤ◌, le_z}
 use Rattle.exact.proofs.Order as Z
-use Rattle.exact.proofs.Tests.{compare, T_true}
+use Rattle.exact.proofs.Tests.{compare, true_or_false, T_true}
 use Rattle.model.specs.Answer.{gives, row, ◌then◌, row_at_each}
-use Rattle.model.specs.Points.{points_least, points_most, slope_most, Point, points, Segment, rising, Rule, plain, rule_of}
+use Rattle.model.specs.Points.{slope_most, Point, points, Segment, segments, rising, Rule, plain, rule_of}
 use Rattle.model.specs.Shape.{has_shape, segment_test}
-use Rattle.model.specs.Check.{lengths_differ, bad_count, bad_code, bad_slope, point_rows, curve_rows, on_lists}
-use Rattle.model.specs.Inner.{Alike, between, point_at, Good}
+use Rattle.model.specs.Check.{bad_count, bad_code, bad_slope, point_rows, segment_rows, curve_rows}
+use Rattle.model.specs.Inner.{Accepted, Alike, between, point_at, Good}
 use Rattle.model.proofs.Codes.{rule_of_1}
-use Rattle.model.proofs.Rows.{then_rest}
-use Rattle.model.proofs.Answers.{on_lists_is}
+use Rattle.model.proofs.Rows.{then_rest, count_of_row_1}
 use Rattle.model.proofs.Places.{each_fails}
 use Rattle.model.proofs.Walk.{good_ordered}
 use Rattle.model.proofs.Indexed.{chained_at}
-use Rattle.model.proofs.Accepted.{chained_of}
+use Rattle.model.proofs.Accepted.{count_of, chained_of}
 use Rattle.model.proofs.Lists.{Fields, fields_of, fields_length, fields_at}
 use Rattle.shape.proofs.Tests.{climbing_shape, level_shape, descending_shape}
 use Rattle.rows.proofs.Faults.{segments_from, segment_turn, segment_end}
-use Rattle.harmonic.specs.Inner.{zero_slope_points, rated_rows, Counted, Climbing}
+use Rattle.harmonic.specs.Inner.{zero_slope_points, rated_rows, Climbing}
 use Rattle.harmonic.specs.Fill.{area_and_value_rows, falls}
 
 pub record Suits (values : List ℕ) (slopes : List ℤ) : Type 0 where
@@ -103,33 +103,38 @@ module _ (areas values : List ℕ) (slopes : List ℤ) (alike : Alike (length ar
   abbrev ps : List Point
   ps = points areas values slopes
 
+  size : length ps ≡ length areas
+  size = fields_length (fields_of areas values slopes alike)
+
   rises_at : (i : ℕ) → i + 1 < length ps →
       segment_test (plain rising) (between (point_at ps i) (point_at ps (i + 1))) ≡ not (falls values i)
   unfolding falls segment_test
   rises_at i h =
       let fields = fields_of areas values slopes alike in
-      let size = fields_length fields in
       let next : suc i ≡ i + 1 = omega arith in
+      let e = size in
       rw (fields_at fields i, fields_at fields (i + 1), next)
       (rises _ (suits.least i (omega arith)) (suits.least (i + 1) (omega arith)) (suits.level i (omega arith)))
 
-  rising_rows : 0 < length areas →
-      curve_rows ps 1 ≡ (row (bad_count (length areas)) 1 0 then rated_rows areas values)
-  unfolding curve_rows bad_code row ◌then◌
-  rising_rows any =
-      let size = fields_length (fields_of areas values slopes alike) in
+  rows_3_to_6 : 0 < length areas →
+      (point_rows 0 none ps then segment_rows 0 (plain rising) (segments ps)) ≡ rated_rows areas values
+  rows_3_to_6 any =
       let good : (j : ℕ) → j < length slopes → bad_slope (get_or slopes j (pos 0)) ≡ false =
       λ j h. in_range _ (suits.least j h) (suits.most j h) in
       let first = rows_3_to_5 0 none areas values slopes alike.values_too alike.slopes_too good in
-      let second = rows_from ps (plain rising) (falls values) rises_at (length areas - 1) 0 (omega arith) in
-      rw (size, first, rule_of_1 {code = 1} refl, second)
+      let second = rows_from ps (plain rising) (falls values) rises_at (length areas - 1) 0 (omega (arith, size)) in
+      rw (first, second)
+
+  pub rising_rows : curve_rows ps 1 ≡ (row (bad_count (length areas)) 1 0 then rated_rows areas values)
+  unfolding curve_rows bad_code row ◌then◌
+  rising_rows =
+      rw (size, rule_of_1 {code = 1} refl)
+      (elim (true_or_false (bad_count (length areas))) [
+        | inl e ↦ rw e
+        | inr e ↦ let n = (count_of_row_1 _ e).0 in rw e (rows_3_to_6 (omega arith))
+      ])
 
 -- ---- slopes that are all 0
-
-take_replicate : {A : Type 0} (m n : ℕ) (x : A) → m ≤ n → take m (replicate n x) ≡ replicate m x
-take_replicate zero n x h = refl
-take_replicate (suc m) zero x h = absurd (omega arith)
-take_replicate (suc m) (suc n) x h = ap (x ∷◌) (take_replicate m n x (omega arith))
 
 zeros_suit : (values : List ℕ) (n : ℕ) → length values ≡ n → Suits values (replicate n (pos 0))
 zeros_suit values n e =
@@ -142,34 +147,12 @@ zeros_suit values n e =
       level = λ i h _. (zero_at i (omega arith), zero_at (i + 1) (omega arith));
     }
 
--- ---- what rows 1, 3, 4 and 6 leave
-
-same_of : {areas values slopes : ℕ} → Alike areas values slopes → lengths_differ areas values slopes ≡ false
-unfolding lengths_differ
-same_of k = rw (eq-eqb _ _ k.values_too, eq-eqb _ _ k.slopes_too)
-
-module _ {areas values : List ℕ} (k : Counted areas values) where
-  -- they are the rows of points with such slopes
-  module _ (slopes : List ℤ) (e : length areas ≡ length slopes) (suits : Suits values slopes) where
-    alike : Alike (length areas) (length values) (length slopes)
-    alike = record { values_too = k.same_length; slopes_too = e }
-
-    suited_curve : curve_rows (points areas values slopes) 1 ≡ rated_rows areas values
-    unfolding bad_count row ◌then◌
-    suited_curve =
-        rising_rows areas values slopes alike suits (omega (arith, k.least))
-        ∙ (rw (le-ltb (length areas) points_least k.least, le-ltb points_most (length areas) k.most))
-
-    pub suited_rows : on_lists areas values slopes (λ ps. curve_rows ps 1) ≡ rated_rows areas values
-    suited_rows = on_lists_is areas values slopes (λ ps. curve_rows ps 1) (same_of alike) ∙ suited_curve
-
-  -- ---- points with slopes that are all 0
-
-  zeros_size : length areas ≡ length (replicate (length areas) (pos 0))
-  zeros_size = sym (length-replicate (length areas) (pos 0))
+module _ (areas values : List ℕ) (e : length areas ≡ length values) where
+  zeros_alike : Alike (length areas) (length values) (length (replicate (length areas) (pos 0)))
+  zeros_alike = record { values_too = e; slopes_too = sym (length-replicate (length areas) (pos 0)) }
 
   zero_slope_fields : Fields (zero_slope_points areas values) areas values (replicate (length areas) (pos 0))
-  zero_slope_fields = fields_of areas values _ (record { values_too = k.same_length; slopes_too = zeros_size })
+  zero_slope_fields = fields_of areas values _ zeros_alike
 
   pub zero_slope_size : length (zero_slope_points areas values) ≡ length areas
   zero_slope_size = fields_length zero_slope_fields
@@ -178,25 +161,21 @@ module _ {areas values : List ℕ} (k : Counted areas values) where
       point_at (zero_slope_points areas values) i ≡ record { area = get_or areas i 0; value = get_or values i 0; slope = pos 0 }
   zero_slope_at i h = fields_at zero_slope_fields i ∙ (rw (get_or-replicate (length areas) i (pos 0) (pos 0) h))
 
-  pub zero_slope_rows : curve_rows (zero_slope_points areas values) 1 ≡ rated_rows areas values
-  zero_slope_rows = suited_curve _ zeros_size (zeros_suit values (length areas) (sym k.same_length))
+  pub zero_slope_rows : curve_rows (zero_slope_points areas values) 1
+      ≡ (row (bad_count (length areas)) 1 0 then rated_rows areas values)
+  zero_slope_rows = rising_rows areas values _ zeros_alike (zeros_suit values (length areas) (sym e))
 
-  -- as many zeros of a longer list of them
-  pub zeros_rows : (n : ℕ) → length areas ≤ n →
-      on_lists areas values (take (length areas) (replicate n (pos 0))) (λ ps. curve_rows ps 1) ≡ rated_rows areas values
-  zeros_rows n h =
-      rw (take_replicate (length areas) n (pos 0) h)
-      (suited_rows _ zeros_size (zeros_suit values (length areas) (sym k.same_length)))
-
-  pub climbing_of : rated_rows areas values ≡ gives tt → Climbing areas values
+  pub climbing_of : curve_rows (zero_slope_points areas values) 1 ≡ gives tt → Climbing areas values
   unfolding falls
   climbing_of pass =
-      let accepted = chained_of (record { none_applies = zero_slope_rows ∙ pass }) in
-      let level = then_rest (area_and_value_rows 0 none areas values) _ pass in
+      let k : Accepted (zero_slope_points areas values) 1 = record { none_applies = pass } in
+      let rated = then_rest (row (bad_count (length areas)) 1 0) _ (sym zero_slope_rows ∙ pass) in
+      let level = then_rest (area_and_value_rows 0 none areas values) _ rated in
+      let n = rw zero_slope_size at (count_of k) in
       record {
-        counted = k;
+        counted = record { same_length = e; least = n.0; most = n.1 };
         climbs = λ i h.
-            let good = chained_at (Good (rule_of 1)) good_ordered accepted i (omega (arith, zero_slope_size)) in
+            let good = chained_at (Good (rule_of 1)) good_ordered (chained_of k) i (omega (arith, zero_slope_size)) in
             let ends = rw (zero_slope_at i (omega arith), zero_slope_at (suc i) (omega arith), ← add-one i) at good.ends in
             record {
               ordered = ends.ordered;

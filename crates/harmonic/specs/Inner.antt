@@ -1,7 +1,7 @@
 -- What laws and contracts of inner functions cite. Nothing here need be believed: the call's contract cites Rule and Fill.
 --   rated_rows           rows 3, 4 and 6; Counted, row 1 is passed; zero_slope_points, points with slopes 0
 --   Climbs, Climbing     what rows 1, 3, 4 and 6 leave of two neighbouring points, of all points
---   Chord                a chord; Sized, Beside, the sizes of one, of two
+--   Chord                a chord; Sized, its sizes
 --   ChordAt              the chord that begins at an index
 --   slope_of             a chord's slope; across, the slope across two chords
 -- Assumes nothing.
@@ -48,10 +48,6 @@ pub record Sized (c : Chord) : Type 0 where
   pub rise : c.rise ≤ value_most
   pub some : 0 < c.gap
   pub gap : c.gap ≤ gap_most
-
-pub record Beside (c d : Chord) : Type 0 where
-  pub one : Sized c
-  pub other : Sized d
 
 pub record ChordAt (areas values : List ℕ) (i : ℕ) (c : Chord) : Type 0 where
   pub rise : c.rise ≡ get_or values (i + 1) 0 - get_or values i 0

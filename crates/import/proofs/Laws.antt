@@ -20,7 +20,7 @@ use Rattle.model.specs.Points.{Point, origin, point_at}
 use Rattle.model.specs.Check.{bad_count, bad_code, bad_area, bad_value, bad_slope, point_rows, curve_rows}
 use Rattle.model.proofs.Rows.{gives_injective, refused≢gives, then_first, then_rest, row_passed}
 use Rattle.model.proofs.Filling.{tabulate_length, tabulate_at, field_length}
-use Rattle.layout.proofs.Points.{size_of_first}
+use Rattle.layout.proofs.Points.{size_of_points}
 use Rattle.layout.specs.Layout as file
 use Rattle.file.specs.Open.{ShapeAndCount, short_list, open_answer}
 use Rattle.binary64.specs.Laws.{Exactly}
@@ -236,7 +236,7 @@ module _ {bytes : List ℕ} {ps : List Point} (k : Exports bytes ps) where
   unfolding open_answer ◌then◌
   as_open code areas values slopes curve_file f =
       let same : file.count curve_file ≡ length ps =
-      sym (size_of_first curve_file (file.count curve_file)) ∙ ap length f.points in
+      sym (size_of_points curve_file) ∙ ap length f.points in
       answer_is code areas values slopes
       ∙ rw (f.head, f.points, f.shape, same)
       (sym (without_shape (short_list (length ps) areas values slopes) (curve_rows ps code)

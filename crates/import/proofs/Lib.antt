@@ -1,3 +1,4 @@
 -- Laws of Import, and examples by computation.
 pub mod Laws
 pub mod Examples
+mod Taking

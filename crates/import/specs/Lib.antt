@@ -3,4 +3,3 @@ pub mod Import
 pub mod Calls
 pub mod Laws
 pub mod Examples
-pub mod Inner

@@ -4,7 +4,7 @@
 --   least, most         2 to 64
 --   outside_is          row 7, by the first and the last point
 --   reached_first       an area that is not outside is not below that of the first point
---   neighbours_at, inside_at    the segment at an index, and an area read there
+--   read_before_last, inside_at    the segment read has a right point, and the area is inside it
 -- Assumes nothing.
 use Rattle.std.proofs.Common.{◌≡◌, ℕ, suc, ◌+◌, ◌-◌, ◌*◌, ◌/◌, ◌≤◌, ◌<◌, List, true, false, ◌||◌, ltb, length, get_or, min, inl, inr, refl, arith}
 use native.Mathlib.Nat.{mod-lt, div-add-mod', mul-le-mul_left, min-eq_left, min-eq_right}

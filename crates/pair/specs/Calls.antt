@@ -6,6 +6,6 @@ use Rattle.pair.specs.Pair as spec
 use Rattle.pair.specs.declared.Pair.{Pair}
 use Rattle.pair.specs.declared.Pair.TheVariants.{Factors, Refused}
 
-unfoldable pub factors_answer : Pair → Answer spec.Factors
+abbrev pub factors_answer : Pair → Answer spec.Factors
 factors_answer (Factors form plan difference) = gives (record { form = form; plan = plan; difference = difference })
 factors_answer (Refused row place) = refused (number_of row) place

@@ -1,11 +1,15 @@
 // Prints the sheet of the curve file on standard input.
 #![tactic(auto)]
 
-ghost use Rattle.ratesheet.specs.Inner.{Came};
+ghost use Rattle.std.specs.Prelude.{◌≡◌, IfOk, IfSome};
+ghost use Rattle.sheet_text.specs.SheetText.{sheet_text};
 
+use arrayvec::{ArrayString, ArrayVec};
+use sheet_text::Text;
 use std::env::{Env, FillError};
+use std::fmt::Write as _;
 use std::io;
-use std::io::{ErrorKind, Read, Write};
+use std::io::{ErrorKind, Read};
 use std::process::ExitCode;
 
 // What the arguments ask for.
@@ -19,13 +23,11 @@ enum Request {
 
 // What a single argument asks for.
 fn asked_by(word: &[u8]) -> Request {
-    if word == b"--help".as_slice() {
-        return Request::Help;
+    match word {
+        b"--help" => Request::Help,
+        b"--version" => Request::Version,
+        _ => Request::Unknown,
     }
-    if word == b"--version".as_slice() {
-        return Request::Version;
-    }
-    Request::Unknown
 }
 
 fn asked(rt: &impl Env) -> Request {
@@ -42,19 +44,15 @@ fn asked(rt: &impl Env) -> Request {
 
 // An error's words, without the number that std puts behind those of the system.
 fn reason(text: &str) -> &str {
-    match text.split_once(" (os error ") {
-        Some((words, _)) => words,
-        None => text,
-    }
+    text.split_once(" (os error ")
+        .map_or(text, |(words, _)| words)
 }
 
 // Says on standard error what could not be done, and why.
 fn fail(rt: &impl Eprint, what: &str, error: io::Error) {
-    let mut text = [0u8; 256];
-    let mut rest = &mut text[..];
-    let _ = write!(rest, "{error}");
-    let n = 256usize.saturating_sub(rest.len());
-    let why = reason(std::str::from_utf8(&text[..n]).unwrap_or(""));
+    let mut text = ArrayString::<256>::new();
+    let _ = write!(text, "{error}");
+    let why = reason(&text);
     let _ = eprintln!(rt; "{what}: {why}");
 }
 
@@ -90,54 +88,22 @@ fn print_help(rt: &(impl Print + Eprint)) -> ExitCode {
     )
 }
 
-// What reading gave.
-#[derive(Clone, Copy)]
-enum Input {
-    Bytes(usize),
-    Failed(io::Error),
-}
+// The first 776 bytes of a file decide its sheet.
+const READ_MOST: usize = sheet_text::FILE_MOST + 1;
 
-// One read.
-fn read_some(input: &mut impl Read, buf: &mut [u8]) -> Input
-    ensures { Came result buf.new }
+// The sheet of the file that a reader gives.
+fn sheet<R: Read + Drop>(input: R) -> io::Result<Text>
+    ensures { IfOk result (λ text. IfSome (R.remaining input) (λ bytes. text.bytes ≡ sheet_text bytes)) }
 {
-    match input.read(buf) {
-        Ok(n) => Input::Bytes(n),
-        Err(error) => Input::Failed(error),
-    }
+    let mut bytes = ArrayVec::<u8, READ_MOST>::new();
+    io::copy(&mut input.take(READ_MOST as u64), &mut bytes)?;
+    Ok(sheet_text::sheet_text(&bytes))
 }
 
-// Reads until the buffer is full or the input ends.
-fn read_all(input: &mut impl Read, buf: &mut [u8]) -> Input
-    ensures { Came result buf.new }
-{
-    let mut n: usize = 0;
-    while n < buf.len() {
-        match read_some(input, &mut buf[n..]) {
-            Input::Failed(error) => return Input::Failed(error),
-            Input::Bytes(more) => {
-                if more == 0 {
-                    return Input::Bytes(n);
-                }
-                n += more;
-            }
-        }
-    }
-    Input::Bytes(n)
-}
-
-fn print_sheet(rt: &(impl Print + Eprint), bytes: &[u8]) -> ExitCode {
-    let mut out = [0u8; sheet_text::TEXT_MOST];
-    let n = sheet_text::sheet_text(bytes, &mut out);
-    print(rt, &out[..n])
-}
-
-// The first 776 bytes of a file decide what is printed (`FirstBytesDecide` in sheet_text's specs).
-fn print_input(rt: &(impl Print + Eprint), input: &mut impl Read) -> ExitCode {
-    let mut bytes = [0u8; sheet_text::FILE_MOST + 1];
-    match read_all(input, &mut bytes) {
-        Input::Bytes(n) => print_sheet(rt, &bytes[..n]),
-        Input::Failed(error) => {
+fn print_sheet(rt: &(impl Print + Eprint), input: impl Read + Drop) -> ExitCode {
+    match sheet(input) {
+        Ok(text) => print(rt, text.as_bytes()),
+        Err(error) => {
             fail(rt, "ratesheet: cannot read standard input", error);
             ExitCode::SUCCESS
         }
@@ -146,7 +112,7 @@ fn print_input(rt: &(impl Print + Eprint), input: &mut impl Read) -> ExitCode {
 
 fn main(rt: HostRuntime) -> ExitCode {
     match asked(&rt) {
-        Request::Sheet => print_input(&rt, &mut rt.stdin()),
+        Request::Sheet => print_sheet(&rt, rt.stdin()),
         Request::Help => print_help(&rt),
         Request::Version => print(&rt, b"ratesheet 0.6.0\n"),
         Request::Unknown => {

@@ -1,3 +1,4 @@
 -- Laws of rows 1 to 6 that other crates cite.
 pub mod Faults
 pub mod Passing
+pub mod Lists

@@ -50,8 +50,8 @@ fn all_pass<P: Points>(points: &P, shape: Shape) -> bool
     if p.check(None).is_err() {
         return false;
     }
-    for left in 0..points.count() - 1 {
-        let q = points.point(left + 1);
+    for i in 0..points.count() - 1 {
+        let q = points.point(i + 1);
         if !follows(shape, p, q) {
             return false;
         }

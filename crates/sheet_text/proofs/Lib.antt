@@ -1,5 +1,4 @@
 -- Proofs of `sheet_text`.
-pub mod Areas
-pub mod Texts
+pub mod Lines
 pub mod Rows
 pub mod Laws

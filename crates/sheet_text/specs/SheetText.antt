@@ -1,6 +1,6 @@
 -- Document 01, "The curve file": what the program `ratesheet` prints for the bytes of a file.
 -- Assumes nothing.
-use Rattle.std.specs.Prelude.{ℕ, zero, suc, ◌+◌, ◌-◌, ◌/◌, ◌≤◌, ◌≡◌, List, [], ◌∷◌, ◌++◌, ltb, ℤ, length, take}
+use Rattle.std.specs.Prelude.{ℕ, zero, suc, ◌+◌, ◌-◌, ◌/◌, List, [], ◌∷◌, ◌++◌, ltb, ℤ, length}
 use Rattle.model.specs.Answer.{Answer, gives, refused, row, ◌then◌}
 use Rattle.model.specs.Points.{points_most, Point}
 use Rattle.model.specs.Read.{reading, last_area}
@@ -51,7 +51,3 @@ answer_text ps (refused number place) = refusal_line number place
 
 unfoldable pub sheet_text : List ℕ → List ℕ
 sheet_text bytes = answer_text (points_of bytes) (file_answer bytes)
-
--- so many bytes stand at the start of a buffer
-abbrev pub IsPrefixLen : ℕ → List ℕ → Type 0
-IsPrefixLen n buffer = (n ≤ length buffer) × (n ≡ length (take n buffer))

@@ -1,2 +1,2 @@
--- Sizes of products.
-pub mod Sizes
+-- Figures in a list.
+pub mod Filling

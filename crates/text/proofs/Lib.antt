@@ -1,4 +1,3 @@
 -- Proofs of `text`.
-pub mod Pieces
 pub mod Digits
 pub mod Examples

@@ -1,4 +1,3 @@
--- Text in ASCII, and text put into a buffer.
+-- Text in ASCII.
 pub mod Text
 pub mod Examples
-pub mod Inner

@@ -1,4 +1,7 @@
 -- Laws that other crates cite.
-pub mod Limits
-pub mod Rows
+mod Limits
 mod Taking
+mod Rows
+mod Decoding
+mod Answered
+pub mod Sizes

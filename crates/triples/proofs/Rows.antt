@@ -1,16 +1,15 @@
 -- Rows 14 and 3 to 6 of an export, by those of its points brought into range.
---   whole_points        the points before one that is not taken
---   rows_of_whole       rows 3 to 5 of these, then row 14
+--   rows_of_whole       rows 3 to 5 of the points before one that is not taken, then row 14
 --   points_of_passed    where they refuse nothing, these are the export's points
 --   at_most_all         as many are taken as there are, or fewer
---   export_of_curve     rows 1 to 6 and 14, where all are taken; export_of_14, where one is not; points_of_accepted
---   points_of_table     which points a table has
+--   points_given        rows 1 to 6 and 14 where all are taken, then the points
+--   refused_by_count, refused_by_code, refused_before_14, refused_by_14    which row refuses
 -- Assumes nothing.
 use mathlib.Core.Path.{◌≡◌, refl, sym, ◌∙◌, ap}
 use mathlib.Core.Bool.{Bool, true, false}
 use mathlib.Core.List.{List, [], ◌∷◌, map}
 use mathlib.Core.Option.{Option, none, some}
-use Prim.Native.Nat.{ℕ, zero, suc, ◌+◌, ◌-◌, ◌≤◌, ◌<◌}
+use Prim.Native.Nat.{ℕ, suc, ◌+◌, ◌≤◌, ◌<◌}
 use native.Mathlib.Nat.{zero-add, add-zero}
 use native.Mathlib.Omega.{arith}
 use borrow.Author.Tests.{ltb-false, lt-ltb, le-ltb}
@@ -18,20 +17,18 @@ use lib.Dec.{ltb, leb, ltb→lt, lt→ltb}
 use lib.ListN.{length}
 use Rattle.exact.proofs.Tests.{same_test, or_left}
 use Rattle.model.specs.Answer.{Answer, gives, refused, row, ◌then◌}
-use Rattle.model.specs.Points.{Point, segments, rule_of}
+use Rattle.model.specs.Points.{segments, rule_of}
 use Rattle.model.specs.Check.{bad_count, bad_code, bad_area, bad_value, bad_slope, point_rows, segment_rows, curve_rows}
 use Rattle.model.specs.Inner.{Limits}
-use Rattle.model.specs.Sheet.{tabulate}
-use Rattle.model.proofs.Rows.{passed, then_first, then_rest}
-use Rattle.binary64.specs.Inner.{clamp}
+use Rattle.model.proofs.Rows.{passed, row_refused, then_first, then_rest}
+use Rattle.binary64.specs.Inner.{saturate}
 use Rattle.triples.specs.Triples.{WholePoint, natural, triple_rows, point_from, export_rows}
-use Rattle.triples.specs.Inner.{outward, clamped_point, clamped_or_origin, whole_count}
+use Rattle.triples.specs.Inner.{outward, ranged_point, whole_points}
 use Rattle.triples.proofs.Limits.{area_alike, value_alike, slope_alike, natural_of_limit, slope_of_limit}
 
-unfoldable pub whole_points : List (Option WholePoint) → List Point
-whole_points [] = []
-whole_points (none ∷ ps) = []
-whole_points (some p ∷ ps) = clamped_point p ∷ whole_points ps
+-- how many are taken before one that is not
+abbrev pub whole_count : List (Option WholePoint) → ℕ
+whole_count ps = length (whole_points ps)
 
 -- row 14, at the first point that is not taken
 abbrev pub row_14 : ℕ → List (Option WholePoint) → Answer (Unit {0})
@@ -57,7 +54,7 @@ three_then false false false i f g r h = h refl
 
 -- one point more before it
 row_14_next : (i : ℕ) (p : WholePoint) (ps : List (Option WholePoint)) → row_14 (suc i) ps ≡ row_14 i (some p ∷ ps)
-unfolding whole_count
+unfolding whole_points
 row_14_next i p ps =
     let k = whole_count ps in
     let test : ltb k (length ps) ≡ ltb (suc k) (suc (length ps)) = same_test _ _
@@ -66,48 +63,42 @@ row_14_next i p ps =
     let place : suc i + k ≡ i + suc k = omega arith in
     rw (test, place) refl
 
-pub rows_of_whole : (i : ℕ) (before : Option ℕ) (ps : List (Option WholePoint)) →
+rows_of_whole : (i : ℕ) (before : Option ℕ) (ps : List (Option WholePoint)) →
     triple_rows i before ps ≡ (point_rows i before (whole_points ps) then row_14 i ps)
-unfolding triple_rows point_rows whole_points whole_count clamped_point row ◌then◌
+unfolding triple_rows point_rows whole_points ranged_point row ◌then◌
 rows_of_whole i before [] = refl
 rows_of_whole i before (none ∷ ps) = rw (lt-ltb 0 (suc (length ps)) (omega arith), add-zero i) refl
 rows_of_whole i before (some p ∷ ps) =
-    let area = outward (clamp p.area) in
+    let area = outward (saturate p.area) in
     let later : bad_area before area ≡ false →
     triple_rows (suc i) (some (natural p.area)) ps
     ≡ (point_rows (suc i) (some area) (whole_points ps) then row_14 i (some p ∷ ps)) =
     λ e. rw (sym (natural_of_limit p.area (small_area before area e))) (rows_of_whole (suc i) (some area) ps)
     ∙ ap (λ r. point_rows (suc i) (some area) (whole_points ps) then r) (row_14_next i p ps) in
     rw (area_alike before p.area, value_alike p.value, slope_alike p.slope)
-    (three_then (bad_area before area) (bad_value (outward (clamp p.value))) (bad_slope (clamp p.slope)) i _ _ _ later)
+    (three_then (bad_area before area) (bad_value (outward (saturate p.value))) (bad_slope (saturate p.slope)) i _ _ _ later)
 
 -- ---- where they refuse nothing
 
-point_alike : (p : WholePoint) → Limits (clamped_point p) → clamped_point p ≡ point_from (some p)
-unfolding clamped_point point_from
+point_alike : (p : WholePoint) → Limits (ranged_point p) → ranged_point p ≡ point_from (some p)
+unfolding ranged_point point_from
 point_alike p k =
     let area = natural_of_limit p.area (omega (arith, k.area)) in
     let value = natural_of_limit p.value k.value in
     let slope = slope_of_limit p.slope k.slope_low k.slope_high in
     rw (area, value, slope) refl
 
-pub points_of_passed : (i : ℕ) (before : Option ℕ) (ps : List (Option WholePoint)) → whole_count ps ≡ length ps →
+points_of_passed : (i : ℕ) (before : Option ℕ) (ps : List (Option WholePoint)) → whole_count ps ≡ length ps →
     point_rows i before (whole_points ps) ≡ gives tt → whole_points ps ≡ map point_from ps
-unfolding whole_points whole_count
+unfolding whole_points
 points_of_passed i before [] all e = refl
 points_of_passed i before (none ∷ ps) all e = absurd (omega arith)
 points_of_passed i before (some p ∷ ps) all e =
-    let k = passed i before (clamped_point p) (whole_points ps) e in
-    rw (points_of_passed (suc i) (some (clamped_point p).area) ps (omega arith) k.later, point_alike p k.limits) refl
+    let k = passed i before (ranged_point p) (whole_points ps) e in
+    rw (points_of_passed (suc i) (some (ranged_point p).area) ps (omega arith) k.later, point_alike p k.limits) refl
 
-pub whole_length : (ps : List (Option WholePoint)) → length (whole_points ps) ≡ whole_count ps
-unfolding whole_points whole_count
-whole_length [] = refl
-whole_length (none ∷ ps) = refl
-whole_length (some p ∷ ps) = ap suc (whole_length ps)
-
-pub at_most_all : {A : Type 0} (ps : List (Option A)) → whole_count ps ≤ length ps
-unfolding whole_count
+pub at_most_all : (ps : List (Option WholePoint)) → whole_count ps ≤ length ps
+unfolding whole_points
 at_most_all [] = omega arith
 at_most_all (none ∷ ps) = omega arith
 at_most_all (some p ∷ ps) = omega (arith, at_most_all ps)
@@ -115,7 +106,7 @@ at_most_all (some p ∷ ps) = omega (arith, at_most_all ps)
 -- ---- rows 1 to 6 and 14
 
 -- what follows rows that pass
-then_alike : (x y z : Answer (Unit {0})) → (x ≡ gives tt → y ≡ z) → (x then y) ≡ (x then z)
+then_alike : {A : Type 0} (x : Answer (Unit {0})) (y z : Answer A) → (x ≡ gives tt → y ≡ z) → (x then y) ≡ (x then z)
 unfolding ◌then◌
 then_alike (gives u) y z h = h refl
 then_alike (refused n i) y z h = refl
@@ -135,16 +126,16 @@ module _ (ps : List (Option WholePoint)) (code : ℕ) where
   unfolding row
   none_left all = rw (le-ltb (whole_count ps) (length ps) (omega arith)) refl
 
-  pub export_of_curve : whole_count ps ≡ length ps → export_rows ps code ≡ curve_rows (whole_points ps) code
+  export_of_curve : whole_count ps ≡ length ps → export_rows ps code ≡ curve_rows (whole_points ps) code
   unfolding export_rows curve_rows
   export_of_curve all =
       let passing = then_alike (point_rows 0 none (whole_points ps)) _ _
       (λ e. ap (λ qs. segment_rows 0 (rule_of code) (segments qs)) (sym (points_of_passed 0 none ps all e))) in
-      rw (whole_length ps ∙ all, rows_of_whole 0 none ps, then_nothing (point_rows 0 none (whole_points ps)) _ (none_left all))
+      rw (all, rows_of_whole 0 none ps, then_nothing (point_rows 0 none (whole_points ps)) _ (none_left all))
       (ap (λ rest. row (bad_count (length ps)) 1 0 then row (bad_code code) 2 0 then rest) passing)
 
   -- an accepted curve has the export's points
-  pub points_of_accepted : whole_count ps ≡ length ps → curve_rows (whole_points ps) code ≡ gives tt →
+  points_of_accepted : whole_count ps ≡ length ps → curve_rows (whole_points ps) code ≡ gives tt →
       whole_points ps ≡ map point_from ps
   unfolding curve_rows
   points_of_accepted all e =
@@ -154,48 +145,36 @@ module _ (ps : List (Option WholePoint)) (code : ℕ) where
   unfolding row
   one_left h = rw (lt-ltb (whole_count ps) (length ps) h, zero-add (whole_count ps)) refl
 
-  pub export_of_14 : whole_count ps < length ps → bad_count (length ps) ≡ false → bad_code code ≡ false →
-      export_rows ps code ≡ (point_rows 0 none (whole_points ps) then refused 14 (whole_count ps))
-  export_of_14 h counted coded =
-      by_rows counted coded
-      ∙ rw (rows_of_whole 0 none ps, one_left h) (then_ends (point_rows 0 none (whole_points ps)) 14 (whole_count ps) _)
-    where
-      by_rows : bad_count (length ps) ≡ false → bad_code code ≡ false →
-          export_rows ps code ≡ (triple_rows 0 none ps then segment_rows 0 (rule_of code) (segments (map point_from ps)))
-      by_rows counted coded = unfold export_rows row ◌then◌ in (rw (counted, coded) refl)
+  -- what follows the rows of an export whose points are all taken
+  pub points_given : whole_count ps ≡ length ps →
+      (curve_rows (whole_points ps) code then gives (whole_points ps)) ≡ (export_rows ps code then gives (map point_from ps))
+  points_given all =
+      rw (export_of_curve all) (then_alike (curve_rows (whole_points ps) code) _ _ (λ e. ap gives (points_of_accepted all e)))
 
--- ---- tables
+  module _ {A : Type 0} (rest : Answer A) where
+    pub refused_by_count : bad_count (length ps) ≡ true → refused 1 0 ≡ (export_rows ps code then rest)
+    unfolding export_rows row ◌then◌
+    refused_by_count n = rw n
 
-module _ (f : ℕ → Option WholePoint) where
-  -- one more that is taken; none; and no more
-  pub count_goes_on : (i n : ℕ) (p : WholePoint) → i < n → f i ≡ some p →
-      i + whole_count (tabulate f i (n - i)) ≡ (i + 1) + whole_count (tabulate f (i + 1) (n - (i + 1)))
-  unfolding whole_count tabulate
-  count_goes_on i n p h e =
-      let more : n - i ≡ suc (n - (i + 1)) = omega arith in
-      let next : i + 1 ≡ suc i = omega arith in
-      rw (more, e, next) (omega arith)
+    module _ (n : bad_count (length ps) ≡ false) where
+      pub refused_by_code : {number : ℕ} → refused number 0 ≡ (row (bad_code code) 2 0 then gives code) →
+          refused number 0 ≡ (export_rows ps code then rest)
+      unfolding export_rows row ◌then◌
+      refused_by_code e = let k = row_refused (bad_code code) 2 0 code (sym e) in rw (n, k.0, k.1)
 
-  pub count_stops : (i n : ℕ) → i < n → f i ≡ none → i + whole_count (tabulate f i (n - i)) ≡ i
-  unfolding whole_count tabulate
-  count_stops i n h e = let more : n - i ≡ suc (n - (i + 1)) = omega arith in rw (more, e) (add-zero i)
+      module _ (c : bad_code code ≡ false) (few : whole_count ps < length ps) where
+        by_14 : export_rows ps code ≡ (point_rows 0 none (whole_points ps) then refused 14 (whole_count ps))
+        unfolding export_rows row ◌then◌
+        by_14 =
+            rw (n, c, rows_of_whole 0 none ps, one_left few)
+            (then_ends (point_rows 0 none (whole_points ps)) 14 (whole_count ps) _)
 
-  pub count_ends : (i n : ℕ) → n ≤ i → i + whole_count (tabulate f i (n - i)) ≡ i
-  unfolding whole_count tabulate
-  count_ends i n h = let none_left : n - i ≡ 0 = omega arith in rw none_left (add-zero i)
+        pub refused_before_14 : {number place : ℕ} → refused number place ≡ point_rows 0 none (whole_points ps) →
+            refused number place ≡ (export_rows ps code then rest)
+        unfolding ◌then◌
+        refused_before_14 e = rw (by_14, ← e)
 
-  pub points_of_table : (j n : ℕ) →
-      whole_points (tabulate f j n) ≡ tabulate (λ i. clamped_or_origin (f i)) j (whole_count (tabulate f j n))
-  unfolding whole_points whole_count tabulate clamped_or_origin
-  points_of_table j zero = refl
-  points_of_table j (suc n) = by_first (f j) refl (points_of_table (suc j) n)
-    where
-      by_first : (o : Option WholePoint) → f j ≡ o →
-          whole_points (tabulate f (suc j) n)
-          ≡ tabulate (λ i. clamped_or_origin (f i)) (suc j) (whole_count (tabulate f (suc j) n)) →
-          whole_points (f j ∷ tabulate f (suc j) n)
-          ≡ tabulate (λ i. clamped_or_origin (f i)) j (whole_count (f j ∷ tabulate f (suc j) n))
-      by_first none e later = rw e refl
-      by_first (some p) e later =
-          let rest = tabulate (λ i. clamped_or_origin (f i)) (suc j) (whole_count (tabulate f (suc j) n)) in
-          rw e (ap (clamped_point p ∷◌) later ∙ ap (λ (x : Point). x ∷ rest) (sym (ap clamped_or_origin e)))
+        pub refused_by_14 : point_rows 0 none (whole_points ps) ≡ gives tt →
+            refused 14 (whole_count ps) ≡ (export_rows ps code then rest)
+        unfolding ◌then◌
+        refused_by_14 e = rw (by_14, e)

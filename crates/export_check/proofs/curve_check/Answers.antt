@@ -12,13 +12,11 @@ use Rattle.exports.proofs.Numbers.{c_refused, c_given}
 use Rattle.export_check.proofs.curve_check.Goals as goal
 
 pub returns-in-Refused : goal.returns-in-Refused
-unfolding checked_answer
 returns-in-Refused c =
     rw (to_z-of_z (record { sfits = c.refusal.type_inv }), c.refusal.ensures)
     (c_refused pos (sym c.check.ensures ∙ ap checked_answer c.in-Refused.is))
 
 pub returns-in-Segments : goal.returns-in-Segments
-unfolding checked_answer
 returns-in-Segments c =
     let small : c.in-Segments.n < 2 ^ 63 = omega arith in
     rw (to_z_pos w64 small) (c_given pos (sym c.check.ensures ∙ ap checked_answer c.in-Segments.is))

@@ -14,13 +14,12 @@ use Rattle.exports.proofs.Numbers.{c_refused, c_given, in_open}
 use Rattle.export_open.proofs.curve_open.Goals as goal
 
 pub returns-in-Refused-clause-answer : goal.returns-in-Refused-clause-answer
-unfolding opened_answer
 returns-in-Refused-clause-answer c =
     rw (to_z-of_z (record { sfits = c.refusal.type_inv }), c.refusal.ensures)
     (c_refused c_shape_and_count (sym c.«open».ensures.answer ∙ ap opened_answer c.in-Refused.is))
 
 pub returns-in-Curve-clause-answer : goal.returns-in-Curve-clause-answer
-unfolding opened_answer c_shape_and_count
+unfolding c_shape_and_count
 returns-in-Curve-clause-answer c =
     let small : 256 * code_of c.in-Curve.shape + c.in-Curve.count < 2 ^ 63 = omega (arith, code_most c.in-Curve.shape) in
     rw c.code.ensures

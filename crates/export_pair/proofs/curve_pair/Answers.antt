@@ -51,26 +51,24 @@ returns-then-out-lt-PAIR_ENTRIES-clause-list c =
     rw (too_short s.areas.now s.values.now s.slopes.now s.shape s.form s.plan _ c.if-out-lt-PAIR_ENTRIES.true) refl
 
 pub returns-in-Refused-clause-answer : goal.returns-in-Refused-clause-answer
-unfolding factors_answer
 returns-in-Refused-clause-answer c =
     let e = pair_decides _ _ _ _ _ _ _ c.read_pair.result c.if-out-lt-PAIR_ENTRIES.false c.read_pair.ensures in
     rw (to_z-of_z (record { sfits = c.refusal-in-Refused.type_inv }), c.refusal-in-Refused.ensures)
     (c_refused (λ _. pos pair_entries) (e ∙ ap factors_answer c.in-Refused.is))
 
 pub returns-in-Refused-clause-list : goal.returns-in-Refused-clause-list
-unfolding factors_answer c_pair_list
+unfolding c_pair_list
 returns-in-Refused-clause-list c =
     let e = pair_decides _ _ _ _ _ _ _ c.read_pair.result c.if-out-lt-PAIR_ENTRIES.false c.read_pair.ensures in
     rw (e ∙ ap factors_answer c.in-Refused.is) refl
 
 pub returns-in-Factors-clause-answer : goal.returns-in-Factors-clause-answer
-unfolding factors_answer
 returns-in-Factors-clause-answer c =
     let e = pair_decides _ _ _ _ _ _ _ c.read_pair.result c.if-out-lt-PAIR_ENTRIES.false c.read_pair.ensures in
     c_given (λ _. pos pair_entries) (e ∙ ap factors_answer c.in-Factors.is)
 
 pub returns-in-Factors-clause-list : goal.returns-in-Factors-clause-list
-unfolding factors_answer c_pair_list
+unfolding c_pair_list
 returns-in-Factors-clause-list c =
     let e = pair_decides _ _ _ _ _ _ _ c.read_pair.result c.if-out-lt-PAIR_ENTRIES.false c.read_pair.ensures in
     let f = c.in-Factors in

@@ -18,14 +18,12 @@ use lib.Signed.{◌≤ℤ◌}
 use Rattle.export_read.proofs.curve_read.Goals as goal
 
 pub returns-in-Refused : goal.returns-in-Refused
-unfolding reading_answer
 returns-in-Refused c =
     rw (to_z-of_z (record { sfits = c.refusal.type_inv }), c.refusal.ensures)
     (c_refused (λ factor. factor) (sym c.read.ensures.answer ∙ ap reading_answer c.in-Refused.is))
 
 -- a factor has 32 bits, and so has 64
 fits_32 : (factor : ℤ) → InRange (gives factor) → SFits w32 factor
-unfolding InRange
 fits_32 factor (low, high) =
     let lowest : neg_ℤ (pos 400000) ≤ℤ factor = Z.≤_trans (record { le = tt }) low in
     sfits_of_size w32 factor (let h = size_between factor lowest high in omega arith)
@@ -34,13 +32,11 @@ fits_64 : {factor : ℤ} → SFits w32 factor → SFits w64 factor
 fits_64 h = record { sfits = omega (arith, h) }
 
 pub overflow_cast-result : goal.overflow_cast-result
-unfolding reading_answer
 overflow_cast-result c =
     let h = fits_32 c.in-Factor.factor (subst InRange (ap reading_answer c.in-Factor.is) c.read.ensures.range) in
     rw (to_z-of_z h) (fits_64 h)
 
 pub returns-in-Factor : goal.returns-in-Factor
-unfolding reading_answer
 returns-in-Factor c =
     let h = fits_32 c.in-Factor.factor (subst InRange (ap reading_answer c.in-Factor.is) c.read.ensures.range) in
     rw (to_z-of_z h, to_z-of_z (fits_64 h))

@@ -12,13 +12,11 @@ use Rattle.exports.proofs.Numbers.{c_refused, c_given}
 use Rattle.export_sheet.proofs.curve_sheet.Goals as goal
 
 pub returns-in-Refused-clause-answer : goal.returns-in-Refused-clause-answer
-unfolding filled_answer
 returns-in-Refused-clause-answer c =
     rw (to_z-of_z (record { sfits = c.refusal.type_inv }), c.refusal.ensures)
     (c_refused pos (sym c.sheet.ensures.answer ∙ ap filled_answer c.in-Refused.is))
 
 pub returns-in-Entries-clause-answer : goal.returns-in-Entries-clause-answer
-unfolding filled_answer
 returns-in-Entries-clause-answer c =
     let small : c.in-Entries.n < 2 ^ 63 = omega arith in
     rw (to_z_pos w64 small) (c_given pos (sym c.sheet.ensures.answer ∙ ap filled_answer c.in-Entries.is))

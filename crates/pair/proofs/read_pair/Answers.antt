@@ -36,7 +36,6 @@ read_of_answer : (areas values : List ℕ) (slopes : List ℤ) (code x : ℕ) {a
     InRange a →
     a ≡ gives f →
     Read areas values slopes code x f
-unfolding InRange
 read_of_answer areas values slopes code x {f = f} e r g =
     let k = on_lists_gives areas values slopes (λ ps. read_answer ps code x) (sym e ∙ g) in
     let (low, high) = subst InRange g r in
@@ -61,7 +60,6 @@ read_factor : (areas values : List ℕ) (slopes : List ℤ) (code x : ℕ) {r : 
     InRange (reading_answer r) →
     r ≡ Factor f →
     Read areas values slopes code x f
-unfolding reading_answer
 read_factor areas values slopes code x e range is =
     read_of_answer areas values slopes code x e range (ap reading_answer is)
 
@@ -71,21 +69,14 @@ form_refused : (ps : List Point) (code form plan : ℕ) {n i : ℕ} → read_ans
 unfolding read_answer pair_answer
 form_refused ps code form plan e = refused_before (curve_rows ps code) (outside ps form) 7 (reading ps code form) _ e
 
-pub overflow_sub-result : goal.overflow_sub-result
-overflow_sub-result c =
-    let f = read_factor _ _ _ _ _ c.read-at_form.ensures.answer c.read-at_form.ensures.range c.in-Factor.is in
-    let p = read_factor _ _ _ _ _ c.read-at_plan.ensures.answer c.read-at_plan.ensures.range c.in-Factor-at_plan.is in
-    rw (factor_bits f, factor_bits p) (difference_fits f p)
-
 pub returns-in-Refused : goal.returns-in-Refused
-unfolding reading_answer factors_answer
 returns-in-Refused c =
     let s = c.args in
     let e = rw c.in-Refused.is at c.read-at_form.ensures.answer in
     sym (on_lists_refused s.areas.now s.values.now s.slopes.now _ _ (form_refused _ _ _ _) (sym e))
 
 pub returns-in-Refused-at_plan : goal.returns-in-Refused-at_plan
-unfolding pair_answer factors_answer reading_answer row ◌then◌
+unfolding pair_answer row ◌then◌
 returns-in-Refused-at_plan c =
     let s = c.args in
     let k = read_factor _ _ _ _ _ c.read-at_form.ensures.answer c.read-at_form.ensures.range c.in-Factor.is in
@@ -101,7 +92,7 @@ returns-in-Refused-at_plan c =
     )
 
 pub returns-in-Factor-at_plan : goal.returns-in-Factor-at_plan
-unfolding pair_answer factors_answer factors row ◌then◌
+unfolding pair_answer factors row ◌then◌
 returns-in-Factor-at_plan c =
     let s = c.args in
     let k = read_factor _ _ _ _ _ c.read-at_form.ensures.answer c.read-at_form.ensures.range c.in-Factor.is in

@@ -5,19 +5,19 @@ use Rattle.shape.proofs.Tests.{code_of_shape}
 use Rattle.rows.proofs.Passing.{passing_starts, passing_goes_on, accepted_of}
 use Rattle.rows.proofs.all_pass.Goals as goal
 
-pub loop-left-init : goal.loop-left-init
-loop-left-init g c =
+pub loop-i-init : goal.loop-i-init
+loop-i-init g c =
     let e = sym (c.check.ensures 0) ∙ gives_no_err _ 0 (sym c.is_err.ensures.value ∙ c.if-is_err.false) in
     record { is = c.point-p.ensures; passing = passing_starts _ _ (omega arith) (rw c.point-p.ensures at e) }
 
 pub follows-requires : goal.follows-requires
-follows-requires g c = let k = c.loop-left.invariant in rw k.is k.passing.limits
+follows-requires g c = let k = c.loop-i.invariant in rw k.is k.passing.limits
 
-pub loop-left-preserved : goal.loop-left-preserved
-loop-left-preserved g c =
-    let k = c.loop-left.invariant in
+pub loop-i-preserved : goal.loop-i-preserved
+loop-i-preserved g c =
+    let k = c.loop-i.invariant in
     let f = rw (k.is, c.point-q.ensures) at (c.follows.ensures c.if-not-follows.false) in
     record { is = c.point-q.ensures; passing = passing_goes_on _ _ (omega arith) f k.passing }
 
 pub returns : goal.returns
-returns g c = λ _. accepted_of _ _ c.requires (code_of_shape c.args.shape) (omega arith) c.loop-left.invariant.passing
+returns g c = λ _. accepted_of _ _ c.requires (code_of_shape c.args.shape) (omega arith) c.loop-i.invariant.passing

@@ -1,0 +1,2 @@
+-- Laws of the calls.
+pub mod Entries

@@ -1,2 +1,0 @@
--- Laws of a sheet's entries.
-pub mod Reach

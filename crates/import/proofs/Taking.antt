@@ -1,0 +1,87 @@
+-- The rows of Import, in their order.
+--   refused_by_13, refused_by_11, refused_by_points    which refuses
+--   Passed, passed         row 13 is passed
+--   Given, given           all are, and the points are the export's; few, 64 at most
+--   room                   there is room for the points
+--   after_list             a list into which the points are written
+-- Assumes nothing.
+use Rattle.std.proofs.Common.{◌≡◌, sym, ap, ℕ, ◌≤◌, true, false, List, map, ◌++◌, length, drop}
+use lib.ListN.{length-map}
+use Rattle.model.specs.Answer.{gives, refused, row, ◌then◌, filled}
+use Rattle.model.specs.Points.{points_most, Point}
+use Rattle.model.proofs.Answers.{then_refused, refused_first}
+use Rattle.model.proofs.Rows.{gives_injective, then_first, then_rest, row_passed, row_refused, count_of_row_1}
+use Rattle.points.specs.Inner.{Room}
+use Rattle.file.specs.Open.{short_list}
+use Rattle.file.proofs.Room.{room_of_row_11}
+use Rattle.triples.specs.Triples.{bad_length, count, exported, export_rows}
+use Rattle.triples.proofs.Sizes.{exported_length, points_length}
+use Rattle.import.specs.Import.{points_of, import_answer}
+
+module _ (bytes : List ℕ) where
+  pub record Passed (own : List ℕ) : Type 0 where
+    pub same : own ≡ bytes
+    pub multiple : bad_length bytes ≡ false
+
+  pub passed : {own : List ℕ} → gives own ≡ (row (bad_length bytes) 13 0 then gives bytes) → Passed own
+  passed e =
+      record {
+        same = sym (gives_injective (then_rest (row (bad_length bytes) 13 0) _ (sym e)));
+        multiple = row_passed (bad_length bytes) 13 0 _ (sym e);
+      }
+
+module _ (bytes : List ℕ) (code areas values slopes : ℕ) where
+  pub refused_by_13 : {number : ℕ} → refused number 0 ≡ (row (bad_length bytes) 13 0 then gives bytes) →
+      refused number 0 ≡ import_answer bytes code areas values slopes
+  unfolding import_answer row ◌then◌
+  refused_by_13 e = let k = row_refused (bad_length bytes) 13 0 bytes (sym e) in rw (k.0, k.1)
+
+  module _ (m : bad_length bytes ≡ false) where
+    pub refused_by_11 : short_list (count bytes) areas values slopes ≡ true →
+        refused 11 0 ≡ import_answer bytes code areas values slopes
+    unfolding import_answer row ◌then◌
+    refused_by_11 e = rw (m, e)
+
+    module _ (r : short_list (count bytes) areas values slopes ≡ false) where
+      pub refused_by_points : {number place : ℕ} →
+          refused number place ≡ (export_rows (exported bytes) code then gives (points_of bytes)) →
+          refused number place ≡ import_answer bytes code areas values slopes
+      unfolding import_answer row ◌then◌
+      refused_by_points e = rw (m, r) (sym (then_refused _ _ (refused_first _ _ (sym e))))
+
+      pub all_pass : export_rows (exported bytes) code ≡ gives tt →
+          gives (count bytes) ≡ import_answer bytes code areas values slopes
+      unfolding import_answer row ◌then◌
+      all_pass e = rw (m, r, e)
+
+pub record Given (bytes : List ℕ) (code : ℕ) (ps : List Point) : Type 0 where
+  pub points_are : ps ≡ points_of bytes
+  pub rows : export_rows (exported bytes) code ≡ gives tt
+
+pub given : (bytes : List ℕ) (code : ℕ) (ps : List Point) →
+    gives ps ≡ (export_rows (exported bytes) code then gives (points_of bytes)) →
+    Given bytes code ps
+given bytes code ps e =
+    record {
+      points_are = sym (gives_injective (then_rest (export_rows (exported bytes) code) _ (sym e)));
+      rows = then_first (export_rows (exported bytes) code) _ (sym e);
+    }
+
+pub few : (bytes : List ℕ) (code : ℕ) → export_rows (exported bytes) code ≡ gives tt → count bytes ≤ points_most
+unfolding export_rows
+few bytes code e =
+    rw (← exported_length bytes) (count_of_row_1 _ (row_passed _ 1 0 _ e)).1
+
+-- ---- the lent lists
+
+-- the points of an export fit into lists that row 11 passes
+pub room : (bytes : List ℕ) (areas values slopes : ℕ) {ps : List Point} →
+    short_list (count bytes) areas values slopes ≡ false → ps ≡ points_of bytes →
+    Room (length ps) areas values slopes
+room bytes areas values slopes e is = rw (ap length is, points_length bytes) (room_of_row_11 e)
+
+pub after_list : {B : Type 0} (field : Point → B) (bytes : List ℕ) {ps : List Point} (found : List B) (n : ℕ) →
+    ps ≡ points_of bytes →
+    map field ps ++ drop (length ps) found ≡ filled (gives n) (map field (points_of bytes)) found
+unfolding filled
+after_list field bytes found n e = rw (e, length-map (points_of bytes) field)

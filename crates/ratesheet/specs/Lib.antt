@@ -1,2 +1,0 @@
--- What contracts of `ratesheet` cite.
-pub mod Inner

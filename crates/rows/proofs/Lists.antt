@@ -1,0 +1,56 @@
+-- What `Curve::of_lists` says of three lists.
+--   with_code           what it answers: the points and the code
+--   given, points_are   where it gives a curve, row 1 is passed, and its points and code are those of the lists
+--   listed_accepted     the points of the lists are accepted; size_listed, count_most, as many as areas, and at most 64
+--   after_rows          what comes after rows 1 to 6 decides then
+--   refused_listed      where it refuses, every call on the lists that begins with these rows does
+-- Assumes nothing.
+use Rattle.std.proofs.Common.{◌≡◌, ℕ, ◌≤◌, List, sym, ◌∙◌, ap, length, arith}
+use lib.IntN.{ℤ}
+use Rattle.model.specs.Answer.{Answer, gives, refused, ◌then◌}
+use Rattle.model.specs.Points.{points_least, points_most, Point, points}
+use Rattle.model.specs.Check.{curve_rows, on_lists}
+use Rattle.model.specs.Inner.{Accepted}
+use Rattle.model.proofs.Rows.{gives_injective, then_first, then_rest}
+use Rattle.model.proofs.Accepted.{count_of}
+use Rattle.model.proofs.Answers.{Result, on_lists_is, on_lists_gives, on_lists_refused, then_refused, refused_first}
+use Rattle.model.proofs.Lists.{fields_of, fields_length}
+
+abbrev pub with_code : ℕ → List Point → Answer (List Point × ℕ)
+with_code code ps = curve_rows ps code then gives (ps, code)
+
+module _ (areas values : List ℕ) (slopes : List ℤ) (code : ℕ) where
+  module _ {ps : List Point} {shape : ℕ} (e : gives (ps, shape) ≡ on_lists areas values slopes (with_code code)) where
+    pub given : Result areas values slopes (with_code code) (ps, shape)
+    given = on_lists_gives areas values slopes (with_code code) (sym e)
+
+    pub points_are : ◌≡◌ {A = List Point × ℕ} (points areas values slopes, code) (ps, shape)
+    points_are = gives_injective (then_rest (curve_rows (points areas values slopes) code) _ given.result)
+
+    pub listed_accepted : Accepted (points areas values slopes) code
+    listed_accepted = record { none_applies = then_first (curve_rows (points areas values slopes) code) _ given.result }
+
+    pub size_listed : length (points areas values slopes) ≡ length areas
+    size_listed = fields_length (fields_of areas values slopes given.alike)
+
+    pub count_least : points_least ≤ length areas
+    count_least = omega (arith, size_listed, count_of listed_accepted)
+
+    pub count_most : length areas ≤ points_most
+    count_most = omega (arith, size_listed, count_of listed_accepted)
+
+    pub after_rows : {A : Type 0} (rest : List Point → Answer A) →
+        on_lists areas values slopes (λ qs. curve_rows qs code then rest qs) ≡ rest (points areas values slopes)
+    unfolding ◌then◌
+    after_rows rest =
+        on_lists_is areas values slopes (λ qs. curve_rows qs code then rest qs) given.same_lengths
+        ∙ (rw listed_accepted.none_applies)
+
+  pub refused_listed : {A : Type 0} {n i : ℕ} (rest : List Point → Answer A) →
+      refused n i ≡ on_lists areas values slopes (with_code code) →
+      refused n i ≡ on_lists areas values slopes (λ qs. curve_rows qs code then rest qs)
+  refused_listed rest e =
+      let ps = points areas values slopes in
+      sym
+      (on_lists_refused areas values slopes (with_code code) (λ qs. curve_rows qs code then rest qs)
+      (λ k. then_refused _ _ (refused_first (curve_rows ps code) (ps, code) k)) (sym e))

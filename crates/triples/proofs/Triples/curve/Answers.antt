@@ -1,0 +1,84 @@
+-- Row 1; then the rows of all points, or those of the points before one that is not taken, and row 14.
+use Rattle.std.proofs.Common.{◌≡◌, ◌≤◌, ℕ, Bool, false, List, map, length, sym, ◌∙◌, ap, arith}
+use lib.ListN.{length-map}
+use Rattle.model.specs.Points.{points_most}
+use Rattle.model.specs.Check.{bad_count}
+use Rattle.model.proofs.Rows.{count_of_row_1}
+use Rattle.refusal.proofs.Results.{refused_exit}
+use Rattle.point.specs.declared.Point.{Point}
+use Rattle.point.specs.Inner.{point_of}
+use Rattle.rows.proofs.Passing.{code_passed}
+use Rattle.triples.specs.Triples.{count, exported}
+use Rattle.triples.specs.Inner.{whole_points}
+use Rattle.triples.proofs.Rows.{whole_count, at_most_all}
+use Rattle.triples.proofs.Rows.{refused_by_count, refused_by_code, refused_before_14, refused_by_14, points_given}
+use Rattle.triples.proofs.Sizes.{exported_length}
+use Rattle.triples.proofs.Answered.{answer_along}
+use Rattle.triples.proofs.Triples.curve.Goals as goal
+
+module _ (bytes : List ℕ) where
+  -- what row 1 says
+  counted : {n : ℕ} {found bad : Bool} → n ≡ count bytes → found ≡ bad_count n → found ≡ bad →
+      bad_count (length (exported bytes)) ≡ bad
+  counted e f g = rw (exported_length bytes, ← e) (sym f ∙ g)
+
+  -- as many points as are taken
+  size : (l : List Point) → map point_of l ≡ whole_points (exported bytes) → length l ≡ whole_count (exported bytes)
+  size l e = sym (length-map l point_of) ∙ ap length e
+
+  few : (l : List Point) → map point_of l ≡ whole_points (exported bytes) → bad_count (length (exported bytes)) ≡ false →
+      length l ≤ points_most
+  few l e n = omega (arith, size l e, at_most_all (exported bytes), count_of_row_1 _ n)
+
+pub returns-then-bad_count : goal.returns-then-bad_count
+returns-then-bad_count c =
+    rw c.at.ensures (refused_by_count _ _ _ (counted _ c.count-n.ensures c.bad_count.ensures c.if-bad_count.true))
+
+pub decode-whole-requires : goal.decode-whole-requires
+decode-whole-requires c =
+    let bytes = c.args.self.now.bytes.now in
+    let n = counted bytes c.count-n.ensures c.bad_count.ensures c.if-bad_count.false in
+    omega (arith, count_of_row_1 _ n, exported_length bytes)
+
+pub returns-then-whole-n : goal.returns-then-whole-n
+returns-then-whole-n c =
+    let bytes = c.args.self.now.bytes.now in
+    let all : whole_count (exported bytes) ≡ length (exported bytes) =
+    omega (arith, size bytes _ c.decode-whole.ensures, exported_length bytes) in
+    rw c.decode-whole.ensures at (answer_along _ (λ p. map point_of p.0.now) c.new.result _ _ c.new.ensures)
+    ∙ points_given _ _ all
+
+pub returns-in_err-try_from : goal.returns-in_err-try_from
+returns-in_err-try_from c =
+    let n = counted _ c.count-n.ensures c.bad_count.ensures c.if-bad_count.false in
+    refused_exit _ _ _ c.from_residual.ensures.1 ∙ refused_by_code _ _ _ n c.in_err-try_from.ensures
+
+pub check_points-requires : goal.check_points-requires
+check_points-requires c =
+    let n = counted _ c.count-n.ensures c.bad_count.ensures c.if-bad_count.false in
+    rw length-map (few _ _ c.decode-whole.ensures n)
+
+pub returns-in_err-check_points : goal.returns-in_err-check_points
+returns-in_err-check_points c =
+    let bytes = c.args.self.now.bytes.now in
+    let n = counted bytes c.count-n.ensures c.bad_count.ensures c.if-bad_count.false in
+    let k = code_passed c.in_ok-try_from.ensures in
+    let s = size bytes _ c.decode-whole.ensures in
+    refused_exit _ _ _ c.from_residual-in_err-check_points.ensures.1
+    ∙ refused_before_14 _ _ _ n k.0 (omega (arith, s, exported_length bytes, at_most_all (exported bytes)))
+    (rw c.decode-whole.ensures at c.in_err-check_points.ensures)
+
+pub overflow_cast-whole : goal.overflow_cast-whole
+overflow_cast-whole c =
+    let n = counted _ c.count-n.ensures c.bad_count.ensures c.if-bad_count.false in
+    record { fits = omega (arith, few _ _ c.decode-whole.ensures n) }
+
+pub returns : goal.returns
+returns c =
+    let bytes = c.args.self.now.bytes.now in
+    let n = counted bytes c.count-n.ensures c.bad_count.ensures c.if-bad_count.false in
+    let k = code_passed c.in_ok-try_from.ensures in
+    let s = size bytes _ c.decode-whole.ensures in
+    rw (c.at-2.ensures, s)
+    (refused_by_14 _ _ _ n k.0 (omega (arith, s, exported_length bytes, at_most_all (exported bytes)))
+    (sym (rw c.decode-whole.ensures at c.in_ok-check_points.ensures)))
