@@ -2,10 +2,12 @@
 --   drop_later, copied_more   where the first entries are copied: those after them, and what a copy of the next ones leaves
 --   length_is, next, last     the length of such a list; where m more are copied; what a copy of all the rest leaves
 --   joined                    what one loop left was found by a later one
+--   block_inside              a block that a loop copies is in the list
 -- Assumes nothing.
-use mathlib.Core.Path.{◌≡◌, refl, sym, ◌∙◌, ap}
+use mathlib.Core.Path.{◌≡◌, sym, ◌∙◌, ap}
 use mathlib.Core.List.{List, ◌++◌, append_assoc}
-use Prim.Native.Nat.{ℕ, ◌+◌, ◌-◌, ◌≤◌}
+use Prim.Native.Nat.{ℕ, ◌+◌, ◌-◌, ◌*◌, ◌/◌, ◌≤◌, ◌<◌}
+use native.Mathlib.Nat.{div-add-mod', mul-le-mul_left}
 use native.Mathlib.Omega.{arith}
 use borrow.Rule.Slice.PartMut.{put_mid}
 use lib.ListN.{length, take, drop, length-append, length-drop}
@@ -53,19 +55,6 @@ module _ {src found dst : List ℕ} {at : ℕ} (k : CopiedTo src found dst at) w
       rw (e, drop-drop m at dst, k.is)
       (copied_more at src found k.inner m (omega (arith, k.inner)) ∙ ap (λ (j : ℕ). take j src ++ drop j found) all)
 
--- nothing is copied yet
-pub none_copied : {src dst : List ℕ} → length src ≤ length dst → CopiedTo src dst dst 0
-none_copied h = record { room = h; inner = omega arith; is = refl }
-
--- what dst is now is what a later loop finds
-pub restart : {src found dst : List ℕ} {at : ℕ} → CopiedTo src found dst at → CopiedTo src dst dst at
-restart {src} {found} {at = at} k =
-    record {
-      room = rw (length_is k) k.room;
-      inner = k.inner;
-      is = k.is ∙ rw (← drop_later at src found k.inner {at = at} (omega arith), ← k.is);
-    }
-
 pub joined : {src found middle dst : List ℕ} {m at : ℕ} → CopiedTo src found middle m → m ≤ at → CopiedTo src middle dst at →
     CopiedTo src found dst at
 joined {src} {found} {at = at} j h k =
@@ -74,3 +63,8 @@ joined {src} {found} {at = at} j h k =
       inner = k.inner;
       is = k.is ∙ rw j.is (ap (λ xs. take at src ++ xs) (drop_later _ src found j.inner h));
     }
+
+pub block_inside : (from size n k : ℕ) → from ≤ size → k < (size - from) / n → from + n * k + n ≤ size
+block_inside from size n k h t =
+    let blocks = (size - from) / n in
+    omega (arith, mul-le-mul_left {m = k + 1} {n = blocks} n (omega arith), div-add-mod' (size - from) n)

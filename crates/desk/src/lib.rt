@@ -1,7 +1,7 @@
 // The desk reading.
 #![tactic(auto)]
 
-ghost use Rattle.std.specs.Prelude.{◌≡◌, ◌≤◌, ◌++◌, length, take, drop};
+ghost use Rattle.std.specs.Prelude.{◌≡◌, ◌<◌, ◌≤◌, ◌++◌, length, take, drop};
 ghost use Rattle.model.specs.Answer.{filled};
 ghost use Rattle.refusal.specs.Refusal.{answer_of};
 ghost use Rattle.desk_answer.specs.Desk.{desk_answer, desk_number, point_records};
@@ -15,8 +15,10 @@ use rows::Curve;
 
 // Copies from an index on by blocks of N bytes, and gives the index after them.
 fn copy_blocks<const N: usize>(src: &[u8], from: usize, dst: &mut [u8]) -> usize
-    requires { CopiedTo src.now dst.old dst.old from }
-    ensures { CopiedTo src.now dst.old dst.new result }
+    requires begun { CopiedTo src.now dst.old dst.old from }
+    requires size { 0 < N }
+    ensures copied { CopiedTo src.now dst.old dst.new result }
+    ensures onward { from ≤ result }
 {
     let blocks = (src.len() - from) / N;
     for k in 0..blocks {
@@ -44,9 +46,8 @@ fn copy(src: &[u8], dst: &mut [u8])
 
 fn read(bytes: &[u8], area: u32, scratch: &mut [u8]) -> Result<i32, Refusal>
     ensures answer { answer_of (λ f. f) result ≡ desk_answer bytes.now area (length scratch.old) }
-    ensures scratch { scratch.new
-        ≡ filled (desk_answer bytes.now area (length scratch.old))
-        (point_records bytes.now) scratch.old }
+    ensures scratch { let answer = desk_answer bytes.now area (length scratch.old) in
+        scratch.new ≡ filled answer (point_records bytes.now) scratch.old }
 {
     let file = CurveFile::new(bytes)?;
     if scratch.len() < RECORD_SIZE * file.count() {

@@ -1,5 +1,4 @@
--- Theorems of the desk readings' answers; what an answer says; laws of a copy.
+-- Theorems of the desk readings' answers; what the steps of a reading say.
 pub mod Apart
 pub mod Same
-pub mod Opened
-pub mod Blocks
+pub mod Steps

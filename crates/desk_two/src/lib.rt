@@ -13,9 +13,8 @@ use rows::Curve;
 
 fn read(bytes: &[u8], area: u32, scratch: &mut [u8]) -> Result<i32, Refusal>
     ensures answer { answer_of (λ f. f) result ≡ desk_answer_two bytes.now area (length scratch.old) }
-    ensures scratch { scratch.new
-        ≡ filled (desk_answer_two bytes.now area (length scratch.old))
-        (segment_records bytes.now area) scratch.old }
+    ensures scratch { let answer = desk_answer_two bytes.now area (length scratch.old) in
+        scratch.new ≡ filled answer (segment_records bytes.now area) scratch.old }
 {
     let file = CurveFile::new(bytes)?;
     if scratch.len() < 2 * RECORD_SIZE {

@@ -1,0 +1,2 @@
+-- Laws of the two records of the segment read.
+pub mod Records
