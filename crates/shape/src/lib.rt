@@ -83,7 +83,10 @@ fn bends(left: i32, chord: i32, right: i32) -> bool
     if left < chord {
         return chord < right;
     }
-    left == chord && chord == right
+    if left != chord {
+        return false;
+    }
+    chord == right
 }
 
 impl Segment {

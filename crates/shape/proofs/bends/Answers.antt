@@ -10,9 +10,9 @@ returns-then-left-chord c =
 pub returns-then-left-chord-2 : goal.returns-then-left-chord-2
 returns-then-left-chord-2 c =
     sym (order_test c.ranges.left c.ranges.chord c.ranges.right ∙ rw
-    (c.if-left-chord.false, eq-eqb _ _ c.if-left-chord-2.true))
+    (c.if-left-chord.false, ne_eqb _ _ c.if-left-chord-2.true))
 
-pub returns-else-left-chord-2 : goal.returns-else-left-chord-2
-returns-else-left-chord-2 c =
+pub returns : goal.returns
+returns c =
     sym (order_test c.ranges.left c.ranges.chord c.ranges.right ∙ rw
-    (c.if-left-chord.false, ne_eqb _ _ c.if-left-chord-2.false))
+    (c.if-left-chord.false, eq-eqb _ _ c.if-left-chord-2.false))

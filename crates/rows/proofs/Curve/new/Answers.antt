@@ -9,7 +9,7 @@ use Rattle.rows.specs.Inner.{accepts}
 use Rattle.rows.proofs.Passing.{count_passed, code_passed, accepts_of, accepted, curve_of_rows}
 use Rattle.rows.proofs.Passing.{refused_by_code, refused_by_points, refused_by_segments}
 use Rattle.rows.proofs.Curve.new.Goals as goal
-use Rattle.rows.proofs.Curve.new.Goals.{then-not-all_pass+in_ok-check_points+in_ok-check_segments, else-not-all_pass}
+use Rattle.rows.proofs.Curve.new.Goals.{then-not-passes+in_ok-check_points+in_ok-check_segments, else-not-passes}
 
 pub returns-then-bad_count : goal.returns-then-bad_count
 unfolding curve_rows row ◌then◌
@@ -20,8 +20,8 @@ returns-in_err-shape g c =
     let n = sym (rw c.count.ensures at c.bad_count.ensures) ∙ c.if-bad_count.false in
     refused_exit _ _ _ c.from_residual.ensures.1 ∙ refused_by_code _ _ _ n c.in_err-shape.ensures
 
-pub all_pass-requires : goal.all_pass-requires
-all_pass-requires g c =
+pub passes-requires : goal.passes-requires
+passes-requires g c =
     let n = sym (rw c.count.ensures at c.bad_count.ensures) ∙ c.if-bad_count.false in
     count_passed _ n
 
@@ -49,15 +49,15 @@ returns-in_err-check_segments g c =
     refused_exit _ _ _ c.from_residual-in_err-check_segments.ensures.1
     ∙ refused_by_segments _ _ _ n k.0 (sym c.in_ok-check_points.ensures) (rw k.1 at c.in_err-check_segments.ensures)
 
-accepted_at : (g : _) (c : goal.Joined-not-all_pass g) → accepts (g.P.Points.points c.args.points) (code_of c.in_ok-shape.shape) ≡ true
+accepted_at : (g : _) (c : goal.Joined-not-passes g) → accepts (g.P.Points.points c.args.points) (code_of c.in_ok-shape.shape) ≡ true
 accepted_at g c =
     let n = sym (rw c.count.ensures at c.bad_count.ensures) ∙ c.if-bad_count.false in
-    elim c.if-not-all_pass.branch [
-      | then-not-all_pass+in_ok-check_points+in_ok-check_segments w ↦
+    elim c.if-not-passes.branch [
+      | then-not-passes+in_ok-check_points+in_ok-check_segments w ↦
           accepts_of _ _
           (curve_of_rows _ _ (count_passed _ n) (code_of_shape c.in_ok-shape.shape)
           (sym w.in_ok-check_points.ensures) (sym w.in_ok-check_segments.ensures))
-      | else-not-all_pass w ↦ c.all_pass.ensures w.if-not-all_pass.false
+      | else-not-passes w ↦ c.passes.ensures w.if-not-passes.false
     ]
 
 pub invariant_of-result : goal.invariant_of-result
