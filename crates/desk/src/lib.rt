@@ -27,8 +27,8 @@ fn copy_blocks<const N: usize>(src: &[u8], from: usize, dst: &mut [u8]) -> usize
     from + N * blocks
 }
 
-// Copies all of src to the start of dst: by blocks of four records, what is left by blocks of two, then the rest. Two records, the
-// fewest of a curve, are one block.
+// Copies all of src to the start of dst: by blocks of four records, what is left by blocks of two, then the rest. Two records,
+// the fewest of a curve, are one block.
 fn copy(src: &[u8], dst: &mut [u8])
     requires { length src.now ≤ length dst.old }
     ensures { dst.new

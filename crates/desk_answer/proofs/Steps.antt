@@ -49,7 +49,8 @@ pub record Accepted (points bytes : List ℕ) (code : ℕ) : Type 0 where
 
 pub accepted : (points file : CurveFile) (bytes : List ℕ) (code given : ℕ) → Opened file.bytes.now bytes →
     given ≡ shape_code file.bytes.now →
-    ◌≡◌ {A = Answer (CurveFile × ℕ)} (gives (points, code)) (curve_rows (points_of file.bytes.now) given then gives (file, given)) →
+    ◌≡◌ {A = Answer (CurveFile × ℕ)} (gives (points, code))
+    (curve_rows (points_of file.bytes.now) given then gives (file, given)) →
     Accepted points.bytes.now bytes code
 accepted points file bytes code given o g e =
     let rows = curve_rows (points_of file.bytes.now) given in

@@ -1,5 +1,5 @@
--- Each step refuses by its row and leaves the scratch as found; after them the two records of the segment read are copied, and the
--- factor is the reading.
+-- Each step refuses by its row and leaves the scratch as found; after them the two records of the segment read are copied, and
+-- the factor is the reading.
 use Rattle.std.proofs.Common.{◌+◌, ◌*◌, ◌≤◌, length, sym, ◌∙◌, ap, w32, to_z-of_z, arith}
 use Rattle.model.specs.Answer.{gives, row}
 use Rattle.model.proofs.Rows.{row_passed, then_rest, gives_injective}
