@@ -1,7 +1,7 @@
 -- What contracts of inner functions cite. Nothing here need be believed: the calls' contracts cite document 01's definitions.
 --   number_most        the largest number of a refusal; table_most, of those of an import too
---   fault_answer       a fault's number and place, as an answer
---   read_rows          rows 1 to 7; segment_answer, then the index of the segment read; Accepted, rows 1 to 6 refuse nothing
+--   first_answer       a row that refuses at a place, or not at all
+--   read_rows          rows 1 to 7; Accepted, rows 1 to 6 refuse nothing
 --   Alike              three lists are equally long
 --   point_at           the point at an index; segment_at, the segment that begins there
 --   Limits             what rows 3 to 5 leave of a point; Neighbours, of two; Good, and row 6 too
@@ -10,14 +10,14 @@
 --   Strides, LastOf    a search for that index in steps, and what it finds
 --   Filling            a list that is filled from the front
 -- Assumes nothing.
-use Rattle.std.specs.Prelude.{◌≡◌, not, false, List, map, ◌++◌, ◌⊎◌, ℕ, suc, ◌+◌}
-use Rattle.std.specs.Prelude.{◌≤◌, ◌<◌, T, eqb, ltb, pos, neg_ℤ, length, get_or, drop, ◌≤ℤ◌}
+use Rattle.std.specs.Prelude.{◌≡◌, false, List, map, ◌++◌, ◌⊎◌, ℕ, suc, ◌+◌}
+use Rattle.std.specs.Prelude.{◌≤◌, ◌<◌, T, ltb, pos, neg_ℤ, length, get_or, drop, ◌≤ℤ◌}
 use Rattle.model.specs.Answer.{Answer, gives, row, ◌then◌}
 use Rattle.model.specs.Points.{points_most, area_most, gap_most, value_most, slope_most, Point, Segment, Rule}
 pub use Rattle.model.specs.Points.{between, origin, point_at, segment_at}
 use Rattle.model.specs.Shape.{segment_test}
 use Rattle.model.specs.Check.{curve_rows}
-use Rattle.model.specs.Read.{segment_read, outside}
+use Rattle.model.specs.Read.{outside}
 use Rattle.model.specs.Sheet.{tabulate}
 
 abbrev pub number_most : ℕ
@@ -26,10 +26,6 @@ number_most = 12
 abbrev pub table_most : ℕ
 table_most = 14
 
--- the number 0 is no fault
-unfoldable pub fault_answer : ℕ → ℕ → Answer (Unit {0})
-fault_answer number place = row (not (eqb number 0)) number place
-
 -- a row at each of n places, by the first place where its condition holds
 abbrev pub first_answer : ℕ → ℕ → ℕ → Answer (Unit {0})
 first_answer number place n = row (ltb place n) number place
@@ -37,10 +33,6 @@ first_answer number place n = row (ltb place n) number place
 -- rows 1 to 7 of one area
 abbrev pub read_rows : List Point → ℕ → ℕ → Answer (Unit {0})
 read_rows ps code x = curve_rows ps code then row (outside ps x) 7 0
-
--- then the index of the segment read
-abbrev pub segment_answer : List Point → ℕ → ℕ → Answer ℕ
-segment_answer ps code x = read_rows ps code x then gives (segment_read ps x)
 
 pub record Accepted (ps : List Point) (code : ℕ) : Type 0 where
   pub none_applies : curve_rows ps code ≡ gives tt
