@@ -1,10 +1,9 @@
 // Accepted curves: rows 1 to 6 of the refusal table, of points wherever they stand.
 #![tactic(auto)]
 
-ghost use Rattle.std.specs.Prelude.{◌≡◌, true, ℕ, List, length, ◌≤◌};
+ghost use Rattle.std.specs.Prelude.{◌≡◌, true, ℕ, length, ◌≤◌, IfOk, OnOk};
 ghost use Rattle.std.proofs.Math.Option.{none};
 ghost use Rattle.model.specs.Answer.{gives, ◌then◌};
-ghost use Rattle.model.specs.Points as spec;
 ghost use Rattle.model.specs.Points.{points as points_of_lists, points_most, segments, rule_of};
 ghost use Rattle.model.specs.Check.{bad_count, point_rows, segment_rows, curve_rows, on_lists};
 ghost use Rattle.model.specs.Inner.{Limits};
@@ -47,16 +46,13 @@ fn all_pass<P: Points>(points: &P, shape: Shape) -> bool
     requires { Count (length (P.points points.now)) }
     ensures { result ≡ true → accepts (P.points points.now) (code_of shape) ≡ true }
 {
-    let mut p = points.point(0);
-    if p.check(None).is_err() {
+    if points.point(0).check(None).is_err() {
         return false;
     }
     for i in 0..points.count() - 1 {
-        let q = points.point(i + 1);
-        if !follows(shape, p, q) {
+        if !follows(shape, points.point(i), points.point(i + 1)) {
             return false;
         }
-        p = q;
     }
     true
 }
@@ -110,7 +106,44 @@ fn check_segments<P: Points>(points: &P, shape: Shape) -> Result<(), Refusal>
     Ok(())
 }
 
-// Points that rows 1 to 6 do not refuse, and their shape.
+// Rows 1 to 6: an accepted curve is passed over once. The result is its shape.
+pub fn check<P: Points>(points: &P, code: u32) -> Result<Shape, Refusal>
+    ensures answer { answer_of code_of result ≡ (curve_rows (P.points points.now) code then gives code) }
+    ensures accepted { IfOk result (λ shape. accepts (P.points points.now) (code_of shape) ≡ true) }
+{
+    if bad_count(points.count()) {
+        return Err(Row::Count.at(0));
+    }
+    let shape = Shape::try_from(code)?;
+    if !passes(points, shape) {
+        check_points(points)?;
+        check_segments(points, shape)?;
+    }
+    Ok(shape)
+}
+
+// The same of three lists.
+pub fn check_lists(
+    areas: &[u32],
+    values: &[u32],
+    slopes: &[i32],
+    code: u32,
+) -> Result<Shape, Refusal>
+    ensures answer { answer_of code_of result
+        ≡ on_lists areas.now values.now slopes.now (λ ps. curve_rows ps code then gives code) }
+    ensures values { OnOk result (length areas.now ≡ length values.now) }
+    ensures slopes { OnOk result (length areas.now ≡ length slopes.now) }
+    ensures accepted { IfOk result
+        (λ shape. accepts (points_of_lists areas.now values.now slopes.now) (code_of shape) ≡ true) }
+{
+    if points::lengths_differ(areas.len(), values.len(), slopes.len()) {
+        return Err(Row::Count.at(0));
+    }
+    check(&Lists { areas, values, slopes }, code)
+}
+
+// Points that rows 1 to 6 do not refuse, and their shape. Where speed matters it is made of a shape that `check` gives: a result
+// that holds points beside a refusal goes through memory.
 #[derive(Drop)]
 pub struct Curve<P: Points> {
     pub points: P,
@@ -119,35 +152,11 @@ pub struct Curve<P: Points> {
 }
 
 impl<P: Points> Curve<P> {
-    // Rows 1 to 6: an accepted curve is passed over once.
     pub fn new(points: P, code: u32) -> Result<Self, Refusal>
         ensures { answer_of {B = P × ℕ} (λ c. (c.points, code_of c.shape)) result
             ≡ (curve_rows (P.points points) code then gives (points, code)) }
     {
-        if bad_count(points.count()) {
-            return Err(Row::Count.at(0));
-        }
-        let shape = Shape::try_from(code)?;
-        if !passes(&points, shape) {
-            check_points(&points)?;
-            check_segments(&points, shape)?;
-        }
+        let shape = check(&points, code)?;
         Ok(Curve { points, shape })
-    }
-}
-
-impl<'a> Curve<Lists<'a>> {
-    // The same of three lists.
-    pub fn of_lists(
-        areas: &'a [u32],
-        values: &'a [u32],
-        slopes: &'a [i32],
-        code: u32,
-    ) -> Result<Self, Refusal>
-        ensures { answer_of {B = List spec.Point × ℕ}
-            (λ c. (points_of_lists c.points.areas.now c.points.values.now c.points.slopes.now, code_of c.shape)) result
-            ≡ on_lists areas.now values.now slopes.now (λ ps. curve_rows ps code then gives (ps, code)) }
-    {
-        Curve::new(Lists::new(areas, values, slopes)?, code)
     }
 }
