@@ -139,7 +139,14 @@ pub fn check_lists(
     if points::lengths_differ(areas.len(), values.len(), slopes.len()) {
         return Err(Row::Count.at(0));
     }
-    check(&Lists { areas, values, slopes }, code)
+    check(
+        &Lists {
+            areas,
+            values,
+            slopes,
+        },
+        code,
+    )
 }
 
 // Points that rows 1 to 6 do not refuse, and their shape. Where speed matters it is made of a shape that `check` gives: a result
