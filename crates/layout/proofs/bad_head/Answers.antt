@@ -22,7 +22,7 @@ returns-else-unsigned-ne-MARK_AND_1 c =
     let bytes = c.args.bytes.now in
     let small = c.type_inv.bytes in
     let w : first_word bytes ≡ mark_and_1 =
-        omega (arith, c.unsigned.ensures, four_bytes bytes 0, c.if-unsigned-ne-MARK_AND_1.false) in
+    omega (arith, c.unsigned.ensures, four_bytes bytes 0, c.if-unsigned-ne-MARK_AND_1.false) in
     let v : byte bytes 3 ≡ 1 = omega (arith, w, small 0, small 1, small 2, small 3) in
     let f : byte bytes 2 ≡ 70 = omega (arith, w, v, small 0, small 1, small 2) in
     let r : byte bytes 1 ≡ 82 = omega (arith, w, v, f, small 0, small 1) in
