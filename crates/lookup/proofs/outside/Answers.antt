@@ -18,6 +18,10 @@ returns-then-area g c =
 
 pub returns-else-area : goal.returns-else-area
 returns-else-area g c =
-    rw
-    (outside_is _ _ c.args.curve.now.accepted c.args.area, ← c.count.ensures, ← c.area.ensures, ← c.area-else-area.ensures,
-    le-ltb _ _ c.if-area.false)
+    rw (
+      outside_is _ _ c.args.curve.now.accepted c.args.area,
+      ← c.count.ensures,
+      ← c.area.ensures,
+      ← c.area-else-area.ensures,
+      le-ltb _ _ c.if-area.false,
+    )
