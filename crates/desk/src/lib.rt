@@ -49,11 +49,16 @@ fn read(bytes: &[u8], area: u32, scratch: &mut [u8]) -> Result<i32, Refusal>
     ensures scratch { let answer = desk_answer bytes.now area (length scratch.old) in
         scratch.new ≡ filled answer (point_records bytes.now) scratch.old }
 {
-    let file = CurveFile::new(bytes)?;
+    layout::check(bytes)?;
+    let file = CurveFile { bytes };
     if scratch.len() < RECORD_SIZE * file.count() {
         return Err(Row::Room.at(0));
     }
-    let curve = Curve::new(file, file.code())?;
+    let shape = rows::check(&file, file.code())?;
+    let curve = Curve {
+        points: file,
+        shape,
+    };
     let i = lookup::locate(&curve, area)?;
     copy(&bytes[HEAD_SIZE..], scratch);
     Ok(lookup::factor_at(&curve, i, area))
