@@ -10,7 +10,8 @@ use Rattle.desk.proofs.read.Goals as goal
 
 pub returns-in_err-check : goal.returns-in_err-check
 returns-in_err-check c =
-    let e = by_head (record_size * count c.args.bytes.now) c.args.bytes.now c.args.area (length c.args.scratch.now) c.in_err-check.ensures.answer in
+    let e = by_head (record_size * count c.args.bytes.now) c.args.bytes.now c.args.area (length c.args.scratch.now)
+    c.in_err-check.ensures.answer in
     record { answer = refused_exit _ _ _ c.from_residual.ensures.1 ∙ sym e; scratch = sym (untouched _ _ e) }
 
 pub overflow_mul-count : goal.overflow_mul-count

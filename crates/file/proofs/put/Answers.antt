@@ -7,7 +7,8 @@ use Rattle.file.proofs.put.Goals as goal
 
 pub returns-in_err-shape : goal.returns-in_err-shape
 returns-in_err-shape c =
-    buffer_left _ _ _ _ _ (refused_exit _ _ _ c.from_residual.ensures.1) (refused_by_curve _ _ _ _ _ c.in_err-shape.ensures.answer)
+    buffer_left _ _ _ _ _ (refused_exit _ _ _ c.from_residual.ensures.1)
+    (refused_by_curve _ _ _ _ _ c.in_err-shape.ensures.answer)
 
 pub overflow_mul-size : goal.overflow_mul-size
 overflow_mul-size c = record { fits = omega (arith, count_most _ _ _ _ c.in_ok-shape.ensures.answer) }

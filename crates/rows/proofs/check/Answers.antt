@@ -10,7 +10,8 @@ use Rattle.rows.proofs.check.Goals as goal
 
 pub returns-then-bad_count-clause-answer : goal.returns-then-bad_count-clause-answer
 unfolding curve_rows row ◌then◌
-returns-then-bad_count-clause-answer g c = rw (c.at.ensures, sym (rw c.count.ensures at c.bad_count.ensures) ∙ c.if-bad_count.true)
+returns-then-bad_count-clause-answer g c =
+    rw (c.at.ensures, sym (rw c.count.ensures at c.bad_count.ensures) ∙ c.if-bad_count.true)
 
 pub returns-in_err-shape-clause-answer : goal.returns-in_err-shape-clause-answer
 returns-in_err-shape-clause-answer g c =
