@@ -75,6 +75,7 @@ fn passes<P: Points>(points: &P, shape: Shape) -> bool
 }
 
 // Rows 3, 4 and 5: the first bad point.
+// Document 01 names a loop left by `break` with what it found.
 pub fn check_points<P: Points>(points: &P) -> Result<(), Refusal>
     requires { length (P.points points.now) ≤ points_most }
     ensures { checked result ≡ point_rows 0 none (P.points points.now) }
