@@ -15,12 +15,14 @@ use refusal::{Refusal, Row};
 use rows::Curve;
 
 // What Check answers: the number of segments, or a refusal's number and place.
+// Document 01 names this form: one enum for each call.
 #[derive(Clone, Copy, Debug, PartialEq, Eq)]
 pub enum Checked {
     Segments(u32),
     Refused(Row, u32),
 }
 
+// Document 01 names lent lists, and C gives the code as a number.
 pub fn check(areas: &[u32], values: &[u32], slopes: &[i32], shape: u32) -> Checked
     ensures { checked_answer result
         ≡ on_lists areas.now values.now slopes.now (λ ps. check_answer ps shape) }
@@ -32,6 +34,7 @@ pub fn check(areas: &[u32], values: &[u32], slopes: &[i32], shape: u32) -> Check
 }
 
 // What Read answers: the factor, or a refusal's number and place.
+// Document 01 names this form: one enum for each call.
 #[derive(Clone, Copy, Debug, PartialEq, Eq)]
 pub enum Reading {
     Factor(i32),
@@ -72,6 +75,7 @@ pub fn read(areas: &[u32], values: &[u32], slopes: &[i32], shape: u32, area: u32
 }
 
 // What Sheet answers: the number of entries, or a refusal's number and place.
+// Document 01 names this form: one enum for each call.
 #[derive(Clone, Copy, Debug, PartialEq, Eq)]
 pub enum Filled {
     Entries(u32),

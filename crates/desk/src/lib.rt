@@ -44,6 +44,7 @@ fn copy(src: &[u8], dst: &mut [u8])
     dst[at..end].copy_from_slice(&src[at..]);
 }
 
+// desk_two has these steps too, but asks for other room and copies other records: two of the seven.
 fn read(bytes: &[u8], area: u32, scratch: &mut [u8]) -> Result<i32, Refusal>
     ensures answer { answer_of (λ f. f) result ≡ desk_answer bytes.now area (length scratch.old) }
     ensures scratch { let answer = desk_answer bytes.now area (length scratch.old) in

@@ -11,6 +11,7 @@ use layout::{CurveFile, HEAD_SIZE, RECORD_SIZE};
 use refusal::{Refusal, Row};
 use rows::Curve;
 
+// The steps of desk, but for the room that is asked for and the records that are copied: two of the seven.
 fn read(bytes: &[u8], area: u32, scratch: &mut [u8]) -> Result<i32, Refusal>
     ensures answer { answer_of (λ f. f) result ≡ desk_answer_two bytes.now area (length scratch.old) }
     ensures scratch { let answer = desk_answer_two bytes.now area (length scratch.old) in

@@ -27,6 +27,7 @@ pub fn short_list(n: usize, areas: usize, values: usize, slopes: usize) -> bool
 }
 
 // What Open answers: shape and count, or a refusal's number and place.
+// Document 01 names this form: one enum for each call.
 #[derive(Clone, Copy, Debug, PartialEq, Eq)]
 pub enum Opened {
     Curve(Shape, u32),
@@ -78,6 +79,7 @@ pub fn open(bytes: &[u8], areas: &mut [u32], values: &mut [u32], slopes: &mut [i
 }
 
 // What Write answers: the length of the file, or a refusal's number and place.
+// Document 01 names this form: one enum for each call.
 #[derive(Clone, Copy, Debug, PartialEq, Eq)]
 pub enum Written {
     Length(u32),
@@ -115,6 +117,7 @@ fn put(
     Ok(size as u32)
 }
 
+// Document 01 names lent lists, and C gives the code as a number.
 pub fn write(areas: &[u32], values: &[u32], slopes: &[i32], shape: u32, out: &mut [u8]) -> Written
     ensures answer { written_answer result
         ≡ on_lists areas.now values.now slopes.now

@@ -30,6 +30,7 @@ pub fn bad_count(n: usize) -> bool
 }
 
 // Rows 3 to 6 of the second of two points and of the segment between them.
+// (Two points are a `Segment` only once rows 3 to 5 have passed the second.)
 fn follows(shape: Shape, p: Point, q: Point) -> bool
     requires { Limits (point_of p) }
     ensures { result ≡ true → Follows (rule_of (code_of shape)) (point_of p) (point_of q) }
@@ -71,6 +72,7 @@ fn passes<P: Points>(points: &P, shape: Shape) -> bool
 }
 
 // Rows 3, 4 and 5: the first bad point.
+// Document 01 names a loop left by `break` with what it found.
 pub fn check_points<P: Points>(points: &P) -> Result<(), Refusal>
     requires { length (P.points points.now) ≤ points_most }
     ensures { checked result ≡ point_rows 0 none (P.points points.now) }

@@ -114,6 +114,7 @@ impl<'a> Triples<'a> {
             return Err(Row::Count.at(0));
         }
         let whole = self.decode(points);
+        // A shorter slice says where the first is that is not whole.
         if whole.len() == n {
             return Curve::new(whole, code);
         }
