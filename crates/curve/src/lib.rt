@@ -10,6 +10,7 @@ ghost use Rattle.model.specs.Sheet.{sheet_answer, sheet_list};
 ghost use Rattle.refusal.specs.Refusal.{answer_of};
 ghost use Rattle.curve.specs.Calls.{checked_answer, reading_answer, filled_answer, InRange};
 
+use entries::Steps;
 use points::Lists;
 use refusal::{Refusal, Row};
 use rows::Curve;
@@ -107,8 +108,9 @@ fn fill(
         },
         shape,
     };
-    entries::check(&curve, start, step, out.len())?;
-    entries::fill(&curve, start, step, out);
+    let steps = Steps { start, step };
+    entries::check(&curve, steps, out.len())?;
+    entries::fill(&curve, steps, out);
     Ok(out.len() as u32)
 }
 
