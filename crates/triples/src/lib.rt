@@ -139,7 +139,8 @@ impl<'a> Triples<'a> {
             return Curve::new(whole, code);
         }
         Shape::try_from(code)?;
-        rows::check_points(&whole)?;
+        let earlier = rows::check_points(&whole);
+        earlier?;
         Err(Row::Whole.at(whole.len() as u32))
     }
 }
