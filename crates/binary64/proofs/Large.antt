@@ -7,6 +7,7 @@
 -- Assumes nothing.
 use mathlib.Core.Path.{◌≡◌, refl, sym, ap}
 use mathlib.Core.Bool.{Bool, true, false, ◌&&◌, true≢false}
+use mathlib.Core.Option.{Option, none, some}
 use Prim.Native.Nat.{ℕ, zero, suc, ◌+◌, ◌*◌, ◌%◌, ◌^◌, ◌≤◌, ◌<◌}
 use native.Mathlib.Nat.{zero-lt-suc, mul-one, mul-pos, pow-succ'}
 use native.Mathlib.Omega.{arith}
@@ -18,7 +19,6 @@ use lib.Ieee.Fits.{up_pos, down_pos, and_l, and_r}
 use borrow.Author.Tests.{ltb-false}
 use Rattle.binary64.specs.Value.{float_value, whole_of, whole_number}
 use Rattle.binary64.proofs.Values.{whole_of_value}
-use mathlib.Core.Option.{Option, none, some}
 
 unfoldable pub present : {A : Type 0} → Option A → Bool
 present none = false

@@ -1,15 +1,15 @@
 -- The decimal digits are those that std prints.
 --   decimal_is, signed_is    std's text of a number is that of the definitions
---   none_yet                 10 digits are enough for a number of 32 bits: they are all, before any is put into a buffer of 10
+--   none_yet                 10 digits before a buffer of 10 from its end on: the text of a number that has no more
 -- Assumes nothing.
-use Rattle.std.proofs.Common.{◌≡◌, ℕ, suc, ◌<◌, ◌^◌, ℤ, pos, negsuc, ◌∷◌, ap, rules, arith}
+use Rattle.std.proofs.Common.{◌≡◌, sym, ◌∙◌, ap, cond, ltb, lt-ltb, rules, arith}
+use Rattle.std.proofs.Common.{ℕ, zero, suc, ◌+◌, ◌/◌, ◌%◌, ◌^◌, ◌≤◌, ◌<◌, ℤ, pos, negsuc}
+use Rattle.std.proofs.Common.{List, [], ◌∷◌, ◌++◌, append-nil, length, drop}
 use Rattle.std.proofs.lemmas.Fmt.{AppendsLastDigit, decimal_from_appends, length-decimal-le}
-use Rattle.std.specs.Fmt as std
-use lib.Signed.{mag}
-use Rattle.std.proofs.Common.{sym, ◌∙◌, cond, ltb, lt-ltb, zero, ◌+◌, ◌/◌, ◌%◌, ◌≤◌}
-use Rattle.std.proofs.Common.{List, [], ◌++◌, append-nil, length, drop}
 use Rattle.std.proofs.lemmas.List.{drop_all}
 use Rattle.std.proofs.Math.Nat.{pow-succ'}
+use Rattle.std.specs.Fmt as std
+use lib.Signed.{mag}
 use Rattle.text.specs.Text.{ascii, digits_within, decimal, signed}
 
 appends : AppendsLastDigit digits_within
