@@ -6,7 +6,8 @@
 --   reached_first       an area that is not outside is not below that of the first point
 --   read_before_last, inside_at    the segment read has a right point, and the area is inside it
 -- Assumes nothing.
-use Rattle.std.proofs.Common.{◌≡◌, ℕ, suc, ◌+◌, ◌-◌, ◌*◌, ◌/◌, ◌≤◌, ◌<◌, List, true, false, ◌||◌, ltb, length, get_or, min, inl, inr, refl, arith}
+use Rattle.std.proofs.Common.{◌≡◌, ℕ, suc, ◌+◌, ◌-◌, ◌*◌, ◌/◌, ◌≤◌, ◌<◌, min, arith, refl, inl, inr}
+use Rattle.std.proofs.Common.{true, false, ◌||◌, ltb, List, length, get_or}
 use native.Mathlib.Nat.{mod-lt, div-add-mod', mul-le-mul_left, min-eq_left, min-eq_right}
 use Rattle.exact.proofs.Tests.{compare}
 use Rattle.model.specs.Answer.{Answer, gives, refused, ◌then◌}

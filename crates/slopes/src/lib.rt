@@ -176,7 +176,7 @@ fn supply(areas: &[u32], values: &[u32], slopes: &mut [i32]) -> Result<u32, Refu
 
 // What the filling answers: the number of points, or a refusal and its place.
 // Document 01 names this form: one enum for each call.
-#[derive(Clone, Copy)]
+#[derive(Clone, Copy, Debug, PartialEq, Eq)]
 pub enum Supplied {
     Points(u32),
     Refused(Row, u32),
