@@ -65,6 +65,7 @@ pub fn check<P: Points>(curve: &Curve<P>, steps: Steps, n: usize) -> Result<(), 
     if bad_sheet(steps.step, n) {
         return Err(Row::Sheet.at(0));
     }
+    // The count is the place of the refusal too: an Option would carry the same number.
     let inside = count_inside(curve, steps);
     if inside < n {
         return Err(Row::Outside.at(inside as u32));

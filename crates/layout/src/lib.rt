@@ -17,7 +17,7 @@ pub const HEAD_SIZE: usize = 7;
 
 pub const RECORD_SIZE: usize = 12;
 
-// The number of the 4 bytes from an offset on.
+// The number of the 4 bytes from an offset on. (A slice of its own would need a fact of its length in place of the offset's.)
 pub fn unsigned(bytes: &[u8], at: usize) -> u32
     requires { at + 4 ≤ length bytes.now }
     ensures { result ≡ little_endian bytes.now at 4 }

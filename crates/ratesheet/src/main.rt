@@ -32,6 +32,7 @@ fn asked_by(word: &[u8]) -> Request {
 }
 
 fn asked(rt: &impl Env) -> Request {
+    // No heap: longer than any word that is known.
     let mut word = [0u8; 16];
     match rt.arg(1, &mut word) {
         Err(FillError::NotPresent) => Request::Sheet,

@@ -58,7 +58,7 @@ fn all_pass<P: Points>(points: &P, shape: Shape) -> bool
     true
 }
 
-// The same, with a loop for each shape.
+// The same, with a loop for each shape. (A file brings the shape, so something must choose by it.)
 fn passes<P: Points>(points: &P, shape: Shape) -> bool
     requires { Count (length (P.points points.now)) }
     ensures { result ≡ true → accepts (P.points points.now) (code_of shape) ≡ true }

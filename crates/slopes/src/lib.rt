@@ -62,7 +62,7 @@ fn slope_at(place: u32, figure: u64) -> Result<i32, Refusal>
     Ok(figure as i32)
 }
 
-// As many areas as values: points whose slopes are all 0.
+// As many areas as values: points whose slopes are all 0. (`Lists` would need a list of zeros, which is slower.)
 #[derive(Clone, Copy)]
 struct Rated<'a> {
     areas: &'a [u32],
