@@ -51,8 +51,8 @@ pub struct Triple {
 }
 
 impl Triple {
-    // The point, if its figures are whole. Each figure is tested whole before it is cast. Those that 32 bits do not hold, and areas
-    // and values below 0, become others that are beyond the limits too.
+    // The point, if its figures are whole. Each figure is tested whole before it is cast. Those that 32 bits do not hold, and
+    // areas and values below 0, become others that are beyond the limits too.
     fn point(self) -> Option<Point>
         ensures { taken_point result ≡ ranged (taken (triple_of self)) }
     {
