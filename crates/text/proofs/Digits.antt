@@ -1,6 +1,6 @@
 -- The decimal digits are those that std prints.
 --   decimal_is, signed_is    std's text of a number is that of the definitions
---   none_yet                 10 digits before a buffer of 10 from its end on: the text of a number that has no more
+--   none_yet                 at most 10 digits, with nothing after the 10 entries of a buffer, are the number's text
 -- Assumes nothing.
 use Rattle.std.proofs.Common.{◌≡◌, sym, ◌∙◌, ap, cond, ltb, lt-ltb, rules, arith}
 use Rattle.std.proofs.Common.{ℕ, zero, suc, ◌+◌, ◌/◌, ◌%◌, ◌^◌, ◌≤◌, ◌<◌, ℤ, pos, negsuc}
