@@ -38,7 +38,7 @@ impl Steps {
 }
 
 // Row 8.
-fn bad_sheet(step: u32, n: usize) -> bool
+pub fn bad_sheet(step: u32, n: usize) -> bool
     ensures { result ≡ bad_sheet step n }
 {
     step == 0 || n == 0 || n > ENTRIES_MOST

@@ -48,7 +48,7 @@ fn last_not_above<P: Points>(points: &P, from: u32, step: u32, end: u32, area: u
 }
 
 // The index of the left point of the segment that an area takes: among every eighth point, then among those from there on.
-fn search<P: Points>(curve: &Curve<P>, area: u32) -> usize
+pub fn search<P: Points>(curve: &Curve<P>, area: u32) -> usize
     requires { Reached (areas_of (P.points curve.now.points)) 0 area }
     ensures { Taken (areas_of (P.points curve.now.points)) result area }
 {

@@ -31,7 +31,7 @@ pub fn bad_count(n: usize) -> bool
 
 // Rows 3 to 6 of the second of two points and of the segment between them.
 // (Two points are a `Segment` only once rows 3 to 5 have passed the second.)
-fn follows(shape: Shape, p: Point, q: Point) -> bool
+pub fn follows(shape: Shape, p: Point, q: Point) -> bool
     requires { Limits (point_of p) }
     ensures { result ≡ true → Follows (rule_of (code_of shape)) (point_of p) (point_of q) }
 {

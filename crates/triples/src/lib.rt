@@ -15,7 +15,7 @@ use shape::Shape;
 use std::num::f64_from_bits_with_nan;
 
 // Bytes of each point.
-const TRIPLE_SIZE: usize = 24;
+pub const TRIPLE_SIZE: usize = 24;
 
 // The figure of the 8 bytes from an offset on, the lowest first.
 fn figure(bytes: &[u8], at: usize) -> f64
