@@ -1,4 +1,5 @@
 -- Laws that other crates cite.
 pub mod Values
 mod Wholes
+pub mod Large
 pub mod Laws

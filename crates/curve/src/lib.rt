@@ -10,27 +10,32 @@ ghost use Rattle.model.specs.Sheet.{sheet_answer, sheet_list};
 ghost use Rattle.refusal.specs.Refusal.{answer_of};
 ghost use Rattle.curve.specs.Calls.{checked_answer, reading_answer, filled_answer, InRange};
 
+use entries::Steps;
+use points::Lists;
 use refusal::{Refusal, Row};
 use rows::Curve;
 
 // What Check answers: the number of segments, or a refusal's number and place.
+// Document 01 names this form: one enum for each call.
 #[derive(Clone, Copy, Debug, PartialEq, Eq)]
 pub enum Checked {
     Segments(u32),
     Refused(Row, u32),
 }
 
+// Document 01 names lent lists, and C gives the code as a number.
 pub fn check(areas: &[u32], values: &[u32], slopes: &[i32], shape: u32) -> Checked
     ensures { checked_answer result
         ≡ on_lists areas.now values.now slopes.now (λ ps. check_answer ps shape) }
 {
-    match Curve::of_lists(areas, values, slopes, shape) {
+    match rows::check_lists(areas, values, slopes, shape) {
         Ok(_) => Checked::Segments((areas.len() - 1) as u32),
         Err(refusal) => Checked::Refused(refusal.row, refusal.place),
     }
 }
 
 // What Read answers: the factor, or a refusal's number and place.
+// Document 01 names this form: one enum for each call.
 #[derive(Clone, Copy, Debug, PartialEq, Eq)]
 pub enum Reading {
     Factor(i32),
@@ -47,7 +52,15 @@ fn factor(
     ensures { answer_of (λ f. f) result
         ≡ on_lists areas.now values.now slopes.now (λ ps. read_answer ps shape area) }
 {
-    let curve = Curve::of_lists(areas, values, slopes, shape)?;
+    let shape = rows::check_lists(areas, values, slopes, shape)?;
+    let curve = Curve {
+        points: Lists {
+            areas,
+            values,
+            slopes,
+        },
+        shape,
+    };
     Ok(lookup::read(&curve, area)?)
 }
 
@@ -63,6 +76,7 @@ pub fn read(areas: &[u32], values: &[u32], slopes: &[i32], shape: u32, area: u32
 }
 
 // What Sheet answers: the number of entries, or a refusal's number and place.
+// Document 01 names this form: one enum for each call.
 #[derive(Clone, Copy, Debug, PartialEq, Eq)]
 pub enum Filled {
     Entries(u32),
@@ -85,9 +99,18 @@ fn fill(
         ≡ sheet_list (points areas.now values.now slopes.now) shape start step
         (answer_of (λ n. n) result) out.old }
 {
-    let curve = Curve::of_lists(areas, values, slopes, shape)?;
-    entries::check(&curve, start, step, out.len())?;
-    entries::fill(&curve, start, step, out);
+    let shape = rows::check_lists(areas, values, slopes, shape)?;
+    let curve = Curve {
+        points: Lists {
+            areas,
+            values,
+            slopes,
+        },
+        shape,
+    };
+    let steps = Steps { start, step };
+    entries::check(&curve, steps, out.len())?;
+    entries::fill(&curve, steps, out);
     Ok(out.len() as u32)
 }
 

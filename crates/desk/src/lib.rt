@@ -44,16 +44,22 @@ fn copy(src: &[u8], dst: &mut [u8])
     dst[at..end].copy_from_slice(&src[at..]);
 }
 
+// desk_two has these steps too, but asks for other room and copies other records: two of the seven.
 fn read(bytes: &[u8], area: u32, scratch: &mut [u8]) -> Result<i32, Refusal>
     ensures answer { answer_of (λ f. f) result ≡ desk_answer bytes.now area (length scratch.old) }
     ensures scratch { let answer = desk_answer bytes.now area (length scratch.old) in
         scratch.new ≡ filled answer (point_records bytes.now) scratch.old }
 {
-    let file = CurveFile::new(bytes)?;
+    layout::check(bytes)?;
+    let file = CurveFile { bytes };
     if scratch.len() < RECORD_SIZE * file.count() {
         return Err(Row::Room.at(0));
     }
-    let curve = Curve::new(file, file.code())?;
+    let shape = rows::check(&file, file.code())?;
+    let curve = Curve {
+        points: file,
+        shape,
+    };
     let i = lookup::locate(&curve, area)?;
     copy(&bytes[HEAD_SIZE..], scratch);
     Ok(lookup::factor_at(&curve, i, area))

@@ -11,16 +11,22 @@ use layout::{CurveFile, HEAD_SIZE, RECORD_SIZE};
 use refusal::{Refusal, Row};
 use rows::Curve;
 
+// The steps of desk, but for the room that is asked for and the records that are copied: two of the seven.
 fn read(bytes: &[u8], area: u32, scratch: &mut [u8]) -> Result<i32, Refusal>
     ensures answer { answer_of (λ f. f) result ≡ desk_answer_two bytes.now area (length scratch.old) }
     ensures scratch { let answer = desk_answer_two bytes.now area (length scratch.old) in
         scratch.new ≡ filled answer (segment_records bytes.now area) scratch.old }
 {
-    let file = CurveFile::new(bytes)?;
+    layout::check(bytes)?;
+    let file = CurveFile { bytes };
     if scratch.len() < 2 * RECORD_SIZE {
         return Err(Row::Room.at(0));
     }
-    let curve = Curve::new(file, file.code())?;
+    let shape = rows::check(&file, file.code())?;
+    let curve = Curve {
+        points: file,
+        shape,
+    };
     let i = lookup::locate(&curve, area)?;
     copy_block::<24>(bytes, HEAD_SIZE + RECORD_SIZE * i, scratch, 0);
     Ok(lookup::factor_at(&curve, i, area))

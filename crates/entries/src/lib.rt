@@ -20,61 +20,71 @@ use shape::Segment;
 // The largest number of entries.
 pub const ENTRIES_MOST: usize = 1024;
 
+// The areas of the entries: start, start + step and so on.
+#[derive(Clone, Copy)]
+pub struct Steps {
+    pub start: u32,
+    pub step: u32,
+}
+
+impl Steps {
+    // The area of an entry inside a curve.
+    fn area(self, index: usize) -> u32
+        requires { entry_area self.start self.step index ≤ area_most }
+        ensures { result ≡ entry_area self.start self.step index }
+    {
+        (self.start as u64 + index as u64 * self.step as u64) as u32
+    }
+}
+
 // Row 8.
-fn bad_sheet(step: u32, n: usize) -> bool
+pub fn bad_sheet(step: u32, n: usize) -> bool
     ensures { result ≡ bad_sheet step n }
 {
     step == 0 || n == 0 || n > ENTRIES_MOST
 }
 
 // How many entries from the first on are inside the curve. The areas increase, so a division says it.
-fn count_inside<P: Points>(curve: &Curve<P>, start: u32, step: u32) -> usize
-    requires { 0 < step }
-    ensures { (n : ℕ) → first_answer 7 result n ≡ entry_rows (P.points curve.now.points) start step n }
+fn count_inside<P: Points>(curve: &Curve<P>, steps: Steps) -> usize
+    requires { 0 < steps.step }
+    ensures { (n : ℕ) → first_answer 7 result n ≡ entry_rows (P.points curve.now.points) steps.start steps.step n }
 {
-    if lookup::outside(curve, start) {
+    if lookup::outside(&curve.points, steps.start) {
         return 0;
     }
     let points = curve.points;
-    ((points.area(points.count() - 1) - start) / step) as usize + 1
+    ((points.area(points.count() - 1) - steps.start) / steps.step) as usize + 1
 }
 
 // Row 8, then row 7 at the first entry outside.
-pub fn check<P: Points>(curve: &Curve<P>, start: u32, step: u32, n: usize) -> Result<(), Refusal>
+pub fn check<P: Points>(curve: &Curve<P>, steps: Steps, n: usize) -> Result<(), Refusal>
     ensures { checked result
-        ≡ (row (bad_sheet step n) 8 0 then entry_rows (P.points curve.now.points) start step n) }
+        ≡ (row (bad_sheet steps.step n) 8 0
+        then entry_rows (P.points curve.now.points) steps.start steps.step n) }
 {
-    if bad_sheet(step, n) {
+    if bad_sheet(steps.step, n) {
         return Err(Row::Sheet.at(0));
     }
-    let inside = count_inside(curve, start, step);
+    // The count is the place of the refusal too: an Option would carry the same number.
+    let inside = count_inside(curve, steps);
     if inside < n {
         return Err(Row::Outside.at(inside as u32));
     }
     Ok(())
 }
 
-// The area of an entry inside the curve.
-fn area_of(start: u32, step: u32, index: usize) -> u32
-    requires { entry_area start step index ≤ area_most }
-    ensures { result ≡ entry_area start step index }
-{
-    (start as u64 + index as u64 * step as u64) as u32
-}
-
 // Fills the entries from index on that take the segment at k, and gives the index after them.
 fn fill_segment<P: Points>(
     curve: &Curve<P>,
     k: usize,
-    start: u32,
-    step: u32,
+    steps: Steps,
     index: usize,
     out: &mut [i32],
 ) -> usize
-    requires { NextEntry (P.points curve.now.points) k start step index (length out.old) }
+    requires { NextEntry (P.points curve.now.points) k steps.start steps.step index (length out.old) }
     ensures { FilledUpTo
-        (λ i. reading (P.points curve.now.points) (code_of curve.now.shape) (entry_area start step i))
-        (P.points curve.now.points) k start step index result out.old out.new }
+        (λ i. reading (P.points curve.now.points) (code_of curve.now.shape) (entry_area steps.start steps.step i))
+        (P.points curve.now.points) k steps.start steps.step index result out.old out.new }
 {
     let segment = Segment {
         left: curve.points.point(k),
@@ -82,8 +92,8 @@ fn fill_segment<P: Points>(
     };
     let facing = Facing::new(curve.shape, segment);
     for i in index..out.len() {
-        let area = area_of(start, step, i);
-        if !lookup::takes(curve, k, area) {
+        let area = steps.area(i);
+        if !lookup::takes(&curve.points, k, area) {
             return i;
         }
         out[i] = facing.factor(area);
@@ -92,14 +102,14 @@ fn fill_segment<P: Points>(
 }
 
 // The factor at each entry's area, segment by segment.
-pub fn fill<P: Points>(curve: &Curve<P>, start: u32, step: u32, out: &mut [i32])
-    requires { AllInside (P.points curve.now.points) start step (length out.old) }
+pub fn fill<P: Points>(curve: &Curve<P>, steps: Steps, out: &mut [i32])
+    requires { AllInside (P.points curve.now.points) steps.start steps.step (length out.old) }
     ensures { out.new ≡ tabulate
-        (λ i. reading (P.points curve.now.points) (code_of curve.now.shape) (entry_area start step i))
+        (λ i. reading (P.points curve.now.points) (code_of curve.now.shape) (entry_area steps.start steps.step i))
         0 (length out.old) }
 {
     let mut index = 0;
     for k in 0..curve.points.count() - 1 {
-        index = fill_segment(curve, k, start, step, index, out);
+        index = fill_segment(curve, k, steps, index, out);
     }
 }

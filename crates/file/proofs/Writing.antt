@@ -1,5 +1,4 @@
 -- What Write answers, row by row, and the buffer after it.
---   count_listed         row 1 of the lists and rows 1 to 6 do not refuse: as many points as areas
 --   buffer_left          after a refusal the buffer is as found
 --   refused_by_curve     these rows refuse; refused_by_buffer, row 12
 --   written              no row refuses; file_in_buffer, the buffer then begins with the file
@@ -7,9 +6,9 @@
 use Rattle.std.proofs.Common.{◌≡◌, ℕ, ◌<◌, ◌≤◌, List, ◌++◌, sym, ◌∙◌, ap, length, drop, zero-add, lt-ltb, le-ltb}
 use lib.IntN.{ℤ}
 use Rattle.model.specs.Answer.{Answer, gives, refused, row, ◌then◌, filled}
-use Rattle.model.specs.Points.{Point, points}
+use Rattle.model.specs.Points.{points}
 use Rattle.model.specs.Check.{on_lists}
-use Rattle.rows.proofs.Lists.{with_code, points_are, size_listed, after_rows, refused_listed}
+use Rattle.rows.proofs.Lists.{with_code, code_is, size_listed, after_rows, refused_listed}
 use Rattle.layout.specs.Layout.{point_offset}
 use Rattle.encoding.specs.File.{file_bytes}
 use Rattle.encoding.specs.Inner.{put}
@@ -18,12 +17,8 @@ use Rattle.file.specs.Laws.{write_into}
 use Rattle.file.proofs.Filled.{after_refusal}
 
 -- points that row 1 of the lists and rows 1 to 6 do not refuse, and their code
-module _ (areas values : List ℕ) (slopes : List ℤ) (code : ℕ) {ps : List Point} {shape : ℕ}
-    (e : gives (ps, shape) ≡ on_lists areas values slopes (with_code code)) where
-  pub count_listed : length ps ≡ length areas
-  count_listed =
-      ap (λ (t : List Point × ℕ). length t.0) (sym (points_are areas values slopes code e)) ∙ size_listed areas values slopes code e
-
+module _ (areas values : List ℕ) (slopes : List ℤ) (code : ℕ) {shape : ℕ}
+    (e : gives shape ≡ on_lists areas values slopes (with_code code)) where
   after_6 : (room : ℕ) →
       on_lists areas values slopes (λ qs. write_answer qs code room)
       ≡ (row (short_buffer (length areas) room) 12 0 then gives (point_offset (length areas)))
@@ -32,13 +27,14 @@ module _ (areas values : List ℕ) (slopes : List ℤ) (code : ℕ) {ps : List P
       after_rows areas values slopes code e (λ qs. row (short_buffer (length qs) room) 12 0 then gives (point_offset (length qs)))
       ∙ (rw (size_listed areas values slopes code e))
 
-  pub file_in_buffer : {out : List ℕ} (buffer : List ℕ) (n : ℕ) → out ≡ put 0 (file_bytes ps shape) buffer →
+  pub file_in_buffer : {out : List ℕ} (buffer : List ℕ) (n : ℕ) →
+      out ≡ put 0 (file_bytes (points areas values slopes) shape) buffer →
       out ≡ filled (gives n) (file_bytes (points areas values slopes) code) buffer
   unfolding filled
   file_in_buffer buffer n k =
-      let file = file_bytes ps shape in
-      k ∙ ap (λ (n : ℕ). file ++ drop n buffer) (zero-add (length file))
-      ∙ ap (λ (t : List Point × ℕ). let file = file_bytes t.0 t.1 in file ++ drop (length file) buffer) (sym (points_are areas values slopes code e))
+      let ps = points areas values slopes in
+      k ∙ ap (λ (n : ℕ). file_bytes ps shape ++ drop n buffer) (zero-add (length (file_bytes ps shape)))
+      ∙ ap (λ (c : ℕ). file_bytes ps c ++ drop (length (file_bytes ps c)) buffer) (sym (code_is areas values slopes code e))
 
 module _ (areas values : List ℕ) (slopes : List ℤ) (code : ℕ) (buffer : List ℕ) where
   abbrev answer : Answer ℕ
@@ -52,7 +48,7 @@ module _ (areas values : List ℕ) (slopes : List ℤ) (code : ℕ) (buffer : Li
   unfolding write_answer
   refused_by_curve = refused_listed areas values slopes code _
 
-  module _ {ps : List Point} {shape : ℕ} (e : gives (ps, shape) ≡ on_lists areas values slopes (with_code code)) where
+  module _ {shape : ℕ} (e : gives shape ≡ on_lists areas values slopes (with_code code)) where
     pub refused_by_buffer : length buffer < point_offset (length areas) → refused 12 0 ≡ answer
     unfolding short_buffer row ◌then◌
     refused_by_buffer h = rw (after_6 areas values slopes code e (length buffer), lt-ltb _ _ h)

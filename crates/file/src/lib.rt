@@ -14,9 +14,8 @@ ghost use Rattle.file.specs.Calls.{opened_answer, written_answer};
 ghost use Rattle.file.specs.Inner.{head_of};
 
 use layout::{CurveFile, HEAD_SIZE, RECORD_SIZE};
-use points::Points;
+use points::{Lists, Points};
 use refusal::{Refusal, Row};
-use rows::Curve;
 use shape::Shape;
 
 // Row 11.
@@ -28,6 +27,7 @@ pub fn short_list(n: usize, areas: usize, values: usize, slopes: usize) -> bool
 }
 
 // What Open answers: shape and count, or a refusal's number and place.
+// Document 01 names this form: one enum for each call.
 #[derive(Clone, Copy, Debug, PartialEq, Eq)]
 pub enum Opened {
     Curve(Shape, u32),
@@ -50,14 +50,15 @@ fn read(
     ensures slopes { slopes.new
         ≡ filled (answer_of head_of result) (map (λ p. p.slope) (points_of bytes.now)) slopes.old }
 {
-    let file = CurveFile::new(bytes)?;
+    layout::check(bytes)?;
+    let file = CurveFile { bytes };
     let n = file.count();
     if short_list(n, areas.len(), values.len(), slopes.len()) {
         return Err(Row::Room.at(0));
     }
-    let curve = Curve::new(file, file.code())?;
+    let shape = rows::check(&file, file.code())?;
     points::fill(&file, areas, values, slopes);
-    Ok((curve.shape, n as u32))
+    Ok((shape, n as u32))
 }
 
 pub fn open(bytes: &[u8], areas: &mut [u32], values: &mut [u32], slopes: &mut [i32]) -> Opened
@@ -78,6 +79,7 @@ pub fn open(bytes: &[u8], areas: &mut [u32], values: &mut [u32], slopes: &mut [i
 }
 
 // What Write answers: the length of the file, or a refusal's number and place.
+// Document 01 names this form: one enum for each call.
 #[derive(Clone, Copy, Debug, PartialEq, Eq)]
 pub enum Written {
     Length(u32),
@@ -98,15 +100,24 @@ fn put(
         ≡ filled (answer_of (λ n. n) result)
         (file_bytes (points areas.now values.now slopes.now) shape) out.old }
 {
-    let curve = Curve::of_lists(areas, values, slopes, shape)?;
+    let shape = rows::check_lists(areas, values, slopes, shape)?;
     let size = HEAD_SIZE + RECORD_SIZE * areas.len();
     if out.len() < size {
         return Err(Row::Buffer.at(0));
     }
-    encoding::encode(&curve.points, curve.shape, out);
+    encoding::encode(
+        &Lists {
+            areas,
+            values,
+            slopes,
+        },
+        shape,
+        out,
+    );
     Ok(size as u32)
 }
 
+// Document 01 names lent lists, and C gives the code as a number.
 pub fn write(areas: &[u32], values: &[u32], slopes: &[i32], shape: u32, out: &mut [u8]) -> Written
     ensures answer { written_answer result
         ≡ on_lists areas.now values.now slopes.now

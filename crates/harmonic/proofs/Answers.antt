@@ -1,4 +1,5 @@
 -- What the filling of slopes answers.
+--   by_rated           rows 3, 4 and 6, and then row 5 of the figures
 --   refused_by_rows    rows 1 to 6 of the points with slopes 0 refuse, and so does the filling
 --   refused_by_steep   they pass, and row 5 of a figure refuses; given_all, it passes too
 --   Given, given       what a number of points that is given says
@@ -18,6 +19,15 @@ use Rattle.model.proofs.Rows.{gives_injective, then_first, then_rest, row_passed
 use Rattle.harmonic.specs.Fill.{area_and_value_rows, too_steep, fill_answer}
 use Rattle.harmonic.specs.Inner.{rated_rows, zero_slope_points}
 use Rattle.harmonic.proofs.Rising.{zero_slope_rows}
+
+module _ (areas values : List ℕ) (slopes : ℕ) (same : lengths_differ (length areas) (length values) slopes ≡ false)
+    (count : bad_count (length areas) ≡ false) where
+  abbrev pub after_rated : Answer ℕ
+  after_rated = row_at_each (too_steep areas values) 5 0 (length areas) then gives (length areas)
+
+  pub by_rated : fill_answer areas values slopes ≡ (rated_rows areas values then after_rated)
+  unfolding fill_answer row ◌then◌
+  by_rated = rw (same, count) (sym (then_assoc (area_and_value_rows 0 none areas values) _ _))
 
 module _ (areas values : List ℕ) (slopes : ℕ) (same : lengths_differ (length areas) (length values) slopes ≡ false) where
   abbrev rows_of_zeros : Answer (Unit {0})

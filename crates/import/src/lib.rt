@@ -13,6 +13,7 @@ use rows::POINTS_MOST;
 use triples::Triples;
 
 // What Import answers: the count, or a refusal's row and place.
+// Document 01 names this form: one enum for each call.
 #[derive(Clone, Copy, Debug, PartialEq, Eq)]
 pub enum Imported {
     Points(u32),
@@ -46,12 +47,14 @@ fn take(
         value: 0,
         slope: 0,
     };
+    // No heap: as many as a curve can have.
     let mut list = [origin; POINTS_MOST];
     let curve = export.curve(code, &mut list)?;
     points::fill(&curve.points, areas, values, slopes);
     Ok(n as u32)
 }
 
+// Document 01 names lent lists, and C gives the code as a number.
 pub fn import(
     bytes: &[u8],
     code: u32,

@@ -6,7 +6,8 @@
 --   reached_first       an area that is not outside is not below that of the first point
 --   read_before_last, inside_at    the segment read has a right point, and the area is inside it
 -- Assumes nothing.
-use Rattle.std.proofs.Common.{◌≡◌, ℕ, suc, ◌+◌, ◌-◌, ◌*◌, ◌/◌, ◌≤◌, ◌<◌, List, true, false, ◌||◌, ltb, length, get_or, min, inl, inr, refl, arith}
+use Rattle.std.proofs.Common.{◌≡◌, ℕ, suc, ◌+◌, ◌-◌, ◌*◌, ◌/◌, ◌≤◌, ◌<◌, min, arith, refl, inl, inr}
+use Rattle.std.proofs.Common.{true, false, ◌||◌, ltb, List, length, get_or}
 use native.Mathlib.Nat.{mod-lt, div-add-mod', mul-le-mul_left, min-eq_left, min-eq_right}
 use Rattle.exact.proofs.Tests.{compare}
 use Rattle.model.specs.Answer.{Answer, gives, refused, ◌then◌}
@@ -54,17 +55,18 @@ pub refused_alike : {A B : Type 0} {number place : ℕ} (rows : Answer (Unit {0}
     (rows then gives x) ≡ refused number place → (rows then gives y) ≡ refused number place
 refused_alike rows x y e = then_refused rows (gives y) (refused_first rows x e)
 
+pub outside_is : (ps : List Point) (x : ℕ) → 0 < length ps →
+    outside ps x ≡ (ltb x (point_at ps 0).area || ltb (point_at ps (length ps - 1)).area x)
+outside_is ps x some =
+    let row_7 = outside_of ps refl (omega (arith, size_of ps)) x in
+    rw (row_7, size_of ps, area_at ps 0, area_at ps (length ps - 1))
+
 module _ (ps : List Point) (code : ℕ) (e : accepts ps code ≡ true) where
   pub least : points_least ≤ length ps
   least = (count_of (accepted ps code e)).0
 
   pub most : length ps ≤ points_most
   most = (count_of (accepted ps code e)).1
-
-  pub outside_is : (x : ℕ) → outside ps x ≡ (ltb x (point_at ps 0).area || ltb (point_at ps (length ps - 1)).area x)
-  outside_is x =
-      let row_7 = outside_of ps refl (omega (arith, size_of ps, least)) x in
-      rw (row_7, size_of ps, area_at ps 0, area_at ps (length ps - 1))
 
   pub reached_first : (x : ℕ) → outside ps x ≡ false → Reached (areas_of ps) 0 x
   reached_first x o =

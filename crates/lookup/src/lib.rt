@@ -1,7 +1,7 @@
 // Readings of an accepted curve: row 7, the segment that an area takes, the factor there.
 #![tactic(auto)]
 
-ghost use Rattle.std.specs.Prelude.{◌≡◌, false, length};
+ghost use Rattle.std.specs.Prelude.{◌≡◌, false, ◌<◌, length};
 ghost use Rattle.model.specs.Answer.{gives, row, ◌then◌};
 ghost use Rattle.model.specs.Read.{outside as lies_outside, segment_read, reading};
 ghost use Rattle.model.specs.Inner.{areas_of, Reached, Taken, Strides, LastOf};
@@ -15,20 +15,19 @@ use rows::Curve;
 use shape::Segment;
 
 // Row 7.
-pub fn outside<P: Points>(curve: &Curve<P>, area: u32) -> bool
-    ensures { result ≡ lies_outside (P.points curve.now.points) area }
+pub fn outside<P: Points>(points: &P, area: u32) -> bool
+    requires { 0 < length (P.points points.now) }
+    ensures { result ≡ lies_outside (P.points points.now) area }
 {
-    let points = curve.points;
     area < points.area(0) || points.area(points.count() - 1) < area
 }
 
 // Whether an area takes the segment at i, whose left area is not above it.
-pub fn takes<P: Points>(curve: &Curve<P>, i: usize, area: u32) -> bool
-    requires { Reached (areas_of (P.points curve.now.points)) i area }
-    ensures { TakesResult (areas_of (P.points curve.now.points)) i area result }
+pub fn takes<P: Points>(points: &P, i: usize, area: u32) -> bool
+    requires { Reached (areas_of (P.points points.now)) i area }
+    ensures { TakesResult (areas_of (P.points points.now)) i area result }
 {
-    let points = curve.points;
-    i + 2 == points.count() || area < points.area(i + 1)
+    points.count() - i == 2 || area < points.area(i + 1)
 }
 
 // From an area that is not above the area read, the last of every step-th before `end` that is not. All of them are looked at, so
@@ -49,7 +48,7 @@ fn last_not_above<P: Points>(points: &P, from: u32, step: u32, end: u32, area: u
 }
 
 // The index of the left point of the segment that an area takes: among every eighth point, then among those from there on.
-fn search<P: Points>(curve: &Curve<P>, area: u32) -> usize
+pub fn search<P: Points>(curve: &Curve<P>, area: u32) -> usize
     requires { Reached (areas_of (P.points curve.now.points)) 0 area }
     ensures { Taken (areas_of (P.points curve.now.points)) result area }
 {
@@ -68,7 +67,7 @@ pub fn locate<P: Points>(curve: &Curve<P>, area: u32) -> Result<usize, Row>
         ≡ (row (lies_outside (P.points curve.now.points) area) 7 0
         then gives (segment_read (P.points curve.now.points) area)) }
 {
-    if outside(curve, area) {
+    if outside(&curve.points, area) {
         return Err(Row::Outside);
     }
     Ok(search(curve, area))

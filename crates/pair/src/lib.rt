@@ -10,12 +10,14 @@ use curve::Reading;
 use refusal::Row;
 
 // What Pair answers: the form and plan factors and the plan factor less the form factor, or a refusal's number and place.
+// Document 01 names this form: one enum for each call.
 #[derive(Clone, Copy, Debug, PartialEq, Eq)]
 pub enum Pair {
     Factors(i32, i32, i32),
     Refused(Row, u32),
 }
 
+// Document 01 names lent lists, and C gives the code as a number.
 pub fn read_pair(
     areas: &[u32],
     values: &[u32],

@@ -10,4 +10,5 @@ module _ {B : Type 0} (f : Point → B) (ps : List Point) where
       i < length ps → length ps ≤ length found → v ≡ f (point_at ps i) →
       Copied (map f ps) found (set filled i v) (i + 1)
   copying_field {i = i} v k h room e =
-      copying_goes_on (map f ps) _ (f origin) v k (omega (arith, length-map ps f)) (omega arith) (e ∙ sym (get_or-map f ps i origin))
+      copying_goes_on (map f ps) _ (f origin) v k (omega (arith, length-map ps f)) (omega arith)
+      (e ∙ sym (get_or-map f ps i origin))

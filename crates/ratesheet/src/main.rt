@@ -32,6 +32,7 @@ fn asked_by(word: &[u8]) -> Request {
 }
 
 fn asked(rt: &impl Env) -> Request {
+    // No heap: longer than any word that is known.
     let mut word = [0u8; 16];
     match rt.arg(1, &mut word) {
         Err(FillError::NotPresent) => Request::Sheet,
@@ -93,6 +94,7 @@ fn print_help(rt: &(impl Print + Eprint)) -> ExitCode {
 const READ_MOST: usize = sheet_text::FILE_MOST + 1;
 
 // Reads until the buffer is full or the input ends. A read that a signal interrupts fails and is not tried again.
+// (std's `read_to_end` would try it again.)
 fn read_all<R: Read>(input: &mut R, buf: &mut [u8]) -> io::Result<usize>
     ensures bound { ReadsAtMost result buf.new }
     ensures bytes { IfOk result (λ n. IfSome (R.remaining input.old)
@@ -113,6 +115,7 @@ fn read_all<R: Read>(input: &mut R, buf: &mut [u8]) -> io::Result<usize>
 fn sheet<R: Read + Drop>(mut input: R) -> io::Result<Text>
     ensures { IfOk result (λ text. IfSome (R.remaining input) (λ bytes. text.bytes ≡ sheet_text bytes)) }
 {
+    // No heap.
     let mut bytes = [0u8; READ_MOST];
     let n = read_all(&mut input, &mut bytes)?;
     Ok(sheet_text::sheet_text(&bytes[..n]))

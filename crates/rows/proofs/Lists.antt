@@ -1,11 +1,11 @@
--- What `Curve::of_lists` says of three lists.
---   with_code           what it answers: the points and the code
---   given, points_are   where it gives a curve, row 1 is passed, and its points and code are those of the lists
+-- What `check_lists` says of three lists.
+--   with_code           what it answers: the code
+--   given, code_is      where it gives a shape, row 1 is passed, and its code is that of the lists
 --   listed_accepted     the points of the lists are accepted; size_listed, count_most, as many as areas, and at most 64
 --   after_rows          what comes after rows 1 to 6 decides then
 --   refused_listed      where it refuses, every call on the lists that begins with these rows does
 -- Assumes nothing.
-use Rattle.std.proofs.Common.{◌≡◌, ℕ, ◌≤◌, List, sym, ◌∙◌, ap, length, arith}
+use Rattle.std.proofs.Common.{◌≡◌, ℕ, ◌≤◌, List, sym, ◌∙◌, length, arith}
 use lib.IntN.{ℤ}
 use Rattle.model.specs.Answer.{Answer, gives, refused, ◌then◌}
 use Rattle.model.specs.Points.{points_least, points_most, Point, points}
@@ -16,16 +16,16 @@ use Rattle.model.proofs.Accepted.{count_of}
 use Rattle.model.proofs.Answers.{Result, on_lists_is, on_lists_gives, on_lists_refused, then_refused, refused_first}
 use Rattle.model.proofs.Lists.{fields_of, fields_length}
 
-abbrev pub with_code : ℕ → List Point → Answer (List Point × ℕ)
-with_code code ps = curve_rows ps code then gives (ps, code)
+abbrev pub with_code : ℕ → List Point → Answer ℕ
+with_code code ps = curve_rows ps code then gives code
 
 module _ (areas values : List ℕ) (slopes : List ℤ) (code : ℕ) where
-  module _ {ps : List Point} {shape : ℕ} (e : gives (ps, shape) ≡ on_lists areas values slopes (with_code code)) where
-    pub given : Result areas values slopes (with_code code) (ps, shape)
+  module _ {shape : ℕ} (e : gives shape ≡ on_lists areas values slopes (with_code code)) where
+    pub given : Result areas values slopes (with_code code) shape
     given = on_lists_gives areas values slopes (with_code code) (sym e)
 
-    pub points_are : ◌≡◌ {A = List Point × ℕ} (points areas values slopes, code) (ps, shape)
-    points_are = gives_injective (then_rest (curve_rows (points areas values slopes) code) _ given.result)
+    pub code_is : code ≡ shape
+    code_is = gives_injective (then_rest (curve_rows (points areas values slopes) code) _ given.result)
 
     pub listed_accepted : Accepted (points areas values slopes) code
     listed_accepted = record { none_applies = then_first (curve_rows (points areas values slopes) code) _ given.result }
@@ -53,4 +53,4 @@ module _ (areas values : List ℕ) (slopes : List ℤ) (code : ℕ) where
       let ps = points areas values slopes in
       sym
       (on_lists_refused areas values slopes (with_code code) (λ qs. curve_rows qs code then rest qs)
-      (λ k. then_refused _ _ (refused_first (curve_rows ps code) (ps, code) k)) (sym e))
+      (λ k. then_refused _ _ (refused_first (curve_rows ps code) code k)) (sym e))

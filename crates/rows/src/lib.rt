@@ -1,10 +1,9 @@
 // Accepted curves: rows 1 to 6 of the refusal table, of points wherever they stand.
 #![tactic(auto)]
 
-ghost use Rattle.std.specs.Prelude.{◌≡◌, true, ℕ, List, length, ◌≤◌};
+ghost use Rattle.std.specs.Prelude.{◌≡◌, true, ℕ, length, ◌≤◌, IfOk, OnOk};
 ghost use Rattle.std.proofs.Math.Option.{none};
 ghost use Rattle.model.specs.Answer.{gives, ◌then◌};
-ghost use Rattle.model.specs.Points as spec;
 ghost use Rattle.model.specs.Points.{points as points_of_lists, points_most, segments, rule_of};
 ghost use Rattle.model.specs.Check.{bad_count, point_rows, segment_rows, curve_rows, on_lists};
 ghost use Rattle.model.specs.Inner.{Limits};
@@ -31,7 +30,8 @@ pub fn bad_count(n: usize) -> bool
 }
 
 // Rows 3 to 6 of the second of two points and of the segment between them.
-fn follows(shape: Shape, p: Point, q: Point) -> bool
+// (Two points are a `Segment` only once rows 3 to 5 have passed the second.)
+pub fn follows(shape: Shape, p: Point, q: Point) -> bool
     requires { Limits (point_of p) }
     ensures { result ≡ true → Follows (rule_of (code_of shape)) (point_of p) (point_of q) }
 {
@@ -47,21 +47,18 @@ fn all_pass<P: Points>(points: &P, shape: Shape) -> bool
     requires { Count (length (P.points points.now)) }
     ensures { result ≡ true → accepts (P.points points.now) (code_of shape) ≡ true }
 {
-    let mut p = points.point(0);
-    if p.check(None).is_err() {
+    if points.point(0).check(None).is_err() {
         return false;
     }
     for i in 0..points.count() - 1 {
-        let q = points.point(i + 1);
-        if !follows(shape, p, q) {
+        if !follows(shape, points.point(i), points.point(i + 1)) {
             return false;
         }
-        p = q;
     }
     true
 }
 
-// The same, with a loop for each shape.
+// The same, with a loop for each shape. (A file brings the shape, so something must choose by it.)
 fn passes<P: Points>(points: &P, shape: Shape) -> bool
     requires { Count (length (P.points points.now)) }
     ensures { result ≡ true → accepts (P.points points.now) (code_of shape) ≡ true }
@@ -75,6 +72,7 @@ fn passes<P: Points>(points: &P, shape: Shape) -> bool
 }
 
 // Rows 3, 4 and 5: the first bad point.
+// Document 01 names a loop left by `break` with what it found.
 pub fn check_points<P: Points>(points: &P) -> Result<(), Refusal>
     requires { length (P.points points.now) ≤ points_most }
     ensures { checked result ≡ point_rows 0 none (P.points points.now) }
@@ -110,7 +108,51 @@ fn check_segments<P: Points>(points: &P, shape: Shape) -> Result<(), Refusal>
     Ok(())
 }
 
-// Points that rows 1 to 6 do not refuse, and their shape.
+// Rows 1 to 6: an accepted curve is passed over once. The result is its shape.
+pub fn check<P: Points>(points: &P, code: u32) -> Result<Shape, Refusal>
+    ensures answer { answer_of code_of result ≡ (curve_rows (P.points points.now) code then gives code) }
+    ensures accepted { IfOk result (λ shape. accepts (P.points points.now) (code_of shape) ≡ true) }
+{
+    if bad_count(points.count()) {
+        return Err(Row::Count.at(0));
+    }
+    let shape = Shape::try_from(code)?;
+    if !passes(points, shape) {
+        check_points(points)?;
+        check_segments(points, shape)?;
+    }
+    Ok(shape)
+}
+
+// The same of three lists.
+pub fn check_lists(
+    areas: &[u32],
+    values: &[u32],
+    slopes: &[i32],
+    code: u32,
+) -> Result<Shape, Refusal>
+    ensures answer { answer_of code_of result
+        ≡ on_lists areas.now values.now slopes.now (λ ps. curve_rows ps code then gives code) }
+    ensures values { OnOk result (length areas.now ≡ length values.now) }
+    ensures slopes { OnOk result (length areas.now ≡ length slopes.now) }
+    ensures accepted { IfOk result
+        (λ shape. accepts (points_of_lists areas.now values.now slopes.now) (code_of shape) ≡ true) }
+{
+    if points::lengths_differ(areas.len(), values.len(), slopes.len()) {
+        return Err(Row::Count.at(0));
+    }
+    check(
+        &Lists {
+            areas,
+            values,
+            slopes,
+        },
+        code,
+    )
+}
+
+// Points that rows 1 to 6 do not refuse, and their shape. Where speed matters it is made of a shape that `check` gives: a result
+// that holds points beside a refusal goes through memory.
 #[derive(Drop)]
 pub struct Curve<P: Points> {
     pub points: P,
@@ -119,35 +161,11 @@ pub struct Curve<P: Points> {
 }
 
 impl<P: Points> Curve<P> {
-    // Rows 1 to 6: an accepted curve is passed over once.
     pub fn new(points: P, code: u32) -> Result<Self, Refusal>
         ensures { answer_of {B = P × ℕ} (λ c. (c.points, code_of c.shape)) result
             ≡ (curve_rows (P.points points) code then gives (points, code)) }
     {
-        if bad_count(points.count()) {
-            return Err(Row::Count.at(0));
-        }
-        let shape = Shape::try_from(code)?;
-        if !passes(&points, shape) {
-            check_points(&points)?;
-            check_segments(&points, shape)?;
-        }
+        let shape = check(&points, code)?;
         Ok(Curve { points, shape })
-    }
-}
-
-impl<'a> Curve<Lists<'a>> {
-    // The same of three lists.
-    pub fn of_lists(
-        areas: &'a [u32],
-        values: &'a [u32],
-        slopes: &'a [i32],
-        code: u32,
-    ) -> Result<Self, Refusal>
-        ensures { answer_of {B = List spec.Point × ℕ}
-            (λ c. (points_of_lists c.points.areas.now c.points.values.now c.points.slopes.now, code_of c.shape)) result
-            ≡ on_lists areas.now values.now slopes.now (λ ps. curve_rows ps code then gives (ps, code)) }
-    {
-        Curve::new(Lists::new(areas, values, slopes)?, code)
     }
 }

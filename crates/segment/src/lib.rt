@@ -82,6 +82,7 @@ struct Bent {
 const LARGE: u64 = 0x1_0000_0000;
 
 impl Bent {
+    // `Inside` is of a segment and an area together, so it is asked here and below, and is no ghost field of one of them.
     fn at(s: Segment, area: u32) -> Self
         requires { Inside (Good (plain convex)) (segment_of s.left s.right) area }
         ensures { BentAt (segment_of s.left s.right) area result.t result.u result.h result.a result.b }

@@ -124,8 +124,8 @@ impl Segment {
         self.left.slope == 0 && self.right.slope == 0
     }
 
-    // Row 6 is passed. The slopes of a mirrored segment are those here with their signs changed, so their order is that here from
-    // right to left.
+    // Row 6 is passed. A file brings the shape, so a `match` chooses by it. The slopes of a mirrored segment are those here with
+    // their signs changed, so their order is that here from right to left.
     pub fn has_shape(self, shape: Shape) -> bool
         ensures { result ≡ segment_test (rule_of (code_of shape)) (segment_of self.left self.right) }
     {

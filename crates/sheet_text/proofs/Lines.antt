@@ -74,7 +74,8 @@ module _ (ps : List Point) (code : ℕ) where
     last_limit = (limits_of (accepted ps code e) (length ps - 1) (omega (arith, least ps code e))).area
 
     pub inside : (area : ℕ) → first ps ≤ area → area ≤ last ps → outside ps area ≡ false
-    inside area h k = rw (outside_is ps code e area, le-ltb area _ h, le-ltb _ area k)
+    inside area h k =
+        rw (outside_is ps area (omega (arith, least ps code e)), le-ltb area _ h, le-ltb _ area k)
 
 pub lines_are : (ps : List Point) (code : ℕ) → accepts ps code ≡ true →
     lines_left ps code (first ps) (last ps) ≡ sheet_lines ps code

@@ -28,7 +28,7 @@ pub const TEXT_MOST: usize = 35 + 23 * ENTRIES_MOST;
 
 pub type Text = ArrayString<TEXT_MOST>;
 
-// A text that begins with a line of two words, each with its number.
+// A text that begins with a line of two words, each with its number. (`write!` would say what it writes only where it succeeds.)
 fn words_line(first: &str, a: u32, second: &str, b: u32) -> Text
     requires { length first.now + length second.now ≤ 14 }
     ensures line { result.bytes ≡ words_line first.now a second.now b }

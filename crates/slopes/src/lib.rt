@@ -62,7 +62,7 @@ fn slope_at(place: u32, figure: u64) -> Result<i32, Refusal>
     Ok(figure as i32)
 }
 
-// As many areas as values: points whose slopes are all 0.
+// As many areas as values: points whose slopes are all 0. (`Lists` would need a list of zeros, which is slower.)
 #[derive(Clone, Copy)]
 struct Rated<'a> {
     areas: &'a [u32],
@@ -167,6 +167,7 @@ fn supply(areas: &[u32], values: &[u32], slopes: &mut [i32]) -> Result<u32, Refu
     }
     Curve::new(Rated { areas, values }, Shape::Rising.code())?;
     let rising = Rising { areas, values };
+    // No heap: as many as a curve can have.
     let mut figures = [0i32; POINTS_MOST];
     rising.fill_figures(&mut figures)?;
     slopes.copy_from_slice(&figures[..n]);
@@ -174,12 +175,14 @@ fn supply(areas: &[u32], values: &[u32], slopes: &mut [i32]) -> Result<u32, Refu
 }
 
 // What the filling answers: the number of points, or a refusal and its place.
-#[derive(Clone, Copy)]
+// Document 01 names this form: one enum for each call.
+#[derive(Clone, Copy, Debug, PartialEq, Eq)]
 pub enum Supplied {
     Points(u32),
     Refused(Row, u32),
 }
 
+// Document 01 names lent lists.
 pub fn fill_slopes(areas: &[u32], values: &[u32], slopes: &mut [i32]) -> Supplied
     ensures answer { supplied_answer result
         ≡ fill_answer areas.now values.now (length slopes.old) }

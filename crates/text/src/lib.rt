@@ -16,7 +16,7 @@ pub fn decimal(n: u32) -> ArrayString<10>
     digits
 }
 
-// A number in decimal, with a minus sign if it is below 0.
+// A number in decimal, with a minus sign if it is below 0. (One function for both would ask for a capacity that is enough.)
 pub fn signed(n: i32) -> ArrayString<11>
     ensures { result.bytes ≡ Text·signed n }
 {

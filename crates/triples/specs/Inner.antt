@@ -1,4 +1,5 @@
 -- What contracts of inner functions cite. Nothing here need be believed: the call's contract cites document 02's definitions.
+--   triple_of       a triple of the code, as one of the definitions
 --   outward         an integer as an unsigned number that is beyond every limit if it is negative
 --   ranged_point    a point with its figures brought into range: 32 bits hold them, and rows 3 to 5 refuse what they refused
 --   ranged          the same, if the point is taken
@@ -12,7 +13,11 @@ use Rattle.model.specs.Points as model
 use Rattle.point.specs.declared.Point.{Point}
 use Rattle.point.specs.Inner.{point_of}
 use Rattle.binary64.specs.Inner.{saturate}
-use Rattle.triples.specs.Triples.{WholePoint}
+use Rattle.triples.specs.declared.Triple as declared
+use Rattle.triples.specs.Triples.{Triple, WholePoint}
+
+abbrev pub triple_of : declared.Triple → Triple
+triple_of t = record { area = t.area; value = t.value; slope = t.slope }
 
 unfoldable pub outward : ℤ → ℕ
 outward (pos n) = n

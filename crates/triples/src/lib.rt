@@ -6,7 +6,7 @@ ghost use Rattle.model.specs.Answer.{gives, row, ◌then◌};
 ghost use Rattle.refusal.specs.Refusal.{answer_at, answer_of};
 ghost use Rattle.point.specs.Inner.{point_of};
 ghost use Rattle.triples.specs.Triples.{bad_length, figure_at, triple_at, count, taken, exported, point_from, export_rows};
-ghost use Rattle.triples.specs.Inner.{taken_point, outward, ranged, whole_points};
+ghost use Rattle.triples.specs.Inner.{triple_of, taken_point, outward, ranged, whole_points};
 
 use point::Point;
 use refusal::{Refusal, Row};
@@ -15,7 +15,7 @@ use shape::Shape;
 use std::num::f64_from_bits_with_nan;
 
 // Bytes of each point.
-const TRIPLE_SIZE: usize = 24;
+pub const TRIPLE_SIZE: usize = 24;
 
 // The figure of the 8 bytes from an offset on, the lowest first.
 fn figure(bytes: &[u8], at: usize) -> f64
@@ -40,6 +40,31 @@ fn unsigned(z: i32) -> u32
     ensures { result ≡ outward z }
 {
     u32::try_from(z).unwrap_or(u32::MAX)
+}
+
+// The figures of a point, of whatever value.
+#[derive(Clone, Copy)]
+pub struct Triple {
+    pub area: f64,
+    pub value: f64,
+    pub slope: f64,
+}
+
+impl Triple {
+    // The point, if its figures are whole. Each figure is tested whole before it is cast. Those that 32 bits do not hold, and
+    // areas and values below 0, become others that are beyond the limits too.
+    fn point(self) -> Option<Point>
+        ensures { taken_point result ≡ ranged (taken (triple_of self)) }
+    {
+        let area = binary64::whole_number(self.area)?;
+        let value = binary64::whole_number(self.value)?;
+        let slope = binary64::whole_number(self.slope)?;
+        Some(Point {
+            area: unsigned(area),
+            value: unsigned(value),
+            slope,
+        })
+    }
 }
 
 // An export: points with no header.
@@ -67,21 +92,17 @@ impl<'a> Triples<'a> {
         self.bytes.len() / TRIPLE_SIZE
     }
 
-    // The point at i, if its figures are whole. Those that 32 bits do not hold, and areas and values below 0, become others that
-    // are beyond the limits too.
-    fn point(&self, i: usize) -> Option<Point>
+    // The triple at i.
+    fn triple(&self, i: usize) -> Triple
         requires { i < count self.now.bytes.now }
-        ensures { taken_point result ≡ ranged (taken (triple_at self.now.bytes.now i)) }
+        ensures { triple_of result ≡ triple_at self.now.bytes.now i }
     {
         let at = TRIPLE_SIZE * i;
-        let area = binary64::whole_number(figure(self.bytes, at))?;
-        let value = binary64::whole_number(figure(self.bytes, at + 8))?;
-        let slope = binary64::whole_number(figure(self.bytes, at + 16))?;
-        Some(Point {
-            area: unsigned(area),
-            value: unsigned(value),
-            slope,
-        })
+        Triple {
+            area: figure(self.bytes, at),
+            value: figure(self.bytes, at + 8),
+            slope: figure(self.bytes, at + 16),
+        }
     }
 
     // The points before the first with row 14, which are written into the list.
@@ -91,7 +112,7 @@ impl<'a> Triples<'a> {
     {
         let n = self.count();
         for i in 0..n {
-            let Some(p) = self.point(i) else {
+            let Some(p) = self.triple(i).point() else {
                 return &points[..i];
             };
             points[i] = p;
@@ -114,11 +135,13 @@ impl<'a> Triples<'a> {
             return Err(Row::Count.at(0));
         }
         let whole = self.decode(points);
+        // A shorter slice says where the first is that is not whole.
         if whole.len() == n {
             return Curve::new(whole, code);
         }
         Shape::try_from(code)?;
-        rows::check_points(&whole)?;
+        let earlier = rows::check_points(&whole);
+        earlier?;
         Err(Row::Whole.at(whole.len() as u32))
     }
 }

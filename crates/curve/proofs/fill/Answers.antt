@@ -1,51 +1,48 @@
--- A refusal is that of the curve, row 8's or row 7's, and leaves the list as it was.
-use Rattle.std.proofs.Common.{◌≡◌, ℕ, List, ℤ, length, sym, ◌∙◌, ap, arith, rules}
+-- A refusal is that of the lists, row 8's or row 7's, and leaves the list as it was.
+use Rattle.std.proofs.Common.{◌≡◌, ℕ, length, ◌∙◌, ap, arith, rules}
 use Rattle.model.specs.Answer.{gives}
-use Rattle.model.specs.Points.{Point}
-use Rattle.model.specs.Read.{reading}
-use Rattle.model.specs.Sheet.{entry_area, tabulate, sheet_answer, sheet_list}
+use Rattle.model.specs.Sheet.{sheet_answer, sheet_list}
 use Rattle.refusal.proofs.Results.{refused_exit}
-use Rattle.rows.proofs.Lists.{points_are, refused_listed}
+use Rattle.rows.proofs.Lists.{code_is, refused_listed}
 use Rattle.curve.proofs.Entries.{refused_sheet, all_pass}
 use Rattle.curve.proofs.fill.Goals as goal
 
-pub returns-in_err-curve-clause-answer : goal.returns-in_err-curve-clause-answer
+pub returns-in_err-shape-clause-answer : goal.returns-in_err-shape-clause-answer
 unfolding sheet_answer
-returns-in_err-curve-clause-answer c =
-    refused_exit _ _ _ c.from_residual.ensures.1 ∙ refused_listed _ _ _ _ _ c.in_err-curve.ensures
+returns-in_err-shape-clause-answer c =
+    refused_exit _ _ _ c.from_residual.ensures.1 ∙ refused_listed _ _ _ _ _ c.in_err-shape.ensures.answer
 
-pub returns-in_err-curve-clause-list : goal.returns-in_err-curve-clause-list
+pub returns-in_err-shape-clause-list : goal.returns-in_err-shape-clause-list
 unfolding sheet_list
-returns-in_err-curve-clause-list c = let e = refused_exit (λ (n : ℕ). n) _ _ c.from_residual.ensures.1 in rw e
+returns-in_err-shape-clause-list c = let e = refused_exit (λ (n : ℕ). n) _ _ c.from_residual.ensures.1 in rw e
 
 pub returns-in_err-check-clause-answer : goal.returns-in_err-check-clause-answer
 unfolding sheet_answer
 returns-in_err-check-clause-answer c =
     refused_exit _ _ _ c.from_residual-in_err-check.ensures.1
-    ∙ refused_sheet _ _ _ _ c.in_ok-curve.ensures _ _ _ c.in_err-check.ensures
+    ∙ refused_sheet _ _ _ _ c.in_ok-shape.ensures.answer _ _ _ c.in_err-check.ensures
 
 pub returns-in_err-check-clause-list : goal.returns-in_err-check-clause-list
 unfolding sheet_list
 returns-in_err-check-clause-list c = let e = refused_exit (λ (n : ℕ). n) _ _ c.from_residual-in_err-check.ensures.1 in rw e
 
 pub fill-requires : goal.fill-requires
-fill-requires c = (all_pass _ _ _ _ c.in_ok-curve.ensures _ _ _ c.in_ok-check.ensures).inside
+fill-requires c = (all_pass _ _ _ _ c.in_ok-shape.ensures.answer _ _ _ c.in_ok-check.ensures).inside
 
 pub overflow_cast-result : goal.overflow_cast-result
 overflow_cast-result c =
-    let k = all_pass _ _ _ _ c.in_ok-curve.ensures _ _ _ c.in_ok-check.ensures in
+    let k = all_pass _ _ _ _ c.in_ok-shape.ensures.answer _ _ _ c.in_ok-check.ensures in
     record { fits = omega (arith, k.most) }
 
 pub returns-clause-answer : goal.returns-clause-answer
 unfolding sheet_answer
 returns-clause-answer c =
-    ap gives (search rules) ∙ (all_pass _ _ _ _ c.in_ok-curve.ensures _ _ _ c.in_ok-check.ensures).answer
+    ap gives (search rules) ∙ (all_pass _ _ _ _ c.in_ok-shape.ensures.answer _ _ _ c.in_ok-check.ensures).answer
 
 pub returns-clause-list : goal.returns-clause-list
 unfolding sheet_list
 returns-clause-list c =
     let k = c.args in
     let n = length k.out.now in
-    let listed : List Point × ℕ → List ℤ = λ t. tabulate (λ i. reading t.0 t.1 (entry_area k.start k.step i)) 0 n in
     let same : length c.fill.new.out ≡ n = search rules in
-    rw same (c.fill.ensures ∙ ap listed (sym (points_are _ _ _ _ c.in_ok-curve.ensures)))
+    rw same (rw (← code_is _ _ _ _ c.in_ok-shape.ensures.answer) at c.fill.ensures)

@@ -8,48 +8,48 @@ use Rattle.desk_answer.proofs.Steps.{opened, accepted, by_head, by_room, by_curv
 use Rattle.desk.proofs.Records.{body_fits, written}
 use Rattle.desk.proofs.read.Goals as goal
 
-pub returns-in_err-file : goal.returns-in_err-file
-returns-in_err-file c =
-    let e = by_head (record_size * count c.args.bytes.now) c.args.bytes.now c.args.area (length c.args.scratch.now) _
-    c.in_err-file.ensures in
+pub returns-in_err-check : goal.returns-in_err-check
+returns-in_err-check c =
+    let e = by_head (record_size * count c.args.bytes.now) c.args.bytes.now c.args.area (length c.args.scratch.now)
+    c.in_err-check.ensures.answer in
     record { answer = refused_exit _ _ _ c.from_residual.ensures.1 ∙ sym e; scratch = sym (untouched _ _ e) }
 
 pub overflow_mul-count : goal.overflow_mul-count
 overflow_mul-count c =
-    let o = opened _ _ c.in_ok-file.ensures in
+    let o = opened _ c.in_ok-check.ensures.answer in
     record { fits = omega (arith, c.type_inv.bytes 6, o.points) }
 
 pub returns-then-scratch-count : goal.returns-then-scratch-count
 returns-then-scratch-count c =
-    let o = opened _ _ c.in_ok-file.ensures in
+    let o = opened _ c.in_ok-check.ensures.answer in
     let e = by_room (record_size * count c.args.bytes.now) c.args.bytes.now c.args.area (length c.args.scratch.now) o
     (omega (arith, o.points)) in
     record { answer = rw c.at.ensures (sym e); scratch = sym (untouched _ _ e) }
 
-pub returns-in_err-curve : goal.returns-in_err-curve
-returns-in_err-curve c =
-    let o = opened _ _ c.in_ok-file.ensures in
+pub returns-in_err-shape : goal.returns-in_err-shape
+returns-in_err-shape c =
+    let o = opened _ c.in_ok-check.ensures.answer in
     let e = by_curve (record_size * count c.args.bytes.now) c.args.bytes.now c.args.area (length c.args.scratch.now) o
-    (omega (arith, o.points)) _ c.code.ensures c.in_err-curve.ensures in
-    record { answer = refused_exit _ _ _ c.from_residual-in_err-curve.ensures.1 ∙ sym e; scratch = sym (untouched _ _ e) }
+    (omega (arith, o.points)) _ c.code.ensures c.in_err-shape.ensures.answer in
+    record { answer = refused_exit _ _ _ c.from_residual-in_err-shape.ensures.1 ∙ sym e; scratch = sym (untouched _ _ e) }
 
 pub returns-in_err-i : goal.returns-in_err-i
 returns-in_err-i c =
-    let o = opened _ _ c.in_ok-file.ensures in
-    let k = accepted _ _ _ _ _ o c.code.ensures c.in_ok-curve.ensures in
+    let o = opened _ c.in_ok-check.ensures.answer in
+    let k = accepted _ _ _ c.code.ensures c.in_ok-shape.ensures.answer in
     let e = by_area (record_size * count c.args.bytes.now) c.args.bytes.now c.args.area (length c.args.scratch.now) o
     (omega (arith, o.points)) k _ c.in_err-i.ensures in
     record { answer = refused_exit _ _ _ c.from_residual-in_err-i.ensures.1 ∙ sym e; scratch = sym (untouched _ _ e) }
 
 pub slice_bounds-copy-count : goal.slice_bounds-copy-count
-slice_bounds-copy-count c = let o = opened _ _ c.in_ok-file.ensures in omega (arith, o.size)
+slice_bounds-copy-count c = let o = opened _ c.in_ok-check.ensures.answer in omega (arith, o.size)
 
 pub slice_bounds-copy-start : goal.slice_bounds-copy-start
-slice_bounds-copy-start c = let o = opened _ _ c.in_ok-file.ensures in omega (arith, o.size)
+slice_bounds-copy-start c = let o = opened _ c.in_ok-check.ensures.answer in omega (arith, o.size)
 
 pub copy-requires : goal.copy-requires
 copy-requires c =
-    let o = opened _ _ c.in_ok-file.ensures in
+    let o = opened _ c.in_ok-check.ensures.answer in
     body_fits _ o.size (omega (arith, o.points))
 
 pub factor_at-requires-clause-inside : goal.factor_at-requires-clause-inside
@@ -60,8 +60,8 @@ factor_at-requires-clause-index c = gives_injective (sym (then_rest (row _ 7 0) 
 
 pub returns : goal.returns
 returns c =
-    let o = opened _ _ c.in_ok-file.ensures in
-    let k = accepted _ _ _ _ _ o c.code.ensures c.in_ok-curve.ensures in
+    let o = opened _ c.in_ok-check.ensures.answer in
+    let k = accepted _ _ _ c.code.ensures c.in_ok-shape.ensures.answer in
     let e = by_reading (record_size * count c.args.bytes.now) c.args.bytes.now c.args.area (length c.args.scratch.now) o
     (omega (arith, o.points)) k (row_passed _ 7 0 _ (sym c.in_ok-i.ensures)) in
     let factor = to_z-of_z {w = w32} {z = c.factor_at.result} (record { sfits = c.factor_at.type_inv }) ∙ c.factor_at.ensures in

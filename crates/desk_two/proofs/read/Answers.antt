@@ -11,38 +11,37 @@ use Rattle.desk_two.proofs.Records.{records_fit, written}
 use Rattle.desk_two.proofs.read.Goals as goal
 use Rattle.desk_two.proofs.read.Goals.{In_ok-i}
 
-pub returns-in_err-file : goal.returns-in_err-file
-returns-in_err-file c =
-    let e = by_head (2 * record_size) c.args.bytes.now c.args.area (length c.args.scratch.now) _ c.in_err-file.ensures in
+pub returns-in_err-check : goal.returns-in_err-check
+returns-in_err-check c =
+    let e = by_head (2 * record_size) c.args.bytes.now c.args.area (length c.args.scratch.now) c.in_err-check.ensures.answer in
     record { answer = refused_exit _ _ _ c.from_residual.ensures.1 ∙ sym e; scratch = sym (untouched _ _ e) }
 
 pub returns-then-scratch : goal.returns-then-scratch
 returns-then-scratch c =
-    let o = opened _ _ c.in_ok-file.ensures in
+    let o = opened _ c.in_ok-check.ensures.answer in
     let e = by_room (2 * record_size) c.args.bytes.now c.args.area (length c.args.scratch.now) o (omega arith) in
     record { answer = rw c.at.ensures (sym e); scratch = sym (untouched _ _ e) }
 
-pub returns-in_err-curve : goal.returns-in_err-curve
-returns-in_err-curve c =
-    let o = opened _ _ c.in_ok-file.ensures in
+pub returns-in_err-shape : goal.returns-in_err-shape
+returns-in_err-shape c =
+    let o = opened _ c.in_ok-check.ensures.answer in
     let e = by_curve (2 * record_size) c.args.bytes.now c.args.area (length c.args.scratch.now) o (omega arith) _ c.code.ensures
-    c.in_err-curve.ensures in
-    record { answer = refused_exit _ _ _ c.from_residual-in_err-curve.ensures.1 ∙ sym e; scratch = sym (untouched _ _ e) }
+    c.in_err-shape.ensures.answer in
+    record { answer = refused_exit _ _ _ c.from_residual-in_err-shape.ensures.1 ∙ sym e; scratch = sym (untouched _ _ e) }
 
 pub returns-in_err-i : goal.returns-in_err-i
 returns-in_err-i c =
-    let o = opened _ _ c.in_ok-file.ensures in
-    let k = accepted _ _ _ _ _ o c.code.ensures c.in_ok-curve.ensures in
+    let o = opened _ c.in_ok-check.ensures.answer in
+    let k = accepted _ _ _ c.code.ensures c.in_ok-shape.ensures.answer in
     let e = by_area (2 * record_size) c.args.bytes.now c.args.area (length c.args.scratch.now) o (omega arith) k _
     c.in_err-i.ensures in
     record { answer = refused_exit _ _ _ c.from_residual-in_err-i.ensures.1 ∙ sym e; scratch = sym (untouched _ _ e) }
 
 fit : (c : In_ok-i) → point_offset c.in_ok-i.i + 2 * record_size ≤ length c.args.bytes.now
 fit c =
-    let o = opened _ _ c.in_ok-file.ensures in
-    let k = accepted _ _ _ _ _ o c.code.ensures c.in_ok-curve.ensures in
+    let o = opened _ c.in_ok-check.ensures.answer in
     let index = gives_injective (sym (then_rest (row _ 7 0) _ (sym c.in_ok-i.ensures))) in
-    records_fit _ _ _ _ o.size k.same index (read_before_last _ _ c.in_ok-curve.curve.accepted c.args.area)
+    records_fit _ _ _ o.size index (read_before_last _ _ c.in_ok-shape.ensures.accepted c.args.area)
 
 pub overflow_mul-i : goal.overflow_mul-i
 overflow_mul-i c = record { fits = omega (arith, fit c) }
@@ -61,13 +60,13 @@ factor_at-requires-clause-index c = gives_injective (sym (then_rest (row _ 7 0) 
 
 pub returns : goal.returns
 returns c =
-    let o = opened _ _ c.in_ok-file.ensures in
-    let k = accepted _ _ _ _ _ o c.code.ensures c.in_ok-curve.ensures in
+    let o = opened _ c.in_ok-check.ensures.answer in
+    let k = accepted _ _ _ c.code.ensures c.in_ok-shape.ensures.answer in
     let e = by_reading (2 * record_size) c.args.bytes.now c.args.area (length c.args.scratch.now) o (omega arith) k
     (row_passed _ 7 0 _ (sym c.in_ok-i.ensures)) in
     let factor = to_z-of_z {w = w32} {z = c.factor_at.result} (record { sfits = c.factor_at.type_inv }) ∙ c.factor_at.ensures in
     let index = gives_injective (sym (then_rest (row _ 7 0) _ (sym c.in_ok-i.ensures))) in
     record {
       answer = ap gives factor ∙ sym e;
-      scratch = c.copy_block.ensures ∙ written _ _ _ _ k.same index (fit (goal.at.returns c).In_ok-i) _ e;
+      scratch = c.copy_block.ensures ∙ written _ _ _ index (fit (goal.at.returns c).In_ok-i) _ e;
     }

@@ -9,9 +9,9 @@ use Rattle.entries.proofs.fill.Given as goal
 abbrev pub invariant-loop-k : goal.invariant-loop-k
 invariant-loop-k g l =
     let ps = g.P.Points.points l.curve.points in
-    let f : ℕ → ℤ = λ j. reading ps (code_of l.curve.shape) (entry_area l.start l.step j) in
+    let f : ℕ → ℤ = λ j. reading ps (code_of l.curve.shape) (entry_area l.steps.start l.steps.step j) in
     record {
       most : l.index ≤ length l.fn.out;
-      reached : l.index < length l.fn.out → Reached (areas_of ps) l.k (entry_area l.start l.step l.index);
+      reached : l.index < length l.fn.out → Reached (areas_of ps) l.k (entry_area l.steps.start l.steps.step l.index);
       filling : Filling f l.index l.fn.out l.out;
     }

@@ -33,23 +33,23 @@ new-facing-requires g c =
     rw (c.point.ensures, c.point-2.ensures, add-one)
     (good_at (accepted _ _ c.args.curve.now.accepted) c.args.k c.requires.inner)
 
-pub area_of-area-requires : goal.area_of-area-requires
-area_of-area-requires g c =
+pub area-area-requires : goal.area-area-requires
+area-area-requires g c =
     area_limit (accepted _ _ c.args.curve.now.accepted) _ (c.requires.entries.inside c.loop-i.i (omega arith))
 
 -- the entry in a turn takes the segment
 readable : (g : _) (c : goal.Else-not-takes g) →
     (let k = c.args.curve.now in
-    Readable (g.P.Points.points k.points) (code_of k.shape) c.args.k c.area_of-area.result)
+    Readable (g.P.Points.points k.points) (code_of k.shape) c.args.k c.area-area.result)
 readable g c =
     record {
       accepted = accepted _ _ c.args.curve.now.accepted;
-      within = rw c.area_of-area.ensures (c.requires.entries.inside c.loop-i.i (omega arith));
+      within = rw c.area-area.ensures (c.requires.entries.inside c.loop-i.i (omega arith));
       taken = c.takes.ensures.yes c.if-not-takes.false;
     }
 
 inside_segment : (g : _) (c : goal.Else-not-takes g) →
-    Inside (Good (rule_of (code_of c.args.curve.now.shape))) (segment_of c.point.result c.point-2.result) c.area_of-area.result
+    Inside (Good (rule_of (code_of c.args.curve.now.shape))) (segment_of c.point.result c.point-2.result) c.area-area.result
 inside_segment g c = rw (c.point.ensures, c.point-2.ensures, add-one) (inside (readable g c))
 
 pub factor-requires-clause-low : goal.factor-requires-clause-low
@@ -64,11 +64,11 @@ pub loop-i-preserved : goal.loop-i-preserved
 loop-i-preserved g c found k =
     let curve = c.args.curve.now in
     let factor : ℕ → ℤ = reading (g.P.Points.points curve.points) (code_of curve.shape) in
-    let f : ℕ → ℤ = λ j. factor (entry_area c.args.start c.args.step j) in
+    let f : ℕ → ℤ = λ j. factor (entry_area c.args.steps.start c.args.steps.step j) in
     let filled = c.loop-i.invariant found k in
     let facing = c.new-facing.ensures in
     let read = rw (facing.shape, facing.segment, c.point.ensures, c.point-2.ensures, add-one) at c.factor.ensures in
     let written : to_z w32 (of_z w32 c.factor.result) ≡ f c.loop-i.i =
     to_z-of_z {w = w32} (record { sfits = c.factor.type_inv })
-    ∙ read ∙ sym (reading_is (readable g c.before)) ∙ ap factor c.area_of-area.ensures in
+    ∙ read ∙ sym (reading_is (readable g c.before)) ∙ ap factor c.area-area.ensures in
     filling_goes_on f (pos 0) _ filled (omega (arith, filled.size)) written

@@ -8,5 +8,6 @@ use Rattle.entries.proofs.fill_segment.Given as goal
 
 abbrev pub invariant-loop-i : goal.invariant-loop-i
 invariant-loop-i g l =
-    let f : ℕ → ℤ = λ j. reading (g.P.Points.points l.curve.points) (code_of l.curve.shape) (entry_area l.start l.step j) in
+    let ps = g.P.Points.points l.curve.points in
+    let f : ℕ → ℤ = λ j. reading ps (code_of l.curve.shape) (entry_area l.steps.start l.steps.step j) in
     (found : List ℤ) → Filling f l.index found l.fn.out → Filling f l.i found l.out

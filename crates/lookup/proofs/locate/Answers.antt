@@ -1,9 +1,9 @@
 -- Row 7; the index found is that of the segment read.
-use Rattle.std.proofs.Common.{sym, ◌∙◌}
+use Rattle.std.proofs.Common.{sym, ◌∙◌, arith}
 use Rattle.model.specs.Answer.{row, ◌then◌}
 use Rattle.model.proofs.Accepted.{read_is}
 use Rattle.rows.proofs.Passing.{accepted}
-use Rattle.lookup.proofs.Areas.{reached_first}
+use Rattle.lookup.proofs.Areas.{least, reached_first}
 use Rattle.lookup.proofs.locate.Goals as goal
 
 pub returns-then-outside : goal.returns-then-outside
@@ -18,3 +18,6 @@ unfolding row ◌then◌
 returns g c =
     rw
     (sym c.outside.ensures ∙ c.if-outside.false, read_is (accepted _ _ c.args.curve.now.accepted) c.search.ensures)
+
+pub outside-requires : goal.outside-requires
+outside-requires g c = omega (arith, least _ _ c.args.curve.now.accepted)

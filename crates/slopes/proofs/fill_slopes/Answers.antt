@@ -1,5 +1,4 @@
 -- The answer and the list are those of `supply`.
-use Rattle.slopes.specs.Calls.{supplied_answer}
 use Rattle.slopes.proofs.fill_slopes.Goals as goal
 
 pub returns-in-Ok : goal.returns-in-Ok

@@ -1,24 +1,13 @@
--- Row 9, then row 10.
-use Rattle.std.proofs.Common.{sym, ◌∙◌, arith, eq-eqb, ne_eqb}
-use Rattle.model.specs.Answer.{row, ◌then◌}
-use Rattle.layout.specs.Layout.{point_offset}
-use Rattle.layout.specs.Head.{bad_size, head_rows}
-use Rattle.layout.proofs.Heads.{head_is_there}
+-- The check decides.
+use Rattle.std.proofs.Common.{◌∙◌}
+use Rattle.model.specs.Answer.{◌then◌}
+use Rattle.refusal.proofs.Results.{row_exit}
 use Rattle.layout.proofs.CurveFile.new.Goals as goal
 
-pub returns-then-bad_head : goal.returns-then-bad_head
-unfolding head_rows row ◌then◌
-returns-then-bad_head c = rw (sym c.bad_head.ensures ∙ c.if-bad_head.true)
-
-pub bounds-bytes-6 : goal.bounds-bytes-6
-bounds-bytes-6 c = omega (arith, head_is_there _ (sym c.bad_head.ensures ∙ c.if-bad_head.false))
-
-pub returns-then-bytes-from : goal.returns-then-bytes-from
-unfolding head_rows bad_size row ◌then◌
-returns-then-bytes-from c =
-    rw (sym c.bad_head.ensures ∙ c.if-bad_head.false, ne_eqb _ (point_offset _) (rw c.from.ensures at c.if-bytes-from.true))
+pub returns-in_err-check : goal.returns-in_err-check
+unfolding ◌then◌
+returns-in_err-check c = row_exit _ _ _ _ c.from_residual.ensures.1 ∙ (rw (← c.in_err-check.ensures.answer))
 
 pub returns : goal.returns
-unfolding head_rows bad_size row ◌then◌
-returns c =
-    rw (sym c.bad_head.ensures ∙ c.if-bad_head.false, eq-eqb _ (point_offset _) (rw c.from.ensures at c.if-bytes-from.false))
+unfolding ◌then◌
+returns c = rw (← c.in_ok-check.ensures.answer)

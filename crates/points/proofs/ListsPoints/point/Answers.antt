@@ -24,4 +24,5 @@ bounds-self-i-3 c = let l = c.args.self.now in omega (arith, count_of _ _ _ l.va
 pub returns : goal.returns
 returns c =
     let l = c.args.self.now in
-    rw (point_of_lists _ _ _ l.values_too l.slopes_too c.args.i, to_z-of_z {w = w32} {z = slice_index_or l.slopes.now c.args.i (pos 0)} (search rules))
+    let slope = slice_index_or l.slopes.now c.args.i (pos 0) in
+    rw (point_of_lists _ _ _ l.values_too l.slopes_too c.args.i, to_z-of_z {w = w32} {z = slope} (search rules))

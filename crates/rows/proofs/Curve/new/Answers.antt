@@ -1,71 +1,20 @@
--- Row 1, then 2; then one pass over an accepted curve, and of another the first fault.
-use Rattle.std.proofs.Common.{◌≡◌, true, sym, ◌∙◌}
-use Rattle.model.specs.Answer.{row, ◌then◌}
+-- The check decides.
+use Rattle.std.proofs.Common.{sym, ◌∙◌}
+use Rattle.model.specs.Answer.{gives, ◌then◌}
 use Rattle.model.specs.Check.{curve_rows}
+use Rattle.model.proofs.Rows.{gives_injective, then_first, then_rest}
+use Rattle.model.proofs.Answers.{then_refused, refused_first}
 use Rattle.refusal.proofs.Results.{refused_exit}
-use Rattle.shape.specs.Codes.{code_of}
-use Rattle.shape.proofs.Tests.{code_of_shape}
-use Rattle.rows.specs.Inner.{accepts}
-use Rattle.rows.proofs.Passing.{count_passed, code_passed, accepts_of, accepted, curve_of_rows}
-use Rattle.rows.proofs.Passing.{refused_by_code, refused_by_points, refused_by_segments}
 use Rattle.rows.proofs.Curve.new.Goals as goal
-use Rattle.rows.proofs.Curve.new.Goals.{then-not-passes+in_ok-check_points+in_ok-check_segments, else-not-passes}
-
-pub returns-then-bad_count : goal.returns-then-bad_count
-unfolding curve_rows row ◌then◌
-returns-then-bad_count g c = rw (c.at.ensures, sym (rw c.count.ensures at c.bad_count.ensures) ∙ c.if-bad_count.true)
 
 pub returns-in_err-shape : goal.returns-in_err-shape
 returns-in_err-shape g c =
-    let n = sym (rw c.count.ensures at c.bad_count.ensures) ∙ c.if-bad_count.false in
-    refused_exit _ _ _ c.from_residual.ensures.1 ∙ refused_by_code _ _ _ n c.in_err-shape.ensures
-
-pub passes-requires : goal.passes-requires
-passes-requires g c =
-    let n = sym (rw c.count.ensures at c.bad_count.ensures) ∙ c.if-bad_count.false in
-    count_passed _ n
-
-pub check_points-requires : goal.check_points-requires
-check_points-requires g c =
-    let n = sym (rw c.count.ensures at c.bad_count.ensures) ∙ c.if-bad_count.false in
-    (count_passed _ n).most
-
-pub returns-in_err-check_points : goal.returns-in_err-check_points
-returns-in_err-check_points g c =
-    let n = sym (rw c.count.ensures at c.bad_count.ensures) ∙ c.if-bad_count.false in
-    let k = code_passed c.in_ok-shape.ensures in
-    refused_exit _ _ _ c.from_residual-in_err-check_points.ensures.1
-    ∙ refused_by_points _ _ _ n k.0 c.in_err-check_points.ensures
-
-pub check_segments-requires : goal.check_segments-requires
-check_segments-requires g c =
-    let n = sym (rw c.count.ensures at c.bad_count.ensures) ∙ c.if-bad_count.false in
-    record { count = count_passed _ n; points_pass = sym c.in_ok-check_points.ensures }
-
-pub returns-in_err-check_segments : goal.returns-in_err-check_segments
-returns-in_err-check_segments g c =
-    let n = sym (rw c.count.ensures at c.bad_count.ensures) ∙ c.if-bad_count.false in
-    let k = code_passed c.in_ok-shape.ensures in
-    refused_exit _ _ _ c.from_residual-in_err-check_segments.ensures.1
-    ∙ refused_by_segments _ _ _ n k.0 (sym c.in_ok-check_points.ensures) (rw k.1 at c.in_err-check_segments.ensures)
-
-accepted_at : (g : _) (c : goal.Joined-not-passes g) → accepts (g.P.Points.points c.args.points) (code_of c.in_ok-shape.shape) ≡ true
-accepted_at g c =
-    let n = sym (rw c.count.ensures at c.bad_count.ensures) ∙ c.if-bad_count.false in
-    elim c.if-not-passes.branch [
-      | then-not-passes+in_ok-check_points+in_ok-check_segments w ↦
-          accepts_of _ _
-          (curve_of_rows _ _ (count_passed _ n) (code_of_shape c.in_ok-shape.shape)
-          (sym w.in_ok-check_points.ensures) (sym w.in_ok-check_segments.ensures))
-      | else-not-passes w ↦ c.passes.ensures w.if-not-passes.false
-    ]
-
-pub invariant_of-result : goal.invariant_of-result
-invariant_of-result g c = record { accepted = accepted_at g c }
+    refused_exit _ _ _ c.from_residual.ensures.1
+    ∙ sym (then_refused _ _ (refused_first _ _ (sym c.in_err-shape.ensures.answer)))
 
 pub returns : goal.returns
 unfolding ◌then◌
 returns g c =
-    let k = code_passed c.in_ok-shape.ensures in
-    let e = accepted _ _ (accepted_at g c.before) in
-    rw (← k.1, e.none_applies)
+    let e = sym c.in_ok-shape.ensures.answer in
+    let code_is = gives_injective (then_rest (curve_rows _ _) (gives _) e) in
+    rw (then_first (curve_rows _ _) (gives _) e, ← code_is)

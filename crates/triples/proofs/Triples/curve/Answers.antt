@@ -53,20 +53,20 @@ returns-in_err-try_from c =
     let n = counted _ c.count-n.ensures c.bad_count.ensures c.if-bad_count.false in
     refused_exit _ _ _ c.from_residual.ensures.1 ∙ refused_by_code _ _ _ n c.in_err-try_from.ensures
 
-pub check_points-requires : goal.check_points-requires
-check_points-requires c =
+pub check_points-earlier-requires : goal.check_points-earlier-requires
+check_points-earlier-requires c =
     let n = counted _ c.count-n.ensures c.bad_count.ensures c.if-bad_count.false in
     rw length-map (few _ _ c.decode-whole.ensures n)
 
-pub returns-in_err-check_points : goal.returns-in_err-check_points
-returns-in_err-check_points c =
+pub returns-in_err-earlier : goal.returns-in_err-earlier
+returns-in_err-earlier c =
     let bytes = c.args.self.now.bytes.now in
     let n = counted bytes c.count-n.ensures c.bad_count.ensures c.if-bad_count.false in
     let k = code_passed c.in_ok-try_from.ensures in
     let s = size bytes _ c.decode-whole.ensures in
-    refused_exit _ _ _ c.from_residual-in_err-check_points.ensures.1
+    refused_exit _ _ _ c.from_residual-in_err-earlier.ensures.1
     ∙ refused_before_14 _ _ _ n k.0 (omega (arith, s, exported_length bytes, at_most_all (exported bytes)))
-    (rw c.decode-whole.ensures at c.in_err-check_points.ensures)
+    (rw c.decode-whole.ensures at c.in_err-earlier.ensures)
 
 pub overflow_cast-whole : goal.overflow_cast-whole
 overflow_cast-whole c =
@@ -81,4 +81,4 @@ returns c =
     let s = size bytes _ c.decode-whole.ensures in
     rw (c.at-2.ensures, s)
     (refused_by_14 _ _ _ n k.0 (omega (arith, s, exported_length bytes, at_most_all (exported bytes)))
-    (sym (rw c.decode-whole.ensures at c.in_ok-check_points.ensures)))
+    (sym (rw c.decode-whole.ensures at c.in_ok-earlier.ensures)))
