@@ -13,7 +13,8 @@ use points::Points;
 use refusal::{Refusal, Row};
 use rows::Curve;
 
-// Copies from an index on by blocks of N bytes, and gives the index after them.
+// Copies from an index on by blocks of N bytes, and gives the index after them. (By one `copy_from_slice`, whose size is not
+// known, the copy of a short curve takes longer.)
 fn copy_blocks<const N: usize>(src: &[u8], from: usize, dst: &mut [u8]) -> usize
     requires begun { CopiedTo src.now dst.old dst.old from }
     requires size { 0 < N }
@@ -65,6 +66,7 @@ fn read(bytes: &[u8], area: u32, scratch: &mut [u8]) -> Result<i32, Refusal>
     Ok(lookup::factor_at(&curve, i, area))
 }
 
+// C takes one number, so a refusal is one too.
 pub fn desk_reading(bytes: &[u8], area: u32, scratch: &mut [u8]) -> i32
     ensures number { result ≡ desk_number (desk_answer bytes.now area (length scratch.old)) }
     ensures scratch { scratch.new

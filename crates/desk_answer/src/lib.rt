@@ -8,7 +8,7 @@ ghost use Rattle.desk_answer.specs.Inner.{Fits, copied};
 
 use refusal::Refusal;
 
-// A factor, or -1,000,000 less a refusal's number.
+// A factor, or -1,000,000 less a refusal's number: C takes one number.
 pub fn number(answer: Result<i32, Refusal>) -> i32
     ensures { result ≡ desk_number (answer_of (λ f. f) answer) }
 {
@@ -24,6 +24,7 @@ pub fn copy_block<const N: usize>(src: &[u8], from: usize, dst: &mut [u8], to: u
     requires { Fits from to N (length src.now) (length dst.old) }
     ensures { dst.new ≡ copied from to N src.now dst.old }
 {
+    // No heap.
     let mut block = [0u8; N];
     block.copy_from_slice(&src[from..from + N]);
     dst[to..to + N].copy_from_slice(&block);

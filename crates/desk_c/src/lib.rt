@@ -1,4 +1,4 @@
-// The desk reading, for C.
+// The desk reading, for C. (A name for C is a function of its own, so this one has a twin in desk_two_c.)
 #![tactic(auto)]
 
 ghost use Rattle.std.specs.Prelude.{◌≡◌, length};

@@ -32,6 +32,7 @@ fn read(bytes: &[u8], area: u32, scratch: &mut [u8]) -> Result<i32, Refusal>
     Ok(lookup::factor_at(&curve, i, area))
 }
 
+// C takes one number, so a refusal is one too.
 pub fn desk_reading_two(bytes: &[u8], area: u32, scratch: &mut [u8]) -> i32
     ensures number { result ≡ desk_number (desk_answer_two bytes.now area (length scratch.old)) }
     ensures scratch { scratch.new

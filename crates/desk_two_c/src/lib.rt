@@ -1,4 +1,4 @@
-// The desk reading with a scratch of two points, for C.
+// The desk reading with a scratch of two points, for C. (A name for C is a function of its own.)
 #![tactic(auto)]
 
 ghost use Rattle.std.specs.Prelude.{◌≡◌, length};

@@ -13,7 +13,7 @@ use point::Point;
 use points::Points;
 use shape::Shape;
 
-// A point's record, from `at` on, as a file has it at an offset.
+// A point's record, from `at` on. (A slice of its own would need a fact of its length instead.)
 fn put_point(out: &mut [u8], at: usize, p: Point)
     requires { at + record_size ≤ length out.old }
     ensures { out.new ≡ put at (record_bytes (point_of p)) out.old }

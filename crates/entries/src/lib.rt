@@ -73,7 +73,7 @@ pub fn check<P: Points>(curve: &Curve<P>, steps: Steps, n: usize) -> Result<(), 
     Ok(())
 }
 
-// Fills the entries from index on that take the segment at k, and gives the index after them.
+// Fills the entries from index on that take the segment at k, and gives the index after them, where the next segment goes on.
 fn fill_segment<P: Points>(
     curve: &Curve<P>,
     k: usize,

@@ -10,6 +10,7 @@ use refusal::Row;
 // 2^32
 const WORD: u64 = 4294967296;
 
+// A refusal as a number, since C takes one.
 pub fn refusal(row: Row, place: u32) -> i64
     ensures { result ≡ neg_ℤ (pos (word * number_of row + place)) }
 {

@@ -61,6 +61,7 @@ fn read(
     Ok((shape, n as u32))
 }
 
+// Document 01 names lent lists.
 pub fn open(bytes: &[u8], areas: &mut [u32], values: &mut [u32], slopes: &mut [i32]) -> Opened
     ensures answer { opened_answer result
         ≡ open_answer bytes.now

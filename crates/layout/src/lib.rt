@@ -46,7 +46,7 @@ fn bad_head(bytes: &[u8]) -> bool
     unsigned(bytes, 0) != MARK_AND_1 || bytes[4] != 0
 }
 
-// Rows 9 and 10.
+// Rows 9 and 10. The result stays in a register, where one with the file in it would go through memory.
 pub fn check(bytes: &[u8]) -> Result<(), Row>
     ensures answer { answer_at 0 (λ u. u) result ≡ head_rows bytes.now }
     ensures head { OnOk result (bad_head bytes.now ≡ false) }

@@ -22,7 +22,8 @@ pub fn outside<P: Points>(points: &P, area: u32) -> bool
     area < points.area(0) || points.area(points.count() - 1) < area
 }
 
-// Whether an area takes the segment at i, whose left area is not above it.
+// Whether an area takes the segment at i, whose left area is not above it. (`Reached` is of an area and an index together, here
+// and below, so it is no ghost field of one of them.)
 pub fn takes<P: Points>(points: &P, i: usize, area: u32) -> bool
     requires { Reached (areas_of (P.points points.now)) i area }
     ensures { TakesResult (areas_of (P.points points.now)) i area result }

@@ -99,7 +99,7 @@ impl Points for &[Point] {
     }
 }
 
-// Writes the points into the first entries of three lists.
+// Writes the points into the first entries of three lists, as document 01 has them lent.
 pub fn fill<P: Points>(points: &P, areas: &mut [u32], values: &mut [u32], slopes: &mut [i32])
     requires { Room (length (P.points points.now)) (length areas.old) (length values.old) (length slopes.old) }
     ensures areas { areas.new

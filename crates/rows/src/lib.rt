@@ -124,7 +124,7 @@ pub fn check<P: Points>(points: &P, code: u32) -> Result<Shape, Refusal>
     Ok(shape)
 }
 
-// The same of three lists.
+// The same of three lists, as document 01 has them lent.
 pub fn check_lists(
     areas: &[u32],
     values: &[u32],

@@ -26,6 +26,7 @@ pub const FILE_MOST: usize = layout::HEAD_SIZE + layout::RECORD_SIZE * rows::POI
 // Enough for the text of every file: a first line, and a line for each entry.
 pub const TEXT_MOST: usize = 35 + 23 * ENTRIES_MOST;
 
+// No heap.
 pub type Text = ArrayString<TEXT_MOST>;
 
 // A text that begins with a line of two words, each with its number. (`write!` would say what it writes only where it succeeds.)

@@ -17,7 +17,7 @@ use std::num::f64_from_bits_with_nan;
 // Bytes of each point.
 pub const TRIPLE_SIZE: usize = 24;
 
-// The figure of the 8 bytes from an offset on, the lowest first.
+// The figure of the 8 bytes from an offset on, the lowest first. (A slice of its own would need a fact of its length instead.)
 fn figure(bytes: &[u8], at: usize) -> f64
     requires { at + 8 ≤ length bytes.now }
     ensures { result ≡ figure_at bytes.now at }
