@@ -7,6 +7,7 @@
 --   count_passed       row 1 is passed
 --   code_passed        row 2 is passed by the code of a shape
 --   accepts_of, accepted    which is what `accepts` says
+--   accepted_result    so does a result that is the answer of rows 1 to 6
 -- Assumes nothing.
 use mathlib.Core.Path.{◌≡◌, refl, sym, ◌∙◌}
 use mathlib.Core.Bool.{true, false}
@@ -15,11 +16,16 @@ use mathlib.Core.Option.{none, some}
 use Prim.Native.Nat.{ℕ, ◌+◌, ◌<◌}
 use borrow.Author.Tests.{le-ltb}
 use lib.ListN.{length}
+use Rattle.std.specs.Prelude.{Result, Ok, Err, IfOk}
 use Rattle.model.specs.Answer.{Answer, gives, refused, row, ◌then◌}
 use Rattle.model.specs.Points.{points_least, points_most, Point, segments, rule_of}
 use Rattle.model.specs.Check.{bad_count, bad_code, point_rows, segment_rows, curve_rows}
 use Rattle.model.specs.Inner.{Accepted, Limits, point_at}
-use Rattle.model.proofs.Rows.{count_of_row_1, row_passed, row_refused, then_rest, gives_injective, passed}
+use Rattle.model.proofs.Rows.{count_of_row_1, row_passed, row_refused, then_first, then_rest, gives_injective, passed}
+use Rattle.refusal.specs.declared.Refusal.{Refusal}
+use Rattle.refusal.specs.Refusal.{answer_of}
+use Rattle.shape.specs.declared.Shape.{Shape}
+use Rattle.shape.specs.Codes.{code_of}
 use Rattle.rows.specs.Inner.{Count, Follows, gives_nothing, accepts}
 use Rattle.rows.proofs.Faults.{then_gives, limits_passed}
 use Rattle.rows.proofs.Faults.{points_from, point_turn, point_end, segments_from, segment_turn, segment_end}
@@ -40,6 +46,14 @@ accepted ps code e = record { none_applies = gives_it _ e }
     gives_it : (a : Answer (Unit {0})) → gives_nothing a ≡ true → a ≡ gives tt
     gives_it (gives u) e = refl
     gives_it (refused number place) e = cc
+
+pub accepted_result : (r : Result Shape Refusal) (ps : List Point) (code : ℕ) →
+    answer_of code_of r ≡ (curve_rows ps code then gives code) →
+    IfOk r (λ shape. accepts ps (code_of shape) ≡ true)
+accepted_result (Ok shape) ps code e =
+    rw (← gives_injective (then_rest (curve_rows ps code) (gives code) (sym e)))
+    (accepts_of ps code (then_first (curve_rows ps code) (gives code) (sym e)))
+accepted_result (Err refusal) ps code e = tt
 
 pub count_passed : (n : ℕ) → bad_count n ≡ false → Count n
 count_passed n e = let k = count_of_row_1 n e in record { least = k.0; most = k.1 }

@@ -1,7 +1,7 @@
 // Accepted curves: rows 1 to 6 of the refusal table, of points wherever they stand.
 #![tactic(auto)]
 
-ghost use Rattle.std.specs.Prelude.{◌≡◌, true, ℕ, length, ◌≤◌, IfOk, OnOk};
+ghost use Rattle.std.specs.Prelude.{◌≡◌, true, ℕ, length, ◌≤◌, IfSome, IfOk, OnOk};
 ghost use Rattle.std.proofs.Math.Option.{none};
 ghost use Rattle.model.specs.Answer.{gives, ◌then◌};
 ghost use Rattle.model.specs.Points.{points as points_of_lists, points_most, segments, rule_of};
@@ -108,20 +108,45 @@ fn check_segments<P: Points>(points: &P, shape: Shape) -> Result<(), Refusal>
     Ok(())
 }
 
-// Rows 1 to 6: an accepted curve is passed over once. The result is its shape.
-pub fn check<P: Points>(points: &P, code: u32) -> Result<Shape, Refusal>
-    ensures answer { answer_of code_of result ≡ (curve_rows (P.points points.now) code then gives code) }
-    ensures accepted { IfOk result (λ shape. accepts (P.points points.now) (code_of shape) ≡ true) }
+// Rows 1 to 6, one after the other. Apart from the pass and not inlined, since the loops of the pass would hold what it needs.
+#[inline(never)]
+fn first_refusal<P: Points>(points: &P, code: u32) -> Result<Shape, Refusal>
+    ensures { answer_of code_of result ≡ (curve_rows (P.points points.now) code then gives code) }
 {
     if bad_count(points.count()) {
         return Err(Row::Count.at(0));
     }
     let shape = Shape::try_from(code)?;
-    if !passes(points, shape) {
-        check_points(points)?;
-        check_segments(points, shape)?;
-    }
+    check_points(points)?;
+    check_segments(points, shape)?;
     Ok(shape)
+}
+
+// Rows 1 to 6, 3 to 6 in one pass: the shape of an accepted curve. None does not say which row refuses.
+fn accepted<P: Points>(points: &P, code: u32) -> Option<Shape>
+    ensures { IfSome result (λ shape. (code_of shape ≡ code) × (accepts (P.points points.now) code ≡ true)) }
+{
+    if bad_count(points.count()) {
+        return None;
+    }
+    let Ok(shape) = Shape::try_from(code) else {
+        return None;
+    };
+    if !passes(points, shape) {
+        return None;
+    }
+    Some(shape)
+}
+
+// Rows 1 to 6: an accepted curve is passed over once. The result is its shape.
+pub fn check<P: Points>(points: &P, code: u32) -> Result<Shape, Refusal>
+    ensures answer { answer_of code_of result ≡ (curve_rows (P.points points.now) code then gives code) }
+    ensures accepted { IfOk result (λ shape. accepts (P.points points.now) (code_of shape) ≡ true) }
+{
+    match accepted(points, code) {
+        Some(shape) => Ok(shape),
+        None => first_refusal(points, code),
+    }
 }
 
 // The same of three lists, as document 01 has them lent.

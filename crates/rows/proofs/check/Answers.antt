@@ -1,73 +1,13 @@
--- Row 1, then 2; then one pass over an accepted curve, and of another the first fault.
-use Rattle.std.proofs.Common.{sym, ◌∙◌}
-use Rattle.model.specs.Answer.{row, ◌then◌}
-use Rattle.model.specs.Check.{curve_rows}
-use Rattle.refusal.proofs.Results.{refused_exit}
-use Rattle.shape.proofs.Tests.{code_of_shape}
-use Rattle.rows.proofs.Passing.{count_passed, code_passed, accepts_of, accepted, curve_of_rows}
-use Rattle.rows.proofs.Passing.{refused_by_code, refused_by_points, refused_by_segments}
+-- What the pass accepts is accepted; of another curve each row is asked.
+use Rattle.model.specs.Answer.{◌then◌}
+use Rattle.rows.proofs.Passing.{accepted, accepted_result}
 use Rattle.rows.proofs.check.Goals as goal
 
-pub returns-then-bad_count-clause-answer : goal.returns-then-bad_count-clause-answer
-unfolding curve_rows row ◌then◌
-returns-then-bad_count-clause-answer g c =
-    rw (c.at.ensures, sym (rw c.count.ensures at c.bad_count.ensures) ∙ c.if-bad_count.true)
-
-pub returns-in_err-shape-clause-answer : goal.returns-in_err-shape-clause-answer
-returns-in_err-shape-clause-answer g c =
-    let n = sym (rw c.count.ensures at c.bad_count.ensures) ∙ c.if-bad_count.false in
-    refused_exit _ _ _ c.from_residual.ensures.1 ∙ refused_by_code _ _ _ n c.in_err-shape.ensures
-
-pub passes-requires : goal.passes-requires
-passes-requires g c =
-    let n = sym (rw c.count.ensures at c.bad_count.ensures) ∙ c.if-bad_count.false in
-    count_passed _ n
-
-pub check_points-requires : goal.check_points-requires
-check_points-requires g c =
-    let n = sym (rw c.count.ensures at c.bad_count.ensures) ∙ c.if-bad_count.false in
-    (count_passed _ n).most
-
-pub returns-in_err-check_points-clause-answer : goal.returns-in_err-check_points-clause-answer
-returns-in_err-check_points-clause-answer g c =
-    let n = sym (rw c.count.ensures at c.bad_count.ensures) ∙ c.if-bad_count.false in
-    let k = code_passed c.in_ok-shape.ensures in
-    refused_exit _ _ _ c.from_residual-in_err-check_points.ensures.1
-    ∙ refused_by_points _ _ _ n k.0 c.in_err-check_points.ensures
-
-pub check_segments-requires : goal.check_segments-requires
-check_segments-requires g c =
-    let n = sym (rw c.count.ensures at c.bad_count.ensures) ∙ c.if-bad_count.false in
-    record { count = count_passed _ n; points_pass = sym c.in_ok-check_points.ensures }
-
-pub returns-in_err-check_segments-clause-answer : goal.returns-in_err-check_segments-clause-answer
-returns-in_err-check_segments-clause-answer g c =
-    let n = sym (rw c.count.ensures at c.bad_count.ensures) ∙ c.if-bad_count.false in
-    let k = code_passed c.in_ok-shape.ensures in
-    refused_exit _ _ _ c.from_residual-in_err-check_segments.ensures.1
-    ∙ refused_by_segments _ _ _ n k.0 (sym c.in_ok-check_points.ensures) (rw k.1 at c.in_err-check_segments.ensures)
-
-pub returns-in_ok-check_segments-clause-accepted : goal.returns-in_ok-check_segments-clause-accepted
-returns-in_ok-check_segments-clause-accepted g c =
-    let n = sym (rw c.count.ensures at c.bad_count.ensures) ∙ c.if-bad_count.false in
-    accepts_of _ _
-    (curve_of_rows _ _ (count_passed _ n) (code_of_shape c.in_ok-shape.shape)
-    (sym c.in_ok-check_points.ensures) (sym c.in_ok-check_segments.ensures))
-
-pub returns-in_ok-check_segments-clause-answer : goal.returns-in_ok-check_segments-clause-answer
+pub returns-in-Some-clause-answer : goal.returns-in-Some-clause-answer
 unfolding ◌then◌
-returns-in_ok-check_segments-clause-answer g c =
-    let n = sym (rw c.count.ensures at c.bad_count.ensures) ∙ c.if-bad_count.false in
-    let k = code_passed c.in_ok-shape.ensures in
-    let e =
-    curve_of_rows _ _ (count_passed _ n) (code_of_shape c.in_ok-shape.shape)
-    (sym c.in_ok-check_points.ensures) (sym c.in_ok-check_segments.ensures)
-    in
-    rw (← k.1, e)
+returns-in-Some-clause-answer g c =
+    let (code_is, e) = c.in-Some.ensures in
+    rw (code_is, (accepted _ _ e).none_applies)
 
-pub returns-else-not-passes-clause-answer : goal.returns-else-not-passes-clause-answer
-unfolding ◌then◌
-returns-else-not-passes-clause-answer g c =
-    let k = code_passed c.in_ok-shape.ensures in
-    let e = accepted _ _ (c.passes.ensures c.if-not-passes.false) in
-    rw (← k.1, e.none_applies)
+pub returns-in-None-clause-accepted : goal.returns-in-None-clause-accepted
+returns-in-None-clause-accepted g c = accepted_result _ _ _ c.first_refusal.ensures
