@@ -1,14 +1,13 @@
 -- The areas of an accepted curve.
 --   size_of, area_at    as many as points, each that of the point there
---   strides_before, strides_end    the indices of a search in steps
 --   least, most         2 to 64
 --   outside_is          row 7, by the first and the last point
 --   reached_first       an area that is not outside is not below that of the first point
 --   read_before_last, inside_at    the segment read has a right point, and the area is inside it
 -- Assumes nothing.
-use Rattle.std.proofs.Common.{◌≡◌, ℕ, suc, ◌+◌, ◌-◌, ◌*◌, ◌/◌, ◌≤◌, ◌<◌, min, arith, refl, inl, inr}
+use Rattle.std.proofs.Common.{◌≡◌, ℕ, suc, ◌+◌, ◌-◌, ◌≤◌, ◌<◌, min, arith, refl, inl, inr}
 use Rattle.std.proofs.Common.{true, false, ◌||◌, ltb, List, length, get_or}
-use native.Mathlib.Nat.{mod-lt, div-add-mod', mul-le-mul_left, min-eq_left, min-eq_right}
+use native.Mathlib.Nat.{min-eq_left, min-eq_right}
 use Rattle.exact.proofs.Tests.{compare}
 use Rattle.model.specs.Answer.{Answer, gives, refused, ◌then◌}
 use Rattle.model.proofs.Answers.{then_refused, refused_first}
@@ -28,19 +27,6 @@ size_of ps = length-map ps (λ p. p.area)
 
 pub area_at : (ps : List Point) (i : ℕ) → get_or (areas_of ps) i 0 ≡ (point_at ps i).area
 area_at ps i = get_or-map (λ p. p.area) ps i origin
-
--- a turn of a search in steps looks at an index before `end`; after the last turn none is left
-pub strides_before : (from step end k : ℕ) → from < end → k < (end - from - 1) / step + 1 → 0 < step →
-    from + step * k < end
-strides_before from step end k b h s =
-    let d = end - from - 1 in
-    omega (arith, mul-le-mul_left {m = k} {n = d / step} step (omega arith), div-add-mod' d step)
-
-pub strides_end : (from step end k : ℕ) → from < end → (end - from - 1) / step + 1 ≤ k → 0 < step →
-    end ≤ from + step * k
-strides_end from step end k b h s =
-    let d = end - from - 1 in
-    omega (arith, mul-le-mul_left {m = d / step + 1} {n = k} step h, div-add-mod' d step, mod-lt d s)
 
 -- the end of the second search
 pub near_end : {areas : List ℕ} {n from x : ℕ} → length areas ≡ n → n ≤ points_most → LastOf areas from 8 (n - 1) x →

@@ -39,8 +39,7 @@ fn last_not_above<P: Points>(points: &P, from: u32, step: u32, end: u32, area: u
     ensures { LastOf (areas_of (P.points points.now)) result step end area }
 {
     let mut last = from;
-    for k in 1..(end - from - 1) / step + 1 {
-        let i = from + step * k;
+    for i in (from + step..end).step_by(step as usize) {
         if points.area(i as usize) <= area {
             last = i;
         }
