@@ -4,7 +4,7 @@
 ghost use Rattle.std.specs.Prelude.{◌≡◌, true, pos, nat_abs, ◌+ℤ◌, ◌*ℤ◌, ◌+◌, ◌*◌, ◌≤◌, IfSome};
 ghost use Rattle.segment.specs.Inner as inner;
 ghost use Rattle.segment.specs.Inner.{Weights, RisingInput, rising_value, BentAt, BentInput, Excess, Large, Around};
-ghost use Rattle.segment.specs.Inner.{SumInput, hundredths_of, About, HalfWay, plain_shape, as_filed};
+ghost use Rattle.segment.specs.Inner.{SumInput, hundredths_of, About, HalfWay, as_filed};
 ghost use Rattle.exact.specs.Fraction.{Fraction, ◌over◌};
 ghost use Rattle.exact.specs.Rounding.{floor_div, round};
 ghost use Rattle.exact.specs.Inner.{sticky};
@@ -212,12 +212,10 @@ fn convex_factor(s: Segment, area: u32) -> i32
 pub struct Facing {
     pub shape: Shape,
     pub segment: Segment,
-    pub ghost shaped: { Good (plain (plain_shape shape)) (segment_of segment.left segment.right) },
 }
 
 impl Facing {
     pub fn new(shape: Shape, s: Segment) -> Self
-        requires { Good (rule_of (code_of shape)) (segment_of s.left s.right) }
         ensures shape { result.shape ≡ shape }
         ensures segment { as_filed shape (segment_of result.segment.left result.segment.right) ≡ segment_of s.left s.right }
     {
@@ -230,8 +228,8 @@ impl Facing {
 
     // The factor at an area. Of shapes 3 and 4 it is 200,000 less that of 1 and 2 on mirrored points: 200,000 is even.
     pub fn factor(self, area: u32) -> i32
-        requires low { self.segment.left.area ≤ area }
-        requires high { area ≤ self.segment.right.area }
+        requires { Inside (Good (rule_of (code_of self.shape)))
+            (as_filed self.shape (segment_of self.segment.left self.segment.right)) area }
         ensures { result
             ≡ round (exact_curve (rule_of (code_of self.shape))
             (as_filed self.shape (segment_of self.segment.left self.segment.right)) area) }
