@@ -55,12 +55,12 @@ fn rising_factor(s: Segment, area: u32) -> i32
     if s.right.value == s.left.value {
         return s.left.value as i32;
     }
-    let t = (area - s.left.area) as u64;
-    let u = (s.right.area - s.left.area) as u64 - t;
-    let rise = (s.right.value - s.left.value) as u64;
+    let t = u64::from(area - s.left.area);
+    let u = u64::from(s.right.area - s.left.area) - t;
+    let rise = u64::from(s.right.value - s.left.value);
     let d0 = s.left.slope as u64;
     let d1 = s.right.slope as u64;
-    rising(t, u, s.left.value as u64, rise, d0, d1)
+    rising(t, u, u64::from(s.left.value), rise, d0, d1)
 }
 
 // ---- convex
@@ -91,9 +91,9 @@ impl Bent {
         let a = (e.right - e.chord) as u64;
         let b = (e.chord - e.left) as u64;
         Bent {
-            t: (area - s.left.area) as u64,
-            u: (s.right.area - area) as u64,
-            h: (s.right.area - s.left.area) as u64,
+            t: u64::from(area - s.left.area),
+            u: u64::from(s.right.area - area),
+            h: u64::from(s.right.area - s.left.area),
             a,
             b,
         }
@@ -140,7 +140,7 @@ fn hundredths(left: u32, slope: i32, t: u64, above: u64) -> i32
     ensures { result ≡ hundredths_of (pos left) slope t above }
 {
     let from = 100 * left;
-    ((from as i64) + (slope as i64) * (t as i64) + (above as i64)) as i32
+    (i64::from(from) + i64::from(slope) * (t as i64) + (above as i64)) as i32
 }
 
 // What is less than one hundredth off n hundredths, in units, rounded. All of that is rounded alike unless n ends in 50: there it
