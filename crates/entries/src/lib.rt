@@ -33,7 +33,7 @@ impl Steps {
         requires { entry_area self.start self.step index ≤ area_most }
         ensures { result ≡ entry_area self.start self.step index }
     {
-        (self.start as u64 + index as u64 * self.step as u64) as u32
+        (u64::from(self.start) + index as u64 * u64::from(self.step)) as u32
     }
 }
 

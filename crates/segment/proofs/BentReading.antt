@@ -1,11 +1,11 @@
 -- The reading of a convex segment, in the natural numbers that the code computes with.
 --   Bends, bends_inside   the end slopes' distances from the chord are natural numbers
---   figures               the figures of an area; bent_input, their sizes
+--   bent_input            the sizes of an area's figures
 --   sum_input, near_input   what `hundredths` asks
 --   bent_reads            hundredths above the left value, and what is left of one more, are the value; near_reads, hundredths
 --                         less than one off, where that decides
 -- Assumes nothing.
-use mathlib.Core.Path.{◌≡◌, refl, sym, ◌∙◌, ap}
+use mathlib.Core.Path.{◌≡◌, sym, ◌∙◌, ap}
 use mathlib.Core.List.{[], ◌∷◌}
 use Prim.Native.Nat.{ℕ, ◌+◌, ◌*◌, ◌≤◌, ◌<◌}
 use native.Mathlib.Omega.{arith}
@@ -203,12 +203,6 @@ bends_inside {s} i =
     ]
 
 -- ---- of the figures that the code has
-
-pub figures : {s : Segment} {x : ℕ} → Inside (Good (plain convex)) s x →
-    BentAt s x (t s x) (u s x) (h s) (above s) (below s)
-figures i =
-    let f = bends_inside i in
-    record { t_is = refl; u_is = refl; h_is = refl; a_is = sym f.above_is; b_is = sym f.below_is }
 
 module _ {s : Segment} {x t u h a b : ℕ} (i : Inside (Good (plain convex)) s x) (k : BentAt s x t u h a b) where
   a_is : a ≡ above s

@@ -1,10 +1,10 @@
 -- A segment as its shape reads it, and the one that was filed.
---   filed_twice    each is the other's mirror, or the same
---   read_good      the one that is read has the shape by which it is read
---   read_left, read_right     their areas are the same
+--   plain_shape      the shape by which it is read
+--   segment_twice    the mirror's mirror is the segment
+--   read_inside      the one that is read has that shape
 --   as_it_stands, taken_off   the factor of the one that was filed, from that of the one that is read; taken_off_fits
 -- Assumes nothing.
-use mathlib.Core.Path.{◌≡◌, refl, sym, ◌∙◌, ap}
+use mathlib.Core.Path.{◌≡◌, sym}
 use mathlib.Core.Logic.{◌⊎◌, inl, inr}
 use Prim.Native.Nat.{ℕ, ◌-◌}
 use native.Mathlib.Omega.{arith}
@@ -14,19 +14,26 @@ use mir.Val.{SFits}
 use Rattle.exact.specs.Rounding.{round}
 use Rattle.exact.proofs.Magnitude.{size--, sfits_of_size}
 use Rattle.exact.proofs.Rounding.{round_rounding}
-use Rattle.model.specs.Points.{value_most, Point, Segment, mirror, mirror_segment, plain, rule_of}
+use Rattle.model.specs.Points.{value_most, Point, Segment, mirror, mirror_segment, Shape, rising, convex, plain, rule_of}
 use Rattle.model.specs.Interpolant.{interpolant, exact_curve}
 use Rattle.model.specs.Inner.{Limits, Neighbours, Good, Inside}
-use Rattle.model.proofs.Mirror.{value_most_even, mirror_good}
+use Rattle.model.proofs.Mirror.{value_most_even, mirror_inside}
 use Rattle.model.proofs.Segments.{interpolant_proper}
 use Rattle.shape.specs.declared.Shape as code
 use Rattle.shape.specs.declared.Shape.TheVariants.{Rising, Convex, Falling, Concave}
 use Rattle.shape.specs.Codes.{code_of}
 use Rattle.shape.proofs.Codes.{rule_of_rising, rule_of_convex, rule_of_falling, rule_of_concave}
-use Rattle.segment.specs.Inner.{plain_shape, as_filed}
+use Rattle.segment.specs.Inner.{as_filed}
 use Rattle.segment.proofs.Distances.{factor_size}
 
 -- ---- the segment
+
+-- the shape by which it is read
+abbrev pub plain_shape : code.Shape → Shape
+plain_shape Rising = rising
+plain_shape Convex = convex
+plain_shape Falling = rising
+plain_shape Concave = convex
 
 mirror_twice : {p : Point} → Limits p → mirror (mirror p) ≡ p
 unfolding mirror
@@ -34,42 +41,15 @@ mirror_twice {p} l =
     let value : value_most - (value_most - p.value) ≡ p.value = (let k = l.value in omega arith) in
     rw (value, neg_ℤ-neg_ℤ p.slope)
 
-segment_twice : {s : Segment} → Neighbours s → mirror_segment (mirror_segment s) ≡ s
+pub segment_twice : {s : Segment} → Neighbours s → mirror_segment (mirror_segment s) ≡ s
 segment_twice n = rw (mirror_twice n.left, mirror_twice n.right)
 
-pub filed_twice : (shape : code.Shape) {s : Segment} → Neighbours s → as_filed shape (as_filed shape s) ≡ s
-filed_twice Rising n = refl
-filed_twice Convex n = refl
-filed_twice Falling n = segment_twice n
-filed_twice Concave n = segment_twice n
-
-pub read_good : (shape : code.Shape) {s : Segment} →
-    Good (rule_of (code_of shape)) s → Good (plain (plain_shape shape)) (as_filed shape s)
-read_good Rising g = rw (rule_of_rising) at g
-read_good Convex g = rw (rule_of_convex) at g
-read_good Falling g = mirror_good (rw rule_of_falling at g)
-read_good Concave g = mirror_good (rw rule_of_concave at g)
-
-filed_left : (shape : code.Shape) (s : Segment) → (as_filed shape s).left.area ≡ s.left.area
-unfolding mirror
-filed_left Rising s = refl
-filed_left Convex s = refl
-filed_left Falling s = refl
-filed_left Concave s = refl
-
-filed_right : (shape : code.Shape) (s : Segment) → (as_filed shape s).right.area ≡ s.right.area
-unfolding mirror
-filed_right Rising s = refl
-filed_right Convex s = refl
-filed_right Falling s = refl
-filed_right Concave s = refl
-
-module _ (shape : code.Shape) (r : Segment) {s : Segment} (e : as_filed shape r ≡ s) where
-  pub read_left : r.left.area ≡ s.left.area
-  read_left = sym (filed_left shape r) ∙ ap (λ (x : Segment). x.left.area) e
-
-  pub read_right : r.right.area ≡ s.right.area
-  read_right = sym (filed_right shape r) ∙ ap (λ (x : Segment). x.right.area) e
+pub read_inside : (shape : code.Shape) {s : Segment} {x : ℕ} → Neighbours s →
+    Inside (Good (rule_of (code_of shape))) (as_filed shape s) x → Inside (Good (plain (plain_shape shape))) s x
+read_inside Rising n i = rw rule_of_rising at i
+read_inside Convex n i = rw rule_of_convex at i
+read_inside Falling n i = rw (segment_twice n) at (mirror_inside (rw rule_of_falling at i))
+read_inside Concave n i = rw (segment_twice n) at (mirror_inside (rw rule_of_concave at i))
 
 -- ---- the factor
 

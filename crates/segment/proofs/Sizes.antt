@@ -5,7 +5,7 @@
 --   shared                               what the quotient of w w asks where it may pass 64 bits
 --   excess_divided, excess_most          that quotient by a division, and how large it is
 --   large_positive, leads, around_most   the same by leading bits
---   sum_size, sum_fits_32                the sum in hundredths; sum_read, result_read, as the code has it
+--   sum_size, sum_fits, sum_fits_32      the sum in hundredths; sum_is, result_read, as the code has it
 -- Assumes nothing.
 use mathlib.Core.Path.{◌≡◌, sym, ◌∙◌, ap}
 use mathlib.Core.List.{[], ◌∷◌}
@@ -266,19 +266,17 @@ module _ {left : ℕ} {slope : ℤ} {t above : ℕ} (k : SumInput left slope t a
   sum_size =
       omega (arith, size_+ (pos from +ℤ product) (pos above), size_+ (pos from) product, product_most, k.size, k.value)
 
-  sum_fits : SFits w64 sum
+  pub sum_fits : SFits w64 sum
   sum_fits = sfits_of_size w64 sum (omega (arith, sum_size))
 
   pub sum_fits_32 : SFits w32 sum
   sum_fits_32 = sfits_of_size w32 sum (omega (arith, sum_size))
 
   -- as the code has it, in 64 bits
-  pub sum_read :
-      to_z w64 (of_z w64
-      (to_z w64 (of_z w64 (to_z w64 from +ℤ to_z w64 (of_z w64
-      (to_z w64 (of_z w64 (to_z w32 (of_z w32 slope))) *ℤ to_z w64 t)))) +ℤ to_z w64 above)) ≡ sum
-  sum_read =
-      rw (slope_read, distance_read, to_z-of_z product_fits, from_read, to_z-of_z from_fits, above_read) (to_z-of_z sum_fits)
+  pub sum_is :
+      to_z w64 (of_z w64 (to_z w64 from +ℤ to_z w64 (of_z w64
+      (to_z w64 (of_z w64 (to_z w32 (of_z w32 slope))) *ℤ to_z w64 t)))) +ℤ to_z w64 above ≡ sum
+  sum_is = rw (slope_read, distance_read, to_z-of_z product_fits, from_read, to_z-of_z from_fits, above_read)
 
   -- and what `hundredths` gives, from the slope's bits
   pub result_read : {z : ℤ} → z ≡ hundredths_of (pos left) (to_z w32 (of_z w32 slope)) t above → to_z w32 (of_z w32 z) ≡ sum

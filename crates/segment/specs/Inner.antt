@@ -8,13 +8,13 @@
 --   Large, Around    whether that quotient's numbers may pass 64 bits; a number less than one off it
 --   hundredths_of    the left value, the left tangent and what is above it, in whole hundredths
 --   About, HalfWay   less than one hundredth off n hundredths; half way between two numbers of units
---   plain_shape, as_filed   how a segment of a shape is read, and what was filed
+--   as_filed         the segment that was filed, from the one that is read
 --   Weights, RisingInput, BentInput, SumInput    what `part`, `rising`, `excess` and `hundredths` ask
 -- Assumes nothing.
 use Rattle.std.specs.Prelude.{◌≡◌, ℕ, ◌+◌, ◌-◌, ◌*◌, ◌^◌, ◌≤◌, ◌<◌, ℤ, pos, nat_abs, ◌+ℤ◌, ◌-ℤ◌, ◌*ℤ◌}
 use Rattle.exact.specs.Fraction.{Fraction, Proper, ◌over◌, ◌<ℚ◌}
 use Rattle.exact.specs.Inner.{Divided}
-use Rattle.model.specs.Points.{gap_most, value_most, slope_most, Segment, mirror_segment, Shape, rising, convex}
+use Rattle.model.specs.Points.{gap_most, value_most, slope_most, Segment, mirror_segment}
 use Rattle.shape.specs.Inner.{over_most}
 use Rattle.shape.specs.declared.Shape as code
 use Rattle.shape.specs.declared.Shape.TheVariants.{Rising, Convex, Falling, Concave}
@@ -111,13 +111,6 @@ pub record SumInput (left : ℕ) (slope : ℤ) (t above : ℕ) : Type 0 where
   pub size : above ≤ 2 * over_most + 1
 
 -- ---- all shapes
-
--- the shape by which it is read
-abbrev pub plain_shape : code.Shape → Shape
-plain_shape Rising = rising
-plain_shape Convex = convex
-plain_shape Falling = rising
-plain_shape Concave = convex
 
 -- the segment that was filed, from the one that is read: the mirror's mirror
 abbrev pub as_filed : code.Shape → Segment → Segment

@@ -4,7 +4,7 @@
 ghost use Rattle.std.specs.Prelude.{◌≡◌, true, pos, nat_abs, ◌+ℤ◌, ◌*ℤ◌, ◌+◌, ◌*◌, ◌≤◌, IfSome};
 ghost use Rattle.segment.specs.Inner as inner;
 ghost use Rattle.segment.specs.Inner.{Weights, RisingInput, rising_value, BentAt, BentInput, Excess, Large, Around};
-ghost use Rattle.segment.specs.Inner.{SumInput, hundredths_of, About, HalfWay, plain_shape, as_filed};
+ghost use Rattle.segment.specs.Inner.{SumInput, hundredths_of, About, HalfWay, as_filed};
 ghost use Rattle.exact.specs.Fraction.{Fraction, ◌over◌};
 ghost use Rattle.exact.specs.Rounding.{floor_div, round};
 ghost use Rattle.exact.specs.Inner.{sticky};
@@ -55,12 +55,12 @@ fn rising_factor(s: Segment, area: u32) -> i32
     if s.right.value == s.left.value {
         return s.left.value as i32;
     }
-    let t = (area - s.left.area) as u64;
-    let u = (s.right.area - s.left.area) as u64 - t;
-    let rise = (s.right.value - s.left.value) as u64;
+    let t = u64::from(area - s.left.area);
+    let u = u64::from(s.right.area - s.left.area) - t;
+    let rise = u64::from(s.right.value - s.left.value);
     let d0 = s.left.slope as u64;
     let d1 = s.right.slope as u64;
-    rising(t, u, s.left.value as u64, rise, d0, d1)
+    rising(t, u, u64::from(s.left.value), rise, d0, d1)
 }
 
 // ---- convex
@@ -91,9 +91,9 @@ impl Bent {
         let a = (e.right - e.chord) as u64;
         let b = (e.chord - e.left) as u64;
         Bent {
-            t: (area - s.left.area) as u64,
-            u: (s.right.area - area) as u64,
-            h: (s.right.area - s.left.area) as u64,
+            t: u64::from(area - s.left.area),
+            u: u64::from(s.right.area - area),
+            h: u64::from(s.right.area - s.left.area),
             a,
             b,
         }
@@ -140,7 +140,7 @@ fn hundredths(left: u32, slope: i32, t: u64, above: u64) -> i32
     ensures { result ≡ hundredths_of (pos left) slope t above }
 {
     let from = 100 * left;
-    ((from as i64) + (slope as i64) * (t as i64) + (above as i64)) as i32
+    (i64::from(from) + i64::from(slope) * (t as i64) + (above as i64)) as i32
 }
 
 // What is less than one hundredth off n hundredths, in units, rounded. All of that is rounded alike unless n ends in 50: there it
@@ -212,12 +212,10 @@ fn convex_factor(s: Segment, area: u32) -> i32
 pub struct Facing {
     pub shape: Shape,
     pub segment: Segment,
-    pub ghost shaped: { Good (plain (plain_shape shape)) (segment_of segment.left segment.right) },
 }
 
 impl Facing {
     pub fn new(shape: Shape, s: Segment) -> Self
-        requires { Good (rule_of (code_of shape)) (segment_of s.left s.right) }
         ensures shape { result.shape ≡ shape }
         ensures segment { as_filed shape (segment_of result.segment.left result.segment.right) ≡ segment_of s.left s.right }
     {
@@ -230,8 +228,8 @@ impl Facing {
 
     // The factor at an area. Of shapes 3 and 4 it is 200,000 less that of 1 and 2 on mirrored points: 200,000 is even.
     pub fn factor(self, area: u32) -> i32
-        requires low { self.segment.left.area ≤ area }
-        requires high { area ≤ self.segment.right.area }
+        requires { Inside (Good (rule_of (code_of self.shape)))
+            (as_filed self.shape (segment_of self.segment.left self.segment.right)) area }
         ensures { result
             ≡ round (exact_curve (rule_of (code_of self.shape))
             (as_filed self.shape (segment_of self.segment.left self.segment.right)) area) }

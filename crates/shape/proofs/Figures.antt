@@ -1,7 +1,7 @@
 -- The figures of a segment within its limits, in machine numbers.
 --   h, gap_read, rise_read               differences, as the code computes them
 --   e₀_fits, g_fits, e₁_fits             the slopes over 100 h; left_read, chord_read, right_read, as the code has them
---   a_fits, b_fits, a_read, b_read       their distances from the chord
+--   a_size, b_size                       how large their distances from the chord are
 -- Assumes nothing.
 use mathlib.Core.Path.{◌≡◌, sym, ◌∙◌, ap, ap₂}
 use Prim.Native.Nat.{ℕ, ◌-◌, ◌*◌, ◌≤◌}
@@ -67,13 +67,7 @@ module _ {s : Segment} (n : Neighbours s) where
   pub e₁_fits : SFits w32 (e₁ s)
   e₁_fits = over_fits (e₁ s) (omega (arith, over_size n.right))
 
-  pub a_fits : SFits w32 (a s)
-  a_fits = over_fits (a s) a_size
-
-  pub b_fits : SFits w32 (b s)
-  b_fits = over_fits (b s) b_size
-
-  -- what `slopes` gives, and a and b from it
+  -- what `slopes` gives
   module _ {e : Slopes} (k : SlopesOver s e) where
     pub left_read : to_z w32 (of_z w32 e.left) ≡ e.left
     left_read = rw k.left (to_z-of_z e₀_fits)
@@ -83,9 +77,3 @@ module _ {s : Segment} (n : Neighbours s) where
 
     pub right_read : to_z w32 (of_z w32 e.right) ≡ e.right
     right_read = rw k.right (to_z-of_z e₁_fits)
-
-    pub a_read : to_z w32 (of_z w32 e.right) -ℤ to_z w32 (of_z w32 e.chord) ≡ a s
-    a_read = rw (right_read, chord_read, k.right, k.chord)
-
-    pub b_read : to_z w32 (of_z w32 e.chord) -ℤ to_z w32 (of_z w32 e.left) ≡ b s
-    b_read = rw (chord_read, left_read, k.chord, k.left)

@@ -1,16 +1,14 @@
 -- Each entry from `index` on that takes the segment is filled with the factor there.
-use Rattle.std.proofs.Common.{◌≡◌, ℕ, suc, ◌<◌, List, length, ℤ, pos, w32, to_z, of_z, to_z-of_z, add-one, sym, ◌∙◌, ap, arith}
-use Rattle.model.specs.Points.{Point, rule_of}
+use Rattle.std.proofs.Common.{◌≡◌, ℕ, ℤ, pos, w32, to_z, of_z, to_z-of_z, add-one, sym, ◌∙◌, ap, arith}
+use Rattle.model.specs.Points.{rule_of}
 use Rattle.model.specs.Read.{reading}
 use Rattle.model.specs.Sheet.{entry_area}
-use Rattle.model.specs.Inner.{segment_at, Accepted, Good, Inside, Readable}
+use Rattle.model.specs.Inner.{Good, Readable}
 use Rattle.model.proofs.Walk.{good_ordered}
 use Rattle.model.proofs.Indexed.{chained_at}
 use Rattle.model.proofs.Accepted.{chained_of, area_limit, inside, reading_is}
 use Rattle.model.proofs.Filling.{filling_goes_on}
-use Rattle.point.specs.Inner.{segment_of}
 use Rattle.shape.specs.Codes.{code_of}
-use Rattle.segment.proofs.Mirrored.{read_left, read_right}
 use Rattle.rows.proofs.Passing.{accepted}
 use Rattle.lookup.proofs.Areas.{most}
 use Rattle.entries.proofs.fill_segment.Goals as goal
@@ -18,20 +16,12 @@ use Rattle.entries.proofs.fill_segment.Goals as goal
 pub overflow_add-k : goal.overflow_add-k
 overflow_add-k g c = record { fits = omega (arith, c.requires.inner, most _ _ c.args.curve.now.accepted) }
 
--- each segment of an accepted curve has its shape, also one that no entry takes
-good_at : {ps : List Point} {code : ℕ} → Accepted ps code → (k : ℕ) → suc k < length ps →
-    Good (rule_of code) (segment_at ps k)
-good_at {code = code} a = chained_at (Good (rule_of code)) good_ordered (chained_of a)
-
+-- each segment of an accepted curve, also one that no entry takes
 pub invariant_of-segment : goal.invariant_of-segment
 invariant_of-segment g c =
-    let segment = good_at (accepted _ _ c.args.curve.now.accepted) c.args.k c.requires.inner in
+    let a = chained_of (accepted _ _ c.args.curve.now.accepted) in
+    let segment = chained_at (Good (rule_of (code_of c.args.curve.now.shape))) good_ordered a c.args.k c.requires.inner in
     record { neighbours = rw (c.point.ensures, c.point-2.ensures, add-one) segment.ends }
-
-pub new-facing-requires : goal.new-facing-requires
-new-facing-requires g c =
-    rw (c.point.ensures, c.point-2.ensures, add-one)
-    (good_at (accepted _ _ c.args.curve.now.accepted) c.args.k c.requires.inner)
 
 pub area-area-requires : goal.area-area-requires
 area-area-requires g c =
@@ -48,17 +38,10 @@ readable g c =
       taken = c.takes.ensures.yes c.if-not-takes.false;
     }
 
-inside_segment : (g : _) (c : goal.Else-not-takes g) →
-    Inside (Good (rule_of (code_of c.args.curve.now.shape))) (segment_of c.point.result c.point-2.result) c.area-area.result
-inside_segment g c = rw (c.point.ensures, c.point-2.ensures, add-one) (inside (readable g c))
-
-pub factor-requires-clause-low : goal.factor-requires-clause-low
-factor-requires-clause-low g c =
-    rw (read_left c.args.curve.now.shape _ c.new-facing.ensures.segment) (inside_segment g c).low
-
-pub factor-requires-clause-high : goal.factor-requires-clause-high
-factor-requires-clause-high g c =
-    rw (read_right c.args.curve.now.shape _ c.new-facing.ensures.segment) (inside_segment g c).high
+pub factor-requires : goal.factor-requires
+factor-requires g c =
+    let facing = c.new-facing.ensures in
+    rw (facing.shape, facing.segment, c.point.ensures, c.point-2.ensures, add-one) (inside (readable g c))
 
 pub loop-i-preserved : goal.loop-i-preserved
 loop-i-preserved g c found k =

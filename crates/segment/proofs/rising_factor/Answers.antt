@@ -9,8 +9,8 @@ use Rattle.segment.proofs.rising_factor.Goals as goal
 pub returns-then-s : goal.returns-then-s
 returns-then-s c = value_read c.requires.good.ends.left ∙ sym (level_reads c.requires c.if-s.true)
 
-pub overflow_sub-rise : goal.overflow_sub-rise
-overflow_sub-rise c = (rises c.requires c.if-s.false).values
+pub overflow_sub-s-2 : goal.overflow_sub-s-2
+overflow_sub-s-2 c = (rises c.requires c.if-s.false).values
 
 pub overflow_cast-d0 : goal.overflow_cast-d0
 overflow_cast-d0 c =
@@ -25,10 +25,13 @@ overflow_cast-d1 c =
 pub rising-requires : goal.rising-requires
 rising-requires c =
     let i = c.requires in
-    rw (slope_read i.good.ends.left, slope_read i.good.ends.right, u_read i) (rising_input i c.if-s.false)
+    let n = i.good.ends in
+    rw (c.from-t.ensures, c.from.ensures, c.from-2.ensures, c.from-rise.ensures, slope_read n.left, slope_read n.right, u_read i)
+    (rising_input i c.if-s.false)
 
 pub returns : goal.returns
 returns c =
     let i = c.requires in
-    let e = rw (slope_read i.good.ends.left, slope_read i.good.ends.right, u_read i) at c.rising.ensures in
-    to_z-of_z {w = w32} (search rules) ∙ e ∙ sym (rising_reads i c.if-s.false)
+    let n = i.good.ends in
+    let read = to_z-of_z {w = w32} {z = c.rising.result} (search rules) in
+    cc (slope_read n.left, slope_read n.right, u_read i, rising_reads i c.if-s.false)
