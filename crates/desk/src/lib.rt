@@ -1,10 +1,11 @@
 // The desk reading.
 #![tactic(auto)]
 
-ghost use Rattle.std.specs.Prelude.{◌≡◌, ◌<◌, ◌≤◌, ◌++◌, length, take, drop};
+ghost use Rattle.std.specs.Prelude.{◌≡◌, ◌<◌, ◌≤◌, ◌*◌, ◌++◌, length, take, drop};
 ghost use Rattle.model.specs.Answer.{filled};
-ghost use Rattle.refusal.specs.Refusal.{answer_of};
+ghost use Rattle.layout.specs.Layout.{record_size, count};
 ghost use Rattle.desk_answer.specs.Desk.{desk_answer, desk_number, point_records};
+ghost use Rattle.desk_answer.specs.Inner.{Answered};
 ghost use Rattle.desk.specs.Inner.{CopiedTo};
 
 use desk_answer::copy_block;
@@ -46,10 +47,9 @@ fn copy(src: &[u8], dst: &mut [u8])
 }
 
 // desk_two has these steps too, but asks for other room and copies other records: two of the seven.
+#[tactic(auto, using(crate::proofs::Records::sizes, desk_answer::proofs::Steps::located))]
 fn read(bytes: &[u8], area: u32, scratch: &mut [u8]) -> Result<i32, Refusal>
-    ensures answer { answer_of (λ f. f) result ≡ desk_answer bytes.now area (length scratch.old) }
-    ensures scratch { let answer = desk_answer bytes.now area (length scratch.old) in
-        scratch.new ≡ filled answer (point_records bytes.now) scratch.old }
+    ensures { Answered (record_size * count bytes.now) bytes.now area (point_records bytes.now) scratch.old scratch.new result }
 {
     layout::check(bytes)?;
     let file = CurveFile { bytes };

@@ -1,88 +1,96 @@
--- What the steps of a desk reading say of its answer.
---   Opened, opened        rows 9 and 10 are passed: as many points as the file counts
---   Accepted, accepted    and rows 1 to 6, of these points
---   by_head, by_room, by_curve, by_area    a step refuses: so does the answer
---   by_reading            all steps pass: the answer is the reading
---   untouched             a refusal leaves a list as found
+-- What the steps of a desk reading say of its result.
+--   by_head, by_room, by_curve, by_area    a step refuses: so does the reading, and it leaves the scratch as found
+--   by_reading      all steps pass: the factor is the reading
+--   located         what row 7 says where it passes: the area is inside, and the index is that of the segment read
 -- Assumes nothing.
-use mathlib.Core.Path.{◌≡◌, sym, ◌∙◌}
+use mathlib.Core.Path.{◌≡◌, refl, sym, ◌∙◌, ap}
 use mathlib.Core.Bool.{false}
-use mathlib.Core.List.{List}
+use mathlib.Core.List.{List, ◌++◌}
 use Prim.Native.Nat.{ℕ, ◌≤◌, ◌<◌}
 use borrow.Author.Tests.{lt-ltb, le-ltb}
 use lib.IntN.{ℤ}
-use lib.ListN.{length}
-use Rattle.model.specs.Answer.{Answer, gives, refused, row, ◌then◌, filled}
+use lib.ListN.{length, drop}
+use mir.Syntax.{w32}
+use mir.Val.{SFits, to_z, of_z}
+use mir.Facts.{to_z-of_z}
+use Rattle.std.specs.Prelude.{Result, Ok, Err, IsErrAnd}
+use Rattle.model.specs.Answer.{gives, refused, row, ◌then◌, filled}
+use Rattle.model.specs.Points.{Point}
 use Rattle.model.specs.Check.{curve_rows}
-use Rattle.model.specs.Read.{outside, reading, read_answer}
-use Rattle.model.proofs.Rows.{gives_injective, then_first, then_rest}
+use Rattle.model.specs.Read.{outside, segment_read, reading, read_answer}
+use Rattle.model.proofs.Rows.{gives_injective, then_first, then_rest, row_passed}
 use Rattle.model.proofs.Answers.{then_refused, refused_first, reading_given}
-use Rattle.layout.specs.Layout.{point_offset, shape_code, count, points_of}
+use Rattle.refusal.specs.declared.Row.TheVariants.{Room}
+use Rattle.refusal.specs.declared.Refusal.{Refusal}
+use Rattle.refusal.specs.Refusal.{number_of}
+use Rattle.refusal.proofs.Results.{refused_exit}
+use Rattle.layout.specs.Layout.{shape_code, points_of}
 use Rattle.layout.specs.Head.{head_rows}
-use Rattle.layout.proofs.Heads.{size_of_passed}
-use Rattle.layout.proofs.Points.{size_of_points}
 use Rattle.lookup.proofs.Areas.{refused_alike}
 use Rattle.desk_answer.specs.Desk.{answer_with}
+use Rattle.desk_answer.specs.Inner.{Answered}
 
-pub record Opened (bytes : List ℕ) : Type 0 where
-  pub passed : head_rows bytes ≡ gives tt
-  pub size : length bytes ≡ point_offset (count bytes)
-  pub points : length (points_of bytes) ≡ count bytes
+module _ (ps : List Point) (area : ℕ) {i : ℕ}
+    (e : gives i ≡ (row (outside ps area) 7 0 then gives (segment_read ps area))) where
+  pub inside : outside ps area ≡ false
+  inside = row_passed _ 7 0 _ (sym e)
 
-pub opened : (bytes : List ℕ) → gives tt ≡ head_rows bytes → Opened bytes
-opened bytes e = record { passed = sym e; size = size_of_passed bytes (sym e); points = size_of_points bytes }
+  pub index : i ≡ segment_read ps area
+  index = gives_injective (sym (then_rest (row _ 7 0) _ (sym e)))
 
-pub record Accepted (bytes : List ℕ) (code : ℕ) : Type 0 where
-  pub passed : curve_rows (points_of bytes) (shape_code bytes) ≡ gives tt
-  pub code_is : code ≡ shape_code bytes
+pub ruleset located = (inside, index)
 
-pub accepted : (bytes : List ℕ) (code given : ℕ) → given ≡ shape_code bytes →
-    gives code ≡ (curve_rows (points_of bytes) given then gives given) →
-    Accepted bytes code
-accepted bytes code given g e =
-    let rows = curve_rows (points_of bytes) given in
-    record {
-      passed = rw g at (then_first rows _ (sym e));
-      code_is = sym (gives_injective (then_rest rows _ (sym e))) ∙ g;
-    }
+module _ (room : ℕ) (bytes : List ℕ) (area scratch : ℕ) (enough : room ≤ scratch) (passed : gives tt ≡ head_rows bytes) where
+  read_is : {code : ℕ} → code ≡ shape_code bytes →
+      answer_with room bytes area scratch ≡ read_answer (points_of bytes) code area
+  unfolding answer_with row ◌then◌
+  read_is e = rw (sym passed, e, le-ltb scratch room enough)
 
-module _ (room : ℕ) (bytes : List ℕ) (area scratch : ℕ) where
-  pub by_head : {number place : ℕ} → refused number place ≡ head_rows bytes →
-      answer_with room bytes area scratch ≡ refused number place
-  unfolding answer_with
-  by_head e = then_refused (head_rows bytes) _ (sym e)
+module _ {room : ℕ} {bytes : List ℕ} {area : ℕ} {records found : List ℕ} where
+  module _ {r : Result ℤ Refusal} (d : Refusal) (exit : IsErrAnd r (λ e. e ≡ d)) where
+    refuses : answer_with room bytes area (length found) ≡ refused (number_of d.row) d.place →
+        Answered room bytes area records found found r
+    unfolding filled
+    refuses e = record { answer = refused_exit _ _ _ exit ∙ sym e; scratch = rw e refl }
 
-  module _ (o : Opened bytes) where
-    pub by_room : scratch < room → answer_with room bytes area scratch ≡ refused 11 0
+    pub by_head : refused (number_of d.row) d.place ≡ head_rows bytes → Answered room bytes area records found found r
+    unfolding answer_with
+    by_head e = refuses (then_refused (head_rows bytes) _ (sym e))
+
+  module _ (passed : gives tt ≡ head_rows bytes) where
+    pub by_room : {d : Refusal} → length found < room → d ≡ record { row = Room; place = 0 } →
+        Answered room bytes area records found found (Err d)
     unfolding answer_with row ◌then◌
-    by_room h = rw (o.passed, lt-ltb scratch room h)
+    by_room h e = refuses _ e (rw (sym passed, lt-ltb (length found) room h))
 
-    module _ (enough : room ≤ scratch) where
-      by_rest : answer_with room bytes area scratch ≡ read_answer (points_of bytes) (shape_code bytes) area
-      unfolding answer_with row ◌then◌
-      by_rest = rw (o.passed, le-ltb scratch room enough)
-
-      pub by_curve : {A : Type 0} {number place given : ℕ} (found : A) → given ≡ shape_code bytes →
-          refused number place ≡ (curve_rows (points_of bytes) given then gives found) →
-          answer_with room bytes area scratch ≡ refused number place
+    module _ (enough : room ≤ length found) {code : ℕ} (coded : code ≡ shape_code bytes) where
+      pub by_curve : {r : Result ℤ Refusal} (d : Refusal) → IsErrAnd r (λ e. e ≡ d) →
+          refused (number_of d.row) d.place ≡ (curve_rows (points_of bytes) code then gives code) →
+          Answered room bytes area records found found r
       unfolding read_answer
-      by_curve {given = given} found g e =
-          let refuses = refused_first (curve_rows (points_of bytes) given) _ (sym e) in
-          by_rest ∙ then_refused (curve_rows (points_of bytes) (shape_code bytes)) _ (rw g at refuses)
+      by_curve d exit e =
+          let own = refused_first (curve_rows (points_of bytes) code) _ (sym e) in
+          refuses d exit (read_is _ _ _ _ enough passed coded ∙ then_refused _ _ own)
 
-      module _ {code : ℕ} (k : Accepted bytes code) where
-        pub by_area : {number place : ℕ} (found : ℕ) →
-            refused number place ≡ (row (outside (points_of bytes) area) 7 0 then gives found) →
-            answer_with room bytes area scratch ≡ refused number place
+      module _ {given : ℕ} (accepted : gives given ≡ (curve_rows (points_of bytes) code then gives code)) where
+        pub by_area : {r : Result ℤ Refusal} (d : Refusal) → IsErrAnd r (λ e. e ≡ d) →
+            refused (number_of d.row) d.place
+            ≡ (row (outside (points_of bytes) area) 7 0 then gives (segment_read (points_of bytes) area)) →
+            Answered room bytes area records found found r
         unfolding read_answer ◌then◌
-        by_area found e =
-            by_rest ∙ rw k.passed (refused_alike (row (outside (points_of bytes) area) 7 0) _ _ (sym e))
+        by_area d exit e =
+            let own = then_first (curve_rows _ code) _ (sym accepted) in
+            let outside = refused_alike (row (outside (points_of bytes) area) 7 0) _ _ (sym e) in
+            refuses d exit (read_is _ _ _ _ enough passed coded ∙ rw own outside)
 
-        pub by_reading : outside (points_of bytes) area ≡ false →
-            answer_with room bytes area scratch ≡ gives (reading (points_of bytes) code area)
-        by_reading e = by_rest ∙ rw k.code_is (reading_given _ _ area (record { none_applies = k.passed }) e)
-
-pub untouched : {a : Answer ℤ} {number place : ℕ} (written found : List ℕ) → a ≡ refused number place →
-    filled a written found ≡ found
-unfolding filled
-untouched written found e = rw e
+        pub by_reading : {i : ℕ} {factor : ℤ} {left : List ℕ} →
+            gives i ≡ (row (outside (points_of bytes) area) 7 0 then gives (segment_read (points_of bytes) area)) →
+            factor ≡ reading (points_of bytes) given area → SFits w32 factor → left ≡ records ++ drop (length records) found →
+            Answered room bytes area records found left (Ok (to_z w32 (of_z w32 factor)))
+        unfolding filled
+        by_reading index_is factor_is fits copied =
+            let own = then_first (curve_rows _ code) _ (sym accepted) in
+            let given_is = gives_injective (then_rest (curve_rows _ code) _ (sym accepted)) in
+            let given = reading_given _ _ area (record { none_applies = own }) (inside _ _ index_is) in
+            let e = read_is _ _ _ _ enough passed coded ∙ given in
+            record { answer = ap gives (to_z-of_z fits ∙ factor_is) ∙ rw (← given_is) (sym e); scratch = rw e copied }

@@ -1,35 +1,34 @@
--- The two records of the segment read, which is at index i of the file's points.
+-- The two records of the segment read.
 --   records_fit   they are in the file
---   written       what a copy of them leaves, where the answer is a factor
+--   written       what a copy of them leaves
 -- Assumes nothing.
+use mathlib.Core.Bool.{true}
 use mathlib.Core.Path.{◌≡◌}
-use mathlib.Core.List.{List}
-use Prim.Native.Nat.{ℕ, suc, ◌+◌, ◌*◌, ◌≤◌, ◌<◌}
+use mathlib.Core.List.{List, ◌++◌}
+use Prim.Native.Nat.{ℕ, ◌+◌, ◌*◌, ◌≤◌}
 use native.Mathlib.Omega.{arith}
-use lib.IntN.{ℤ}
 use lib.ListN.{length, drop, length-drop}
 use lib.Seq.{length-take-le}
-use Rattle.model.specs.Answer.{Answer, gives, filled}
 use Rattle.model.specs.Read.{segment_read}
+use Rattle.rows.specs.Inner.{accepts}
 use Rattle.layout.specs.Layout.{record_size, point_offset, count, points_of}
 use Rattle.layout.proofs.Points.{size_of_points}
+use Rattle.lookup.proofs.Areas.{read_before_last}
 use Rattle.desk_answer.specs.Desk.{segment_records}
 use Rattle.desk_answer.specs.Inner.{copied}
 
-pub records_fit : (bytes : List ℕ) (i area : ℕ) → length bytes ≡ point_offset (count bytes) →
-    i ≡ segment_read (points_of bytes) area → suc (segment_read (points_of bytes) area) < length (points_of bytes) →
-    point_offset i + 2 * record_size ≤ length bytes
-records_fit bytes i area size index inner = omega (arith, size, inner, index, size_of_points bytes)
+module _ (bytes : List ℕ) (area code : ℕ) (size : length bytes ≡ point_offset (count bytes))
+    (e : accepts (points_of bytes) code ≡ true) where
+  pub records_fit : point_offset (segment_read (points_of bytes) area) + 2 * record_size ≤ length bytes
+  records_fit = omega (arith, size_of_points bytes, read_before_last (points_of bytes) code e area)
 
-module _ (bytes : List ℕ) (i area : ℕ) (index : i ≡ segment_read (points_of bytes) area)
-    (fit : point_offset i + 2 * record_size ≤ length bytes) where
   records_size : length (segment_records bytes area) ≡ 2 * record_size
   unfolding segment_records
   records_size =
-      rw (← index)
-      (length-take-le (2 * record_size) (drop (point_offset i) bytes) (omega (arith, length-drop (point_offset i) bytes)))
+      let all = drop (point_offset (segment_read (points_of bytes) area)) bytes in
+      length-take-le (2 * record_size) all (omega (arith, records_fit, length-drop {A = ℕ}))
 
-  pub written : {a : Answer ℤ} {factor : ℤ} (found : List ℕ) → a ≡ gives factor →
-      copied (point_offset i) 0 24 bytes found ≡ filled a (segment_records bytes area) found
-  unfolding filled segment_records
-  written found e = rw (e, records_size, index)
+  pub written : {i : ℕ} (found : List ℕ) → i ≡ segment_read (points_of bytes) area →
+      copied (point_offset i) 0 24 bytes found ≡ segment_records bytes area ++ drop (length (segment_records bytes area)) found
+  unfolding segment_records
+  written found index = rw (records_size, index)

@@ -1,10 +1,11 @@
 // The desk reading with a scratch of two points.
 #![tactic(auto)]
 
-ghost use Rattle.std.specs.Prelude.{◌≡◌, length};
+ghost use Rattle.std.specs.Prelude.{◌≡◌, ◌*◌, length};
 ghost use Rattle.model.specs.Answer.{filled};
-ghost use Rattle.refusal.specs.Refusal.{answer_of};
+ghost use Rattle.layout.specs.Layout.{record_size};
 ghost use Rattle.desk_answer.specs.Desk.{desk_answer_two, desk_number, segment_records};
+ghost use Rattle.desk_answer.specs.Inner.{Answered};
 
 use desk_answer::copy_block;
 use layout::{CurveFile, HEAD_SIZE, RECORD_SIZE};
@@ -12,10 +13,9 @@ use refusal::{Refusal, Row};
 use rows::Curve;
 
 // The steps of desk, but for the room that is asked for and the records that are copied: two of the seven.
+#[tactic(auto, using(crate::proofs::Records::records_fit, desk_answer::proofs::Steps::located))]
 fn read(bytes: &[u8], area: u32, scratch: &mut [u8]) -> Result<i32, Refusal>
-    ensures answer { answer_of (λ f. f) result ≡ desk_answer_two bytes.now area (length scratch.old) }
-    ensures scratch { let answer = desk_answer_two bytes.now area (length scratch.old) in
-        scratch.new ≡ filled answer (segment_records bytes.now area) scratch.old }
+    ensures { Answered (2 * record_size) bytes.now area (segment_records bytes.now area) scratch.old scratch.new result }
 {
     layout::check(bytes)?;
     let file = CurveFile { bytes };

@@ -16,6 +16,6 @@ pub extern "C" fn curve_check(areas: &[u32], values: &[u32], slopes: &[i32], sha
 {
     match curve::check(areas, values, slopes, shape) {
         Checked::Refused(row, place) => refusal(row, place),
-        Checked::Segments(n) => n as i64,
+        Checked::Segments(n) => i64::from(n),
     }
 }

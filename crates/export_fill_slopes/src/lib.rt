@@ -17,6 +17,6 @@ pub extern "C" fn curve_fill_slopes(areas: &[u32], values: &[u32], slopes: &mut 
 {
     match slopes::fill_slopes(areas, values, slopes) {
         Supplied::Refused(row, place) => refusal(row, place),
-        Supplied::Points(n) => n as i64,
+        Supplied::Points(n) => i64::from(n),
     }
 }

@@ -35,6 +35,6 @@ pub extern "C" fn curve_import(
 {
     match import::import(bytes, shape, areas, values, slopes) {
         Imported::Refused(row, place) => refusal(row, place),
-        Imported::Points(n) => n as i64,
+        Imported::Points(n) => i64::from(n),
     }
 }

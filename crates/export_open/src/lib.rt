@@ -35,6 +35,6 @@ pub extern "C" fn curve_open(
 {
     match file::open(bytes, areas, values, slopes) {
         Opened::Refused(row, place) => refusal(row, place),
-        Opened::Curve(shape, count) => (256 * (shape.code() as u64) + (count as u64)) as i64,
+        Opened::Curve(shape, count) => 256 * i64::from(shape.code()) + i64::from(count),
     }
 }

@@ -23,6 +23,6 @@ pub extern "C" fn curve_read(
 {
     match curve::read(areas, values, slopes, shape, area) {
         Reading::Refused(row, place) => refusal(row, place),
-        Reading::Factor(factor) => factor as i64,
+        Reading::Factor(factor) => i64::from(factor),
     }
 }

@@ -31,6 +31,6 @@ pub extern "C" fn curve_sheet(
 {
     match curve::sheet(areas, values, slopes, shape, start, step, out) {
         Filled::Refused(row, place) => refusal(row, place),
-        Filled::Entries(n) => n as i64,
+        Filled::Entries(n) => i64::from(n),
     }
 }

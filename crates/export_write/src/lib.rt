@@ -30,6 +30,6 @@ pub extern "C" fn curve_write(
 {
     match file::write(areas, values, slopes, shape, out) {
         Written::Refused(row, place) => refusal(row, place),
-        Written::Length(n) => n as i64,
+        Written::Length(n) => i64::from(n),
     }
 }

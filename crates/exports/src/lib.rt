@@ -8,11 +8,11 @@ ghost use Rattle.exports.specs.Exports.{word};
 use refusal::Row;
 
 // 2^32
-const WORD: u64 = 4294967296;
+const WORD: i64 = 4294967296;
 
 // A refusal as a number, since C takes one.
 pub fn refusal(row: Row, place: u32) -> i64
     ensures { result ≡ neg_ℤ (pos (word * number_of row + place)) }
 {
-    -((WORD * (row.number() as u64) + (place as u64)) as i64)
+    -(WORD * i64::from(row.number()) + i64::from(place))
 }

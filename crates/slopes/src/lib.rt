@@ -105,8 +105,8 @@ impl Rising<'_> {
         ensures { ChordAt self.now.areas.now self.now.values.now i (chord_of result.rise result.gap) }
     {
         Chord {
-            rise: (self.values[i + 1] - self.values[i]) as u64,
-            gap: (self.areas[i + 1] - self.areas[i]) as u64,
+            rise: u64::from(self.values[i + 1] - self.values[i]),
+            gap: u64::from(self.areas[i + 1] - self.areas[i]),
         }
     }
 

@@ -1,12 +1,8 @@
 -- `export_check::curve_check` meets its contract, by what Check promises.
 -- Assumes nothing.
-use mathlib.Core.Path.{sym, ◌∙◌, ap, subst}
-use Prim.Native.Nat.{◌^◌, ◌<◌}
-use native.Mathlib.Omega.{arith}
+use mathlib.Core.Path.{sym, ◌∙◌, ap}
 use lib.IntN.{pos}
-use mir.Syntax.{w64}
-use mir.Facts.{to_z-of_z, to_z_pos}
-use Rattle.model.proofs.Numbered.{Numbered, in_check, in_lists}
+use mir.Facts.{to_z-of_z}
 use Rattle.curve.specs.Calls.{checked_answer}
 use Rattle.exports.proofs.Numbers.{c_refused, c_given}
 use Rattle.export_check.proofs.curve_check.Goals as goal
@@ -18,5 +14,5 @@ returns-in-Refused c =
 
 pub returns-in-Segments : goal.returns-in-Segments
 returns-in-Segments c =
-    let small : c.in-Segments.n < 2 ^ 63 = omega arith in
-    rw (to_z_pos w64 small) (c_given pos (sym c.check.ensures ∙ ap checked_answer c.in-Segments.is))
+    rw (to_z-of_z (record { sfits = c.from.type_inv }), c.from.ensures)
+    (c_given pos (sym c.check.ensures ∙ ap checked_answer c.in-Segments.is))

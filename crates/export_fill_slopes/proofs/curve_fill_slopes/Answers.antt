@@ -1,14 +1,10 @@
 -- `export_fill_slopes::curve_fill_slopes` meets its contract, by what the filling promises.
 -- Assumes nothing.
-use mathlib.Core.Path.{sym, ◌∙◌, ap, subst}
-use Prim.Native.Nat.{◌^◌, ◌<◌}
-use native.Mathlib.Omega.{arith}
+use mathlib.Core.Path.{sym, ◌∙◌, ap}
 use lib.IntN.{pos}
-use mir.Syntax.{w64}
-use mir.Facts.{to_z-of_z, to_z_pos}
-use Rattle.model.proofs.Numbered.{Numbered}
+use mir.Facts.{to_z-of_z}
 use Rattle.slopes.specs.Calls.{supplied_answer}
-use Rattle.exports.proofs.Numbers.{c_refused, c_given, in_fill}
+use Rattle.exports.proofs.Numbers.{c_refused, c_given}
 use Rattle.export_fill_slopes.proofs.curve_fill_slopes.Goals as goal
 
 pub returns-in-Refused-clause-answer : goal.returns-in-Refused-clause-answer
@@ -18,5 +14,5 @@ returns-in-Refused-clause-answer c =
 
 pub returns-in-Points-clause-answer : goal.returns-in-Points-clause-answer
 returns-in-Points-clause-answer c =
-    let small : c.in-Points.n < 2 ^ 63 = omega arith in
-    rw (to_z_pos w64 small) (c_given pos (sym c.fill_slopes.ensures.answer ∙ ap supplied_answer c.in-Points.is))
+    rw (to_z-of_z (record { sfits = c.from.type_inv }), c.from.ensures)
+    (c_given pos (sym c.fill_slopes.ensures.answer ∙ ap supplied_answer c.in-Points.is))

@@ -1,15 +1,10 @@
 -- `export_import::curve_import` meets its contract, by what Import promises.
 -- Assumes nothing.
-use mathlib.Core.Path.{sym, ◌∙◌, ap, subst}
-use Prim.Native.Nat.{◌^◌, ◌<◌}
-use native.Mathlib.Omega.{arith}
+use mathlib.Core.Path.{sym, ◌∙◌, ap}
 use lib.IntN.{pos}
-use mir.Syntax.{w64}
-use mir.Facts.{to_z-of_z, to_z_pos}
-use Rattle.model.proofs.Numbered.{NumberedTo}
-use Rattle.model.specs.Inner.{table_most}
+use mir.Facts.{to_z-of_z}
 use Rattle.import.specs.Calls.{imported_answer}
-use Rattle.exports.proofs.Numbers.{c_refused, c_given, in_import}
+use Rattle.exports.proofs.Numbers.{c_refused, c_given}
 use Rattle.export_import.proofs.curve_import.Goals as goal
 
 pub returns-in-Refused-clause-answer : goal.returns-in-Refused-clause-answer
@@ -19,5 +14,5 @@ returns-in-Refused-clause-answer c =
 
 pub returns-in-Points-clause-answer : goal.returns-in-Points-clause-answer
 returns-in-Points-clause-answer c =
-    let small : c.in-Points.n < 2 ^ 63 = omega arith in
-    rw (to_z_pos w64 small) (c_given pos (sym c.«import».ensures.answer ∙ ap imported_answer c.in-Points.is))
+    rw (to_z-of_z (record { sfits = c.from.type_inv }), c.from.ensures)
+    (c_given pos (sym c.«import».ensures.answer ∙ ap imported_answer c.in-Points.is))
