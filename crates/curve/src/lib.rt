@@ -109,7 +109,7 @@ fn fill(
         shape,
     };
     let steps = Steps { start, step };
-    entries::check(&curve, steps, out.len())?;
+    entries::check(&curve.points, steps, out.len())?;
     entries::fill(&curve, steps, out);
     Ok(out.len() as u32)
 }

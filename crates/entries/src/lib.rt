@@ -44,29 +44,30 @@ pub fn bad_sheet(step: u32, n: usize) -> bool
     step == 0 || n == 0 || n > ENTRIES_MOST
 }
 
-// How many entries from the first on are inside the curve. The areas increase, so a division says it.
-fn count_inside<P: Points>(curve: &Curve<P>, steps: Steps) -> usize
-    requires { 0 < steps.step }
-    ensures { (n : ℕ) → first_answer 7 result n ≡ entry_rows (P.points curve.now.points) steps.start steps.step n }
+// How many entries from the first on are inside the points. The areas increase, so a division says it.
+fn count_inside<P: Points>(points: &P, steps: Steps) -> usize
+    requires points { 0 < length (P.points points.now) }
+    requires step { 0 < steps.step }
+    ensures { (n : ℕ) → first_answer 7 result n ≡ entry_rows (P.points points.now) steps.start steps.step n }
 {
-    if lookup::outside(&curve.points, steps.start) {
+    if lookup::outside(points, steps.start) {
         return 0;
     }
-    let points = curve.points;
     ((points.area(points.count() - 1) - steps.start) / steps.step) as usize + 1
 }
 
 // Row 8, then row 7 at the first entry outside.
-pub fn check<P: Points>(curve: &Curve<P>, steps: Steps, n: usize) -> Result<(), Refusal>
+pub fn check<P: Points>(points: &P, steps: Steps, n: usize) -> Result<(), Refusal>
+    requires { 0 < length (P.points points.now) }
     ensures { checked result
         ≡ (row (bad_sheet steps.step n) 8 0
-        then entry_rows (P.points curve.now.points) steps.start steps.step n) }
+        then entry_rows (P.points points.now) steps.start steps.step n) }
 {
     if bad_sheet(steps.step, n) {
         return Err(Row::Sheet.at(0));
     }
     // The count is the place of the refusal too: an Option would carry the same number.
-    let inside = count_inside(curve, steps);
+    let inside = count_inside(points, steps);
     if inside < n {
         return Err(Row::Outside.at(inside as u32));
     }

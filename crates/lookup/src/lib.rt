@@ -1,8 +1,9 @@
 // Readings of an accepted curve: row 7, the segment that an area takes, the factor there.
 #![tactic(auto)]
 
-ghost use Rattle.std.specs.Prelude.{◌≡◌, false, ◌<◌, length};
+ghost use Rattle.std.specs.Prelude.{◌≡◌, false, ◌<◌, ◌≤◌, length};
 ghost use Rattle.model.specs.Answer.{gives, row, ◌then◌};
+ghost use Rattle.model.specs.Points.{points_most};
 ghost use Rattle.model.specs.Read.{outside as lies_outside, segment_read, reading};
 ghost use Rattle.model.specs.Inner.{areas_of, Reached, Taken, Strides, LastOf};
 ghost use Rattle.refusal.specs.Refusal.{answer_at};
@@ -48,17 +49,17 @@ fn last_not_above<P: Points>(points: &P, from: u32, step: u32, end: u32, area: u
 }
 
 // The index of the left point of the segment that an area takes: among every eighth point, then among those from there on.
-pub fn search<P: Points>(curve: &Curve<P>, area: u32) -> usize
-    requires { Reached (areas_of (P.points curve.now.points)) 0 area }
-    ensures { Taken (areas_of (P.points curve.now.points)) result area }
+pub fn search<P: Points>(points: &P, area: u32) -> usize
+    requires most { length (P.points points.now) ≤ points_most }
+    requires reached { Reached (areas_of (P.points points.now)) 0 area }
+    ensures { Taken (areas_of (P.points points.now)) result area }
 {
-    let points = curve.points;
     if points.count() == 2 {
         return 0;
     }
     let last = (points.count() - 1) as u32;
-    let from = last_not_above(&points, 0, 8, last, area);
-    last_not_above(&points, from, 1, last.min(from + 8), area) as usize
+    let from = last_not_above(points, 0, 8, last, area);
+    last_not_above(points, from, 1, last.min(from + 8), area) as usize
 }
 
 // Row 7; then the index of the segment read.
@@ -70,7 +71,7 @@ pub fn locate<P: Points>(curve: &Curve<P>, area: u32) -> Result<usize, Row>
     if outside(&curve.points, area) {
         return Err(Row::Outside);
     }
-    Ok(search(curve, area))
+    Ok(search(&curve.points, area))
 }
 
 // The factor at an area, from the index of the segment read.
@@ -91,7 +92,7 @@ pub fn factor<P: Points>(curve: &Curve<P>, area: u32) -> i32
     requires { lies_outside (P.points curve.now.points) area ≡ false }
     ensures { result ≡ reading (P.points curve.now.points) (code_of curve.now.shape) area }
 {
-    factor_at(curve, search(curve, area), area)
+    factor_at(curve, search(&curve.points, area), area)
 }
 
 // Row 7; then the factor.

@@ -13,8 +13,8 @@ pub returns-then-bad_sheet : goal.returns-then-bad_sheet
 unfolding row ◌then◌
 returns-then-bad_sheet g c = rw (c.at.ensures, ← c.if-bad_sheet.ensures)
 
-pub count_inside-inside-requires : goal.count_inside-inside-requires
-count_inside-inside-requires g c = (row_8_passed _ _ (sym c.if-bad_sheet.ensures)).0
+pub count_inside-inside-requires-clause-step : goal.count_inside-inside-requires-clause-step
+count_inside-inside-requires-clause-step g c = (row_8_passed _ _ (sym c.if-bad_sheet.ensures)).0
 
 pub overflow_cast-inside : goal.overflow_cast-inside
 overflow_cast-inside g c = record { fits = omega (arith, row_8_passed _ _ (sym c.if-bad_sheet.ensures)) }

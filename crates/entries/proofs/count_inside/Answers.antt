@@ -7,7 +7,7 @@ use Rattle.model.specs.Inner.{areas_of, first_answer}
 use Rattle.model.specs.Sheet.{entry_rows}
 use Rattle.model.proofs.Outside.{last, not_before, not_beyond, inside_of_both, outside_of_beyond}
 use Rattle.model.proofs.Places.{each_first}
-use Rattle.lookup.proofs.Areas.{size_of, area_at, least}
+use Rattle.lookup.proofs.Areas.{size_of, area_at}
 use Rattle.entries.proofs.count_inside.Goals as goal
 use Rattle.entries.proofs.count_inside.Goals.{After-area}
 
@@ -29,26 +29,17 @@ module _ (ps : List Point) (some : 0 < length (areas_of ps)) (start step : ℕ) 
   first_outside : (n : ℕ) → first_answer 7 ((last (areas_of ps) - start) / step + 1) n ≡ entry_rows ps start step n
   first_outside n = each_first _ 7 _ n entry_inside (λ h. next_outside)
 
-pub outside-requires : goal.outside-requires
-outside-requires g c = omega (arith, least _ _ c.args.curve.now.accepted)
-
 pub returns-then-outside : goal.returns-then-outside
 returns-then-outside g c n =
     each_first _ 7 0 n (λ j h. absurd (omega arith)) (λ h. rw (zero-mul, add-zero) (sym c.if-outside.ensures))
 
-pub overflow_sub-count : goal.overflow_sub-count
-overflow_sub-count g c = omega (arith, least _ _ c.args.curve.now.accepted)
-
-pub area-requires : goal.area-requires
-area-requires g c = omega (arith, least _ _ c.args.curve.now.accepted)
-
-last_is : (g : _) (c : After-area g) → c.area.result ≡ last (areas_of (g.P.Points.points c.args.curve.now.points))
+last_is : (g : _) (c : After-area g) → c.area.result ≡ last (areas_of (g.P.Points.points c.args.points.now))
 last_is g c =
-    let ps = g.P.Points.points c.args.curve.now.points in
+    let ps = g.P.Points.points c.args.points.now in
     rw (size_of ps, area_at ps (length ps - 1), ← c.count.ensures) c.area.ensures
 
-some_areas : (g : _) (c : After-area g) → 0 < length (areas_of (g.P.Points.points c.args.curve.now.points))
-some_areas g c = omega (arith, size_of (g.P.Points.points c.args.curve.now.points), least _ _ c.args.curve.now.accepted)
+some_areas : (g : _) (c : After-area g) → 0 < length (areas_of (g.P.Points.points c.args.points.now))
+some_areas g c = rw (size_of (g.P.Points.points c.args.points.now)) c.requires.points
 
 pub overflow_sub-result : goal.overflow_sub-result
 overflow_sub-result g c =
@@ -59,4 +50,4 @@ pub returns : goal.returns
 returns g c n =
     let at = (goal.at.returns g c).After-area in
     rw (last_is g at)
-    (first_outside _ (some_areas g at) c.args.steps.start c.args.steps.step c.requires (sym c.if-outside.ensures) n)
+    (first_outside _ (some_areas g at) c.args.steps.start c.args.steps.step c.requires.step (sym c.if-outside.ensures) n)
