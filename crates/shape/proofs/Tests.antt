@@ -7,6 +7,7 @@
 --   order_test      shape 2: left slope below chord and chord below right slope, or all three equal, as a test
 --   convex_test     of the slopes of a segment; concave_test, of the mirrored segment: the same slopes from right to left
 --   mirrored_slope, mirrored_chord   which are those of the segment with their signs changed
+--   mirrored_rise   the mirrored points rise by what the value falls
 -- Assumes nothing.
 use mathlib.Core.Path.{◌≡◌, refl, ◌∙◌, ap₂}
 use mathlib.Core.Bool.{Bool, true, false, cond, ◌&&◌, ◌||◌, or-false, and-false, and_comm}
@@ -15,7 +16,7 @@ use mathlib.Core.Logic.{inl, inr}
 use Prim.Native.Nat.{ℕ, ◌≤◌, ◌<◌}
 use native.Mathlib.Omega.{arith}
 use lib.Dec.{T, eqb}
-use lib.IntN.{ℤ, pos, neg_ℤ, ◌*ℤ◌, *ℤ_comm, +ℤ_invr}
+use lib.IntN.{ℤ, pos, neg_ℤ, ◌-ℤ◌, ◌*ℤ◌, *ℤ_comm, +ℤ_invr}
 use lib.Signed.{le_z, lt_z}
 use mir.Syntax.{w32}
 use mir.Val.{SFits, to_z, of_z}
@@ -107,6 +108,12 @@ module _ {s : Segment} (n : Neighbours s) where
       rw (eq_bits (slope_fits n.left) (zero_fits w32), eq_bits (slope_fits n.right) (zero_fits w32)) (level_shape s e)
 
 -- ---- shape 3, by the mirrored points
+
+pub mirrored_rise : {s : Segment} → Neighbours s → rise (mirror_segment s) ≡ pos s.left.value -ℤ pos s.right.value
+unfolding mirror
+mirrored_rise {s} n =
+    rw (← Z.difference_of_≤ n.left.value, ← Z.difference_of_≤ n.right.value)
+    (ring (pos s.left.value ∷ pos s.right.value ∷ []) (search terms depth 20 fits 9999) tt)
 
 pub falling_test : (s : Segment) → segment_test (rule_of 3) s ≡ has_shape rising (mirror_segment s)
 unfolding segment_test

@@ -111,6 +111,26 @@ impl Segment {
         }
     }
 
+    // Upside down between its own two values: it rises where the mirrored points do, and the compiler has no value to take from
+    // 200,000.
+    fn flipped(self) -> Self
+        ensures { has_shape rising (segment_of result.left result.right)
+            ≡ has_shape rising (mirror_segment (segment_of self.left self.right)) }
+    {
+        Segment {
+            left: Point {
+                area: self.left.area,
+                value: self.right.value,
+                slope: -self.left.slope,
+            },
+            right: Point {
+                area: self.right.area,
+                value: self.left.value,
+                slope: -self.right.slope,
+            },
+        }
+    }
+
     // Shape 1.
     fn rises(self) -> bool
         ensures { result ≡ has_shape rising (segment_of self.left self.right) }
@@ -135,7 +155,7 @@ impl Segment {
                 let e = self.slopes();
                 bends(e.left, e.chord, e.right)
             }
-            Shape::Falling => self.mirror().rises(),
+            Shape::Falling => self.flipped().rises(),
             Shape::Concave => {
                 let e = self.slopes();
                 bends(e.right, e.chord, e.left)
