@@ -1,12 +1,11 @@
 // The desk reading.
 #![tactic(auto)]
 
-ghost use Rattle.std.specs.Prelude.{◌≡◌, ◌<◌, ◌≤◌, ◌*◌, ◌++◌, length, take, drop};
+ghost use Rattle.std.specs.Prelude.{◌≡◌, ◌≤◌, ◌*◌, ◌++◌, length, take, drop};
 ghost use Rattle.model.specs.Answer.{filled};
 ghost use Rattle.layout.specs.Layout.{record_size, count};
 ghost use Rattle.desk_answer.specs.Desk.{desk_answer, desk_number, point_records};
 ghost use Rattle.desk_answer.specs.Inner.{Answered};
-ghost use Rattle.desk.specs.Inner.{CopiedTo};
 
 use desk_answer::copy_block;
 use layout::{CurveFile, HEAD_SIZE, RECORD_SIZE};
@@ -14,23 +13,7 @@ use points::Points;
 use refusal::{Refusal, Row};
 use rows::Curve;
 
-// Copies from an index on by blocks of N bytes, and gives the index after them. (By one `copy_from_slice`, whose size is not
-// known, the copy of a short curve takes longer.)
-fn copy_blocks<const N: usize>(src: &[u8], from: usize, dst: &mut [u8]) -> usize
-    requires begun { CopiedTo src.now dst.old dst.old from }
-    requires size { 0 < N }
-    ensures copied { CopiedTo src.now dst.old dst.new result }
-    ensures onward { from ≤ result }
-{
-    let blocks = (src.len() - from) / N;
-    for k in 0..blocks {
-        copy_block::<N>(src, from + N * k, dst, from + N * k);
-    }
-    from + N * blocks
-}
-
-// Copies all of src to the start of dst: by blocks of four records, what is left by blocks of two, then the rest. Two records,
-// the fewest of a curve, are one block.
+// Copies all of src to the start of dst. Two records, the fewest of a curve, are one block.
 fn copy(src: &[u8], dst: &mut [u8])
     requires { length src.now ≤ length dst.old }
     ensures { dst.new
@@ -40,10 +23,7 @@ fn copy(src: &[u8], dst: &mut [u8])
         copy_block::<24>(src, 0, dst, 0);
         return;
     }
-    let mut at = copy_blocks::<48>(src, 0, dst);
-    at = copy_blocks::<24>(src, at, dst);
-    let end = src.len();
-    dst[at..end].copy_from_slice(&src[at..]);
+    dst[..src.len()].copy_from_slice(src);
 }
 
 // desk_two has these steps too, but asks for other room and copies other records: two of the seven.

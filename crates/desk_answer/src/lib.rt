@@ -24,8 +24,5 @@ pub fn copy_block<const N: usize>(src: &[u8], from: usize, dst: &mut [u8], to: u
     requires { Fits from to N (length src.now) (length dst.old) }
     ensures { dst.new ≡ copied from to N src.now dst.old }
 {
-    // No heap.
-    let mut block = [0u8; N];
-    block.copy_from_slice(&src[from..from + N]);
-    dst[to..to + N].copy_from_slice(&block);
+    dst[to..to + N].copy_from_slice(&src[from..from + N]);
 }

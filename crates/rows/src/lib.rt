@@ -163,17 +163,7 @@ pub fn check_lists(
     ensures accepted { IfOk result
         (λ shape. accepts (points_of_lists areas.now values.now slopes.now) (code_of shape) ≡ true) }
 {
-    if points::lengths_differ(areas.len(), values.len(), slopes.len()) {
-        return Err(Row::Count.at(0));
-    }
-    check(
-        &Lists {
-            areas,
-            values,
-            slopes,
-        },
-        code,
-    )
+    check(&Lists::new(areas, values, slopes)?, code)
 }
 
 // Points that rows 1 to 6 do not refuse, and their shape. Where speed matters it is made of a shape that `check` gives: a result
