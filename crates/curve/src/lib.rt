@@ -11,7 +11,6 @@ ghost use Rattle.refusal.specs.Refusal.{answer_of};
 ghost use Rattle.curve.specs.Calls.{checked_answer, reading_answer, filled_answer, InRange};
 
 use entries::Steps;
-use points::Lists;
 use refusal::{Refusal, Row};
 use rows::Curve;
 
@@ -28,7 +27,7 @@ pub fn check(areas: &[u32], values: &[u32], slopes: &[i32], shape: u32) -> Check
     ensures { checked_answer result
         ≡ on_lists areas.now values.now slopes.now (λ ps. check_answer ps shape) }
 {
-    match rows::check_lists(areas, values, slopes, shape) {
+    match Curve::of_lists(areas, values, slopes, shape) {
         Ok(_) => Checked::Segments((areas.len() - 1) as u32),
         Err(refusal) => Checked::Refused(refusal.row, refusal.place),
     }
@@ -52,15 +51,7 @@ fn factor(
     ensures { answer_of (λ f. f) result
         ≡ on_lists areas.now values.now slopes.now (λ ps. read_answer ps shape area) }
 {
-    let shape = rows::check_lists(areas, values, slopes, shape)?;
-    let curve = Curve {
-        points: Lists {
-            areas,
-            values,
-            slopes,
-        },
-        shape,
-    };
+    let curve = Curve::of_lists(areas, values, slopes, shape)?;
     Ok(lookup::read(&curve, area)?)
 }
 
@@ -99,15 +90,7 @@ fn fill(
         ≡ sheet_list (points areas.now values.now slopes.now) shape start step
         (answer_of (λ n. n) result) out.old }
 {
-    let shape = rows::check_lists(areas, values, slopes, shape)?;
-    let curve = Curve {
-        points: Lists {
-            areas,
-            values,
-            slopes,
-        },
-        shape,
-    };
+    let curve = Curve::of_lists(areas, values, slopes, shape)?;
     let steps = Steps { start, step };
     entries::check(&curve.points, steps, out.len())?;
     entries::fill(&curve, steps, out);

@@ -14,8 +14,9 @@ ghost use Rattle.file.specs.Calls.{opened_answer, written_answer};
 ghost use Rattle.file.specs.Inner.{head_of};
 
 use layout::{CurveFile, HEAD_SIZE, RECORD_SIZE};
-use points::{Lists, Points};
+use points::Points;
 use refusal::{Refusal, Row};
+use rows::Curve;
 use shape::Shape;
 
 // Row 11.
@@ -101,20 +102,12 @@ fn put(
         ≡ filled (answer_of (λ n. n) result)
         (file_bytes (points areas.now values.now slopes.now) shape) out.old }
 {
-    let shape = rows::check_lists(areas, values, slopes, shape)?;
+    let curve = Curve::of_lists(areas, values, slopes, shape)?;
     let size = HEAD_SIZE + RECORD_SIZE * areas.len();
     if out.len() < size {
         return Err(Row::Buffer.at(0));
     }
-    encoding::encode(
-        &Lists {
-            areas,
-            values,
-            slopes,
-        },
-        shape,
-        out,
-    );
+    encoding::encode(&curve.points, curve.shape, out);
     Ok(size as u32)
 }
 

@@ -1,4 +1,4 @@
--- What `check_lists` says of three lists.
+-- What `Curve::of_lists` says of three lists.
 --   with_code           what it answers: the code
 --   given, code_is      where it gives a shape, row 1 is passed, and its code is that of the lists
 --   listed_accepted     the points of the lists are accepted; size_listed, count_most, as many as areas, and at most 64

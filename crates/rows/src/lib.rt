@@ -149,25 +149,7 @@ pub fn check<P: Points>(points: &P, code: u32) -> Result<Shape, Refusal>
     }
 }
 
-// The same of three lists, as document 01 has them lent.
-pub fn check_lists(
-    areas: &[u32],
-    values: &[u32],
-    slopes: &[i32],
-    code: u32,
-) -> Result<Shape, Refusal>
-    ensures answer { answer_of code_of result
-        ≡ on_lists areas.now values.now slopes.now (λ ps. curve_rows ps code then gives code) }
-    ensures values { OnOk result (length areas.now ≡ length values.now) }
-    ensures slopes { OnOk result (length areas.now ≡ length slopes.now) }
-    ensures accepted { IfOk result
-        (λ shape. accepts (points_of_lists areas.now values.now slopes.now) (code_of shape) ≡ true) }
-{
-    check(&Lists::new(areas, values, slopes)?, code)
-}
-
-// Points that rows 1 to 6 do not refuse, and their shape. Where speed matters it is made of a shape that `check` gives: a result
-// that holds points beside a refusal goes through memory.
+// Points that rows 1 to 6 do not refuse, and their shape.
 #[derive(Drop)]
 pub struct Curve<P: Points> {
     pub points: P,
@@ -182,5 +164,22 @@ impl<P: Points> Curve<P> {
     {
         let shape = check(&points, code)?;
         Ok(Curve { points, shape })
+    }
+}
+
+impl<'a> Curve<Lists<'a>> {
+    // The same of three lists, as document 01 has them lent.
+    pub fn of_lists(
+        areas: &'a [u32],
+        values: &'a [u32],
+        slopes: &'a [i32],
+        code: u32,
+    ) -> Result<Self, Refusal>
+        ensures answer { answer_of (λ c. code_of c.shape) result
+            ≡ on_lists areas.now values.now slopes.now (λ ps. curve_rows ps code then gives code) }
+        ensures points { IfOk result (λ c. points_of_lists c.points.areas.now c.points.values.now c.points.slopes.now
+            ≡ points_of_lists areas.now values.now slopes.now) }
+    {
+        Curve::new(Lists::new(areas, values, slopes)?, code)
     }
 }

@@ -8,40 +8,42 @@ use Rattle.lookup.proofs.Areas.{least}
 use Rattle.curve.proofs.Entries.{refused_sheet, all_pass}
 use Rattle.curve.proofs.fill.Goals as goal
 
-pub returns-in_err-shape-clause-answer : goal.returns-in_err-shape-clause-answer
+pub returns-in_err-curve-clause-answer : goal.returns-in_err-curve-clause-answer
 unfolding sheet_answer
-returns-in_err-shape-clause-answer c =
-    refused_exit _ _ _ c.from_residual.ensures.1 ∙ refused_listed _ _ _ _ _ c.in_err-shape.ensures.answer
+returns-in_err-curve-clause-answer c =
+    refused_exit _ _ _ c.from_residual.ensures.1 ∙ refused_listed _ _ _ _ _ c.in_err-curve.ensures.answer
 
-pub returns-in_err-shape-clause-list : goal.returns-in_err-shape-clause-list
+pub returns-in_err-curve-clause-list : goal.returns-in_err-curve-clause-list
 unfolding sheet_list
-returns-in_err-shape-clause-list c = let e = refused_exit (λ (n : ℕ). n) _ _ c.from_residual.ensures.1 in rw e
+returns-in_err-curve-clause-list c = let e = refused_exit (λ (n : ℕ). n) _ _ c.from_residual.ensures.1 in rw e
 
 pub check-requires : goal.check-requires
-check-requires c = omega (arith, least _ _ c.in_ok-shape.ensures.accepted)
+check-requires c = omega (arith, least _ _ c.in_ok-curve.curve.accepted)
 
 pub returns-in_err-check-clause-answer : goal.returns-in_err-check-clause-answer
 unfolding sheet_answer
 returns-in_err-check-clause-answer c =
     refused_exit _ _ _ c.from_residual-in_err-check.ensures.1
-    ∙ refused_sheet _ _ _ _ c.in_ok-shape.ensures.answer _ _ _ c.in_err-check.ensures
+    ∙ refused_sheet _ _ _ _ c.in_ok-curve.ensures.answer _ _ _ (rw c.in_ok-curve.ensures.points at c.in_err-check.ensures)
 
 pub returns-in_err-check-clause-list : goal.returns-in_err-check-clause-list
 unfolding sheet_list
 returns-in_err-check-clause-list c = let e = refused_exit (λ (n : ℕ). n) _ _ c.from_residual-in_err-check.ensures.1 in rw e
 
 pub fill-requires : goal.fill-requires
-fill-requires c = (all_pass _ _ _ _ c.in_ok-shape.ensures.answer _ _ _ c.in_ok-check.ensures).inside
+fill-requires c =
+    rw c.in_ok-curve.ensures.points
+    (all_pass _ _ _ _ c.in_ok-curve.ensures.answer _ _ _ (rw c.in_ok-curve.ensures.points at c.in_ok-check.ensures)).inside
 
 pub overflow_cast-result : goal.overflow_cast-result
 overflow_cast-result c =
-    let k = all_pass _ _ _ _ c.in_ok-shape.ensures.answer _ _ _ c.in_ok-check.ensures in
+    let k = all_pass _ _ _ _ c.in_ok-curve.ensures.answer _ _ _ (rw c.in_ok-curve.ensures.points at c.in_ok-check.ensures) in
     record { fits = omega (arith, k.most) }
 
 pub returns-clause-answer : goal.returns-clause-answer
 unfolding sheet_answer
 returns-clause-answer c =
-    ap gives (search rules) ∙ (all_pass _ _ _ _ c.in_ok-shape.ensures.answer _ _ _ c.in_ok-check.ensures).answer
+    ap gives (search rules) ∙ (all_pass _ _ _ _ c.in_ok-curve.ensures.answer _ _ _ (rw c.in_ok-curve.ensures.points at c.in_ok-check.ensures)).answer
 
 pub returns-clause-list : goal.returns-clause-list
 unfolding sheet_list
@@ -49,4 +51,4 @@ returns-clause-list c =
     let k = c.args in
     let n = length k.out.now in
     let same : length c.fill.new.out ≡ n = search rules in
-    rw same (rw (← code_is _ _ _ _ c.in_ok-shape.ensures.answer) at c.fill.ensures)
+    rw same (rw (c.in_ok-curve.ensures.points, ← code_is _ _ _ _ c.in_ok-curve.ensures.answer) at c.fill.ensures)
