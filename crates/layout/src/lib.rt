@@ -61,7 +61,7 @@ pub fn check(bytes: &[u8]) -> Result<(), Row>
     Ok(())
 }
 
-// A file that rows 9 and 10 do not refuse. Where speed matters it is made after `check`, as a `Curve` is.
+// A file that rows 9 and 10 do not refuse. Where speed matters it is made after `check`, as the `Curve` of one is.
 #[derive(Clone, Copy)]
 pub struct CurveFile<'a> {
     pub bytes: &'a [u8],

@@ -149,7 +149,8 @@ pub fn check<P: Points>(points: &P, code: u32) -> Result<Shape, Refusal>
     }
 }
 
-// Points that rows 1 to 6 do not refuse, and their shape.
+// Points that rows 1 to 6 do not refuse, and their shape. The desk readings make it of a shape that `check` gives: a result that
+// holds the points of a file goes through memory.
 #[derive(Drop)]
 pub struct Curve<P: Points> {
     pub points: P,
