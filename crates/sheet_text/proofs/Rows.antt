@@ -1,5 +1,5 @@
 -- The rows of a file for a sheet.
---   answer_map, ok_is    what a result says of a part of its value
+--   ok_is                what a result says of a part of its value
 --   head_passed          a file whose head is right
 --   head_refused         rows 9 and 10 of the file's head decide
 --   too_long             a file of more than 775 bytes, whose head is right
@@ -12,7 +12,6 @@ use Rattle.model.specs.Answer.{Answer, gives, refused, row, ◌then◌}
 use Rattle.model.specs.Points.{points_most}
 use Rattle.model.specs.Check.{curve_rows}
 use Rattle.model.proofs.Rows.{gives_injective, refused≢gives, then_first, then_rest, row_passed}
-use Rattle.model.proofs.Answers.{then_refused, refused_first}
 use Rattle.refusal.specs.declared.Refusal.{Refusal}
 use Rattle.refusal.specs.Refusal.{answer_of}
 use Rattle.layout.specs.Layout.{point_offset, shape_code, count, points_of}
@@ -22,12 +21,6 @@ use Rattle.file.specs.Open.{short_list, open_answer}
 use Rattle.sheet_text.specs.SheetText.{file_answer}
 
 module _ {A B C : Type 0} (f : A → B) (g : B → C) (rows : Answer (Unit {0})) (x : B) where
-  pub answer_map : (r : Result A Refusal) → answer_of f r ≡ (rows then gives x) →
-      answer_of (λ a. g (f a)) r ≡ (rows then gives (g x))
-  unfolding ◌then◌
-  answer_map (Ok a) e = rw (then_first rows _ (sym e), gives_injective (then_rest rows _ (sym e)))
-  answer_map (Err d) e = sym (then_refused rows _ (refused_first rows x (sym e)))
-
   pub ok_is : (r : Result A Refusal) → answer_of f r ≡ (rows then gives x) → IfOk r (λ a. g (f a) ≡ g x)
   ok_is (Ok a) e = ap g (sym (gives_injective (then_rest rows _ (sym e))))
   ok_is (Err d) e = tt

@@ -1,9 +1,9 @@
 -- Rows 9 and 10, the length, then rows 1 to 6 of the points.
 use Rattle.std.proofs.Common.{sym, ◌∙◌}
 use Rattle.model.proofs.Answers.{refused_first}
-use Rattle.refusal.proofs.Results.{refused_exit}
+use Rattle.refusal.proofs.Results.{refused_exit, answer_through}
 use Rattle.layout.specs.Layout.{count}
-use Rattle.sheet_text.proofs.Rows.{answer_map, ok_is, head_passed, head_refused, too_long, points_decide}
+use Rattle.sheet_text.proofs.Rows.{ok_is, head_passed, head_refused, too_long, points_decide}
 use Rattle.sheet_text.proofs.accept.Goals as goal
 
 pub returns-in_err-file-clause-answer : goal.returns-in_err-file-clause-answer
@@ -18,7 +18,7 @@ returns-then-bytes-gt-FILE_MOST-clause-answer c =
 pub returns-clause-answer : goal.returns-clause-answer
 returns-clause-answer c =
     let head = head_passed c.in_ok-file.ensures in
-    answer_map _ (λ p. record { shape = p.1; count = count c.args.bytes.now }) _ _ _ c.new-2.ensures
+    answer_through _ (λ p. record { shape = p.1; count = count c.args.bytes.now }) _ _ _ c.new-2.ensures
     ∙ rw (c.code.ensures, head.1) (points_decide _ head.0 c.if-bytes-gt-FILE_MOST.false)
 
 pub returns-clause-file : goal.returns-clause-file
