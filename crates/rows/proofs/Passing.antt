@@ -8,8 +8,9 @@
 --   code_passed        row 2 is passed by the code of a shape
 --   accepts_of, accepted    which is what `accepts` says
 --   accepted_result    so does a result that is the answer of rows 1 to 6
+--   ok_is              what a result that some rows answer says of a part of its value
 -- Assumes nothing.
-use mathlib.Core.Path.{◌≡◌, refl, sym, ◌∙◌}
+use mathlib.Core.Path.{◌≡◌, refl, sym, ◌∙◌, ap}
 use mathlib.Core.Bool.{true, false}
 use mathlib.Core.List.{List, [], ◌∷◌}
 use mathlib.Core.Option.{none, some}
@@ -54,6 +55,12 @@ accepted_result (Ok shape) ps code e =
     rw (← gives_injective (then_rest (curve_rows ps code) (gives code) (sym e)))
     (accepts_of ps code (then_first (curve_rows ps code) (gives code) (sym e)))
 accepted_result (Err refusal) ps code e = tt
+
+pub ok_is : {A B C : Type 0} (f : A → B) (g : B → C) (rows : Answer (Unit {0})) (x : B) (r : Result A Refusal) →
+    answer_of f r ≡ (rows then gives x) →
+    IfOk r (λ a. g (f a) ≡ g x)
+ok_is f g rows x (Ok a) e = ap g (sym (gives_injective (then_rest rows (gives x) (sym e))))
+ok_is f g rows x (Err d) e = tt
 
 pub count_passed : (n : ℕ) → bad_count n ≡ false → Count n
 count_passed n e = let k = count_of_row_1 n e in record { least = k.0; most = k.1 }

@@ -1,29 +1,20 @@
 -- The rows of a file for a sheet.
---   ok_is                what a result says of a part of its value
 --   head_passed          a file whose head is right
 --   head_refused         rows 9 and 10 of the file's head decide
 --   too_long             a file of more than 775 bytes, whose head is right
 --   points_decide        otherwise rows 1 to 6 of the points do
 -- Assumes nothing.
-use Rattle.std.proofs.Common.{◌≡◌, sym, ap, ℕ, ◌≤◌, ◌<◌, Bool, true, false, List, length, arith}
-use Rattle.std.specs.Prelude.{Result, Ok, Err, IfOk}
+use Rattle.std.proofs.Common.{◌≡◌, sym, ℕ, ◌≤◌, ◌<◌, Bool, true, false, List, length, arith}
 use borrow.Author.Tests.{lt-ltb, le-ltb}
 use Rattle.model.specs.Answer.{Answer, gives, refused, row, ◌then◌}
 use Rattle.model.specs.Points.{points_most}
 use Rattle.model.specs.Check.{curve_rows}
 use Rattle.model.proofs.Rows.{gives_injective, refused≢gives, then_first, then_rest, row_passed}
-use Rattle.refusal.specs.declared.Refusal.{Refusal}
-use Rattle.refusal.specs.Refusal.{answer_of}
 use Rattle.layout.specs.Layout.{point_offset, shape_code, count, points_of}
 use Rattle.layout.specs.Head.{bad_head, bad_size, head_rows}
 use Rattle.layout.proofs.Heads.{size_of_passed}
 use Rattle.file.specs.Open.{short_list, open_answer}
 use Rattle.sheet_text.specs.SheetText.{file_answer}
-
-module _ {A B C : Type 0} (f : A → B) (g : B → C) (rows : Answer (Unit {0})) (x : B) where
-  pub ok_is : (r : Result A Refusal) → answer_of f r ≡ (rows then gives x) → IfOk r (λ a. g (f a) ≡ g x)
-  ok_is (Ok a) e = ap g (sym (gives_injective (then_rest rows _ (sym e))))
-  ok_is (Err d) e = tt
 
 -- two rows that refuse do so with another between them that refuses by the second's number
 between : {A : Type 0} {n i : ℕ} (a b c : Bool) (rest : Answer A) → (row a 9 0 then row c 10 0) ≡ refused n i →

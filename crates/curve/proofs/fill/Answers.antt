@@ -37,13 +37,14 @@ fill-requires c =
 
 pub overflow_cast-result : goal.overflow_cast-result
 overflow_cast-result c =
-    let k = all_pass _ _ _ _ c.in_ok-curve.ensures.answer _ _ _ (rw c.in_ok-curve.ensures.points at c.in_ok-check.ensures) in
-    record { fits = omega (arith, k.most) }
+    let p = rw c.in_ok-curve.ensures.points at c.in_ok-check.ensures in
+    record { fits = omega (arith, (all_pass _ _ _ _ c.in_ok-curve.ensures.answer _ _ _ p).most) }
 
 pub returns-clause-answer : goal.returns-clause-answer
 unfolding sheet_answer
 returns-clause-answer c =
-    ap gives (search rules) ∙ (all_pass _ _ _ _ c.in_ok-curve.ensures.answer _ _ _ (rw c.in_ok-curve.ensures.points at c.in_ok-check.ensures)).answer
+    let p = rw c.in_ok-curve.ensures.points at c.in_ok-check.ensures in
+    ap gives (search rules) ∙ (all_pass _ _ _ _ c.in_ok-curve.ensures.answer _ _ _ p).answer
 
 pub returns-clause-list : goal.returns-clause-list
 unfolding sheet_list

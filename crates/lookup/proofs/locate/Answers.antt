@@ -14,7 +14,8 @@ pub search-requires-clause-most : goal.search-requires-clause-most
 search-requires-clause-most g c = most _ _ c.args.curve.now.accepted
 
 pub search-requires-clause-reached : goal.search-requires-clause-reached
-search-requires-clause-reached g c = reached_first _ _ c.args.curve.now.accepted c.args.area (sym c.outside.ensures ∙ c.if-outside.false)
+search-requires-clause-reached g c =
+    reached_first _ _ c.args.curve.now.accepted c.args.area (sym c.outside.ensures ∙ c.if-outside.false)
 
 pub returns : goal.returns
 unfolding row ◌then◌

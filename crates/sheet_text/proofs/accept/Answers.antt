@@ -3,7 +3,8 @@ use Rattle.std.proofs.Common.{sym, ◌∙◌}
 use Rattle.model.proofs.Answers.{refused_first}
 use Rattle.refusal.proofs.Results.{refused_exit, answer_through}
 use Rattle.layout.specs.Layout.{count}
-use Rattle.sheet_text.proofs.Rows.{ok_is, head_passed, head_refused, too_long, points_decide}
+use Rattle.rows.proofs.Passing.{ok_is}
+use Rattle.sheet_text.proofs.Rows.{head_passed, head_refused, too_long, points_decide}
 use Rattle.sheet_text.proofs.accept.Goals as goal
 
 pub returns-in_err-file-clause-answer : goal.returns-in_err-file-clause-answer

@@ -1,21 +1,12 @@
 -- Row 1 of the lists, then the rows of their points.
-use Rattle.std.proofs.Common.{sym, ◌∙◌, ◌≡◌, ap}
-use Rattle.std.specs.Prelude.{Result, Ok, Err, IfOk}
-use Rattle.model.specs.Answer.{Answer, gives, row, ◌then◌}
+use Rattle.std.proofs.Common.{sym, ◌∙◌}
+use Rattle.model.specs.Answer.{gives, row, ◌then◌}
 use Rattle.model.specs.Points.{points}
 use Rattle.model.specs.Check.{on_lists, curve_rows}
 use Rattle.model.proofs.Rows.{row_passed, row_refused, then_rest, gives_injective}
-use Rattle.refusal.specs.declared.Refusal.{Refusal}
-use Rattle.refusal.specs.Refusal.{answer_of}
 use Rattle.refusal.proofs.Results.{refused_exit, answer_through}
+use Rattle.rows.proofs.Passing.{ok_is}
 use Rattle.rows.proofs.Curve+Lists.of_lists.Goals as goal
-
-ok_gives : {A B : Type 0} {P : A → Type 0} (f : A → B) (r : Result A Refusal) (rows : Answer (Unit {0})) (b : B) →
-    answer_of f r ≡ (rows then gives b) →
-    ((x : A) → f x ≡ b → P x) →
-    IfOk r P
-ok_gives f (Ok x) rows b e k = k x (sym (gives_injective (then_rest rows (gives b) (sym e))))
-ok_gives f (Err d) rows b e k = tt
 
 pub returns-in_err-new-clause-answer : goal.returns-in_err-new-clause-answer
 unfolding on_lists row ◌then◌
@@ -35,4 +26,4 @@ pub returns-clause-points : goal.returns-clause-points
 returns-clause-points c =
     let given = points c.args.areas.now c.args.values.now c.args.slopes.now in
     let same = gives_injective (then_rest (row _ 1 0) (gives given) (sym c.in_ok-new.ensures)) in
-    ok_gives _ _ (curve_rows _ _) _ c.new-2.ensures (λ x e. ap (λ q. points q.0.areas.now q.0.values.now q.0.slopes.now) e ∙ sym same)
+    rw same (ok_is _ (λ p. points p.0.areas.now p.0.values.now p.0.slopes.now) (curve_rows _ _) _ _ c.new-2.ensures)
