@@ -9,7 +9,8 @@ INSTALL ?= install
 version := $(shell cat VERSION)
 major := $(firstword $(subst ., ,$(version)))
 lib = target/lib/libfactor_curves
-exported = desk_c desk_two_c export_check export_read export_pair export_sheet export_open export_write export_fill_slopes
+exported = desk_c desk_two_c export_check export_read export_pair export_sheet export_open export_write export_fill_slopes \
+  export_import
 objects = target/lib/objects
 # Code for every x86-64 processor; without this rt's is for x86-64-v2.
 cpu = --cpu x86-64

@@ -35,6 +35,7 @@ typedef struct {
     __typeof__(curve_write) *write;
     __typeof__(curve_sheet) *sheet;
     __typeof__(curve_fill_slopes) *fill_slopes;
+    __typeof__(curve_import) *import;
 } version;
 
 /* What is not linked has the address 0 and is not timed. */
@@ -50,12 +51,14 @@ DECLARE(curve_open)
 DECLARE(curve_write)
 DECLARE(curve_sheet)
 DECLARE(curve_fill_slopes)
+DECLARE(curve_import)
 __typeof__(steffen_sheet) steffen_sheet WEAK;
 
 #define ALL(prefix)                                                            \
     {prefix##desk_reading, prefix##desk_reading_two, prefix##curve_read,       \
      prefix##curve_pair,   prefix##curve_check,      prefix##curve_open,       \
-     prefix##curve_write,  prefix##curve_sheet,      prefix##curve_fill_slopes}
+     prefix##curve_write,  prefix##curve_sheet,                                \
+     prefix##curve_fill_slopes, prefix##curve_import}
 static const version versions[VERSIONS] = {ALL(), ALL(plain_), ALL(native_)};
 
 /* ---- inputs ---- */
@@ -67,6 +70,7 @@ typedef struct {
     int32_t slopes[CURVE_POINTS_MAX];
     double x[CURVE_POINTS_MAX], y[CURVE_POINTS_MAX];
     uint8_t file[CURVE_FILE_MAX];
+    uint8_t triples[CURVE_TRIPLE_BYTES * CURVE_POINTS_MAX];
 } curve;
 
 static curve curves[CURVES];
@@ -95,6 +99,8 @@ static void load(curve *c, const char *name)
     for (size_t i = 0; i < c->count; i++) {
         c->x[i] = c->areas[i];
         c->y[i] = c->values[i];
+        double triple[] = {c->x[i], c->y[i], c->slopes[i]};
+        memcpy(c->triples + CURVE_TRIPLE_BYTES * i, triple, sizeof triple);
     }
 }
 
@@ -190,6 +196,14 @@ static inline int64_t one_fill_slopes(const version *v, int i, output *to)
                           c->count);
 }
 
+static inline int64_t one_import(const version *v, int i, output *to)
+{
+    const curve *c = &curves[i % CURVES];
+    return v->import(c->triples, CURVE_TRIPLE_BYTES * c->count, c->shape,
+                     to->areas, CURVE_POINTS_MAX, to->values, CURVE_POINTS_MAX,
+                     to->slopes, CURVE_POINTS_MAX);
+}
+
 /* From the first area on, as far as whole steps go. */
 static uint32_t step_of(const curve *c)
 {
@@ -255,6 +269,7 @@ BATCH(check)
 BATCH(open)
 BATCH(write)
 BATCH(fill_slopes)
+BATCH(import)
 
 /* Nanoseconds for one entry, which do not depend much on the points. */
 static double sheet_batch(const version *v, int loops)
@@ -420,6 +435,7 @@ int main(int argc, char **argv)
         CALL("open", curve_open, open, CALLS, 4, 1),
         CALL("write", curve_write, write, CALLS, 4, 1),
         CALL("fill slopes", curve_fill_slopes, fill_slopes, CALLS, 1, 1),
+        CALL("import", curve_import, import, CALLS, 4, 1),
     };
     size_t count = sizeof calls / sizeof *calls;
     if (argc != 2)

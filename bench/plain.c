@@ -574,3 +574,130 @@ int64_t plain_curve_fill_slopes(const uint32_t *areas, size_t areas_len,
     memcpy(slopes, filled, count * sizeof slopes[0]);
     return (int64_t)count;
 }
+
+/* ---- binary64 triples ---- */
+
+typedef struct {
+    double area, value, slope;
+} triple;
+
+/*
+ * On a little-endian machine. Figure by figure: of 24 bytes at once gcc 12
+ * makes a copy in memory, from which it loads the figures.
+ */
+static inline double load_figure(const uint8_t *p)
+{
+    double x;
+    memcpy(&x, p, 8);
+    return x;
+}
+
+static inline triple load_triple(const uint8_t *p)
+{
+    triple t = {load_figure(p), load_figure(p + 8), load_figure(p + 16)};
+    return t;
+}
+
+/* A finite whole number. From 2^52 on there are no others but infinities. */
+static int is_whole(double x)
+{
+    if (x > -0x1p52 && x < 0x1p52)
+        return (double)(int64_t)x == x;
+    return x - x == 0;
+}
+
+/* For figures within the limits, which 32 bits hold. */
+static inline point whole_point(triple t)
+{
+    point p = {(uint32_t)(int32_t)t.area, (uint32_t)(int32_t)t.value,
+               (int32_t)t.slope};
+    return p;
+}
+
+/* Whether each figure is whole and within its limits; then p is the point. */
+static inline int taken(triple t, point *p)
+{
+    if (!(t.area >= 0 && t.area <= 20000 && t.value >= 0 &&
+          t.value <= 200000 && t.slope >= -10000 && t.slope <= 10000))
+        return 0;
+    *p = whole_point(t);
+    return (double)(int32_t)p->area == t.area &&
+           (double)(int32_t)p->value == t.value && (double)p->slope == t.slope;
+}
+
+/*
+ * The refusal at a triple that is not taken, or whose area is not by 1 to
+ * 2,000 beyond the one before.
+ */
+static int triple_fault(triple t, uint32_t before, int first)
+{
+    if (!is_whole(t.area) || !is_whole(t.value) || !is_whole(t.slope))
+        return 14;
+    if (t.area < 0 || t.area > 20000)
+        return 3;
+    if (!first && (t.area <= before || t.area > before + 2000.0))
+        return 3;
+    if (t.value < 0 || t.value > 200000)
+        return 4;
+    return 5;
+}
+
+/* Rows 14 and 3 to 6: a refusal, or 0. */
+static inline int64_t scan_triples(const uint8_t *bytes, size_t n,
+                                   uint32_t shape)
+{
+    triple t = load_triple(bytes);
+    point l, r;
+    size_t shapeless = n;
+    if (!taken(t, &l))
+        return refused(triple_fault(t, 0, 1), 0);
+    for (size_t i = 1; i < n; i++) {
+        t = load_triple(bytes + 24 * i);
+        if (!taken(t, &r) || r.area - l.area - 1 >= 2000)
+            return refused(triple_fault(t, l.area, 0), i);
+        if (!has_shape(l, r, shape) && shapeless == n)
+            shapeless = i - 1;
+        l = r;
+    }
+    return shapeless < n ? refused(6, shapeless) : 0;
+}
+
+/* Rows 1, 2, 14 and 3 to 6: a refusal, or 0. */
+static inline int64_t triples_fault(const uint8_t *bytes, size_t n,
+                                    uint32_t shape)
+{
+    if (n < 2 || n > 64)
+        return refused(1, 0);
+    if (shape == RISING)
+        return scan_triples(bytes, n, RISING);
+    if (shape == CONVEX)
+        return scan_triples(bytes, n, CONVEX);
+    if (shape == FALLING)
+        return scan_triples(bytes, n, FALLING);
+    if (shape == CONCAVE)
+        return scan_triples(bytes, n, CONCAVE);
+    return refused(2, 0);
+}
+
+/* Two passes: to keep the points until all are checked takes more time. */
+int64_t plain_curve_import(const uint8_t *bytes, size_t bytes_len,
+                           uint32_t shape, uint32_t *areas, size_t areas_len,
+                           uint32_t *values, size_t values_len,
+                           int32_t *slopes, size_t slopes_len)
+{
+    size_t n = bytes_len / 24;
+    if (bytes_len != 24 * n)
+        return refused(13, 0);
+    if (areas_len < n || values_len < n || slopes_len < n)
+        return refused(11, 0);
+    int64_t fault = triples_fault(bytes, n, shape);
+    if (fault)
+        return fault;
+    for (size_t i = 0; i < n; i++) {
+        point whole = whole_point(load_triple(bytes + 24 * i));
+        areas[i] = whole.area;
+        values[i] = whole.value;
+        slopes[i] = whole.slope;
+    }
+    return (int64_t)n;
+}

@@ -53,4 +53,9 @@ int64_t plain_curve_fill_slopes(const uint32_t *areas, size_t areas_len,
                                 const uint32_t *values, size_t values_len,
                                 int32_t *slopes, size_t slopes_len);
 
+int64_t plain_curve_import(const uint8_t *bytes, size_t bytes_len,
+                           uint32_t shape, uint32_t *areas, size_t areas_len,
+                           uint32_t *values, size_t values_len,
+                           int32_t *slopes, size_t slopes_len);
+
 #endif

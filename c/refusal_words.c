@@ -11,10 +11,10 @@ const char *curve_refusal_words(int number)
         return "the shape code is none of 1 (rising), 2 (convex), 3 (falling), "
                "4 (concave)";
     case CURVE_REFUSED_AREA:
-        return "an area is above 20,000, not larger than the one before, or "
-               "more than 2,000 beyond it";
+        return "an area is outside 0 to 20,000, not larger than the one "
+               "before, or more than 2,000 beyond it";
     case CURVE_REFUSED_VALUE:
-        return "a value is above 200,000";
+        return "a value is outside 0 to 200,000";
     case CURVE_REFUSED_SLOPE:
         return "a slope is outside -10,000 to 10,000";
     case CURVE_REFUSED_SEGMENT:
@@ -31,6 +31,10 @@ const char *curve_refusal_words(int number)
         return "a lent list or the scratch is too short";
     case CURVE_REFUSED_BUFFER:
         return "the buffer is too short for the curve file";
+    case CURVE_REFUSED_TRIPLES:
+        return "the length of the triples is no multiple of 24 bytes";
+    case CURVE_REFUSED_FIGURE:
+        return "a figure is not a finite whole number";
     default:
         return "unknown refusal";
     }

@@ -43,7 +43,7 @@ extern "C" {
 /*
  * The refusal numbers of factor_curves.h under a desk's names. If several
  * apply, the first in this order is given: 9, 10, 11, 1, 2, then 3 to 5 by
- * point, 6, 7. Number 8 is not used here.
+ * point, 6, 7. Numbers 8 and 12 to 14 are not used here.
  */
 #define DESK_REFUSED_COUNT CURVE_REFUSED_COUNT
 #define DESK_REFUSED_SHAPE CURVE_REFUSED_SHAPE

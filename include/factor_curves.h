@@ -29,7 +29,7 @@
 extern "C" {
 #endif
 
-#define FACTOR_CURVES_VERSION "0.6.0"
+#define FACTOR_CURVES_VERSION "0.7.0"
 
 /*
  * A curve is three lists of one length, 2 to 64, and a shape code. Point i is
@@ -58,16 +58,20 @@ extern "C" {
 #define CURVE_ENTRIES_MAX 1024 /* entries of a sheet */
 #define CURVE_FILE_MAX 775     /* bytes of an accepted curve's file */
 #define CURVE_COUNT_MAX 255    /* points that a file's head can state */
+#define CURVE_TRIPLE_BYTES 24  /* bytes of a point for curve_import */
 
 /*
- * Refusal numbers, in the order in which a call tries them (3, 4 and 5
+ * Refusal numbers, in the order in which a call tries them (14, 3, 4 and 5
  * together, point by point). The place counts from 0.
  */
 #define CURVE_REFUSED_MARK 9     /* under 7 bytes, not TRF, or not version 1 */
 #define CURVE_REFUSED_LENGTH 10  /* the length is not 7 + 12 * count */
+#define CURVE_REFUSED_TRIPLES 13 /* the length is no multiple of 24 bytes */
 #define CURVE_REFUSED_ROOM 11    /* a lent list, or the scratch, is too short */
 #define CURVE_REFUSED_COUNT 1    /* lengths differ, or not 2 to 64 points */
 #define CURVE_REFUSED_SHAPE 2    /* the shape code is outside 1 to 4 */
+#define CURVE_REFUSED_FIGURE 14  /* a point has a figure that is no finite whole
+                                    number; the place is the point */
 #define CURVE_REFUSED_AREA 3     /* a point's area; the place is the point */
 #define CURVE_REFUSED_VALUE 4    /* a point's value; the place is the point */
 #define CURVE_REFUSED_SLOPE 5    /* a point's slope; the place is the point;
@@ -95,9 +99,9 @@ extern "C" {
 const char *curve_refusal_words(int number);
 
 /*
- * What a caller of the seven calls owes, and nothing else:
+ * What a caller of the eight calls owes, and nothing else:
  *   - a pointer is good for its length, which counts entries (bytes for a
- *     file); where the length is 0 it may be null;
+ *     file or triples); where the length is 0 it may be null;
  *   - a list that a call writes (it is not const) overlaps no other one of
  *     the call, and nothing else reads or writes it during the call; lists
  *     that are only read may overlap, and nothing writes them meanwhile.
@@ -173,6 +177,27 @@ int64_t curve_write(const uint32_t *areas, size_t areas_len,
 int64_t curve_fill_slopes(const uint32_t *areas, size_t areas_len,
                           const uint32_t *values, size_t values_len,
                           int32_t *slopes, size_t slopes_len);
+
+/*
+ * The number of points, 2 to 64, of the triples that a statistics package
+ * exports: area, value and slope of each point as binary64 numbers, 8 bytes
+ * each, little-endian, and nothing before or after them. They are checked with
+ * the shape code given, and are then in the first entries of the lists; later
+ * entries keep what they held.
+ *
+ * A figure is taken if it is a whole number; minus zero is 0. Any other one, an
+ * infinity or a not-a-number too, is refused 14. A whole number beyond its
+ * limits is refused as everywhere, of whatever size it is, a negative area 3
+ * and a negative value 4.
+ *
+ * A bytes_len that is no multiple of CURVE_TRIPLE_BYTES is refused 13. Then a
+ * list with fewer entries than there are triples is refused 11. So lists of
+ * CURVE_POINTS_MAX entries are enough for all that can be accepted; too many
+ * points are refused 1 only if the lists have an entry for each, otherwise 11.
+ */
+int64_t curve_import(const uint8_t *bytes, size_t bytes_len, uint32_t shape,
+                     uint32_t *areas, size_t areas_len, uint32_t *values,
+                     size_t values_len, int32_t *slopes, size_t slopes_len);
 
 #ifdef __cplusplus
 }

@@ -31,6 +31,8 @@ from fractions import Fraction
 import exact_fractions as ref
 import file_kinds
 import half_kinds
+import import_kinds
+import import_notes
 import list_kinds
 import slope_kinds
 import two_kinds
@@ -38,7 +40,7 @@ import two_kinds
 SEED = 'factor curves 2'
 CHUNK = 500                     # cases that one random generator makes
 CALLS = ['desk', 'desk_two', 'check', 'read', 'pair', 'sheet', 'open', 'write',
-         'fill_slopes']
+         'fill_slopes', 'import']
 DESKS = ('desk', 'desk_two')
 ON_FILES = (*DESKS, 'open')
 LIMITS = [(0, 20000), (0, 200000), (-10000, -1, 0, 1, 10000)]
@@ -102,10 +104,14 @@ def sheet(fill, lists, shape, start, step, length):
             points_packed(lists) + [packed('i', after)])
 
 
-def open_file(fill, data, lengths):
-    lent = [numbers(letter, found(fill, 4 * length))
+def lent(fill, lengths):
+    """The three lists that Open and Import write, before the call."""
+    return [numbers(letter, found(fill, 4 * length))
             for letter, length in zip('IIi', lengths)]
-    answer, *after = ref.curve_open(data, *lent)
+
+
+def open_file(fill, data, lengths):
+    answer, *after = ref.curve_open(data, *lent(fill, lengths))
     return answer, [], [data] + points_packed(after)
 
 
@@ -121,10 +127,15 @@ def fill_slopes(fill, lists, length):
                         packed('i', after)]
 
 
+def import_points(fill, data, shape, lengths):
+    answer, *after = ref.curve_import(data, shape, *lent(fill, lengths))
+    return answer, [shape], [data] + points_packed(after)
+
+
 FUNCTIONS = [on_scratch(ref.desk), on_scratch(ref.desk_two), check, read, pair,
-             sheet, open_file, write, fill_slopes]
+             sheet, open_file, write, fill_slopes, import_points]
 WIDTHS = [(1, 1), (1, 1), (4, 4, 4), (4, 4, 4), (4,) * 4, (4,) * 4,
-          (1, 4, 4, 4), (4, 4, 4, 1), (4, 4, 4)]
+          (1, 4, 4, 4), (4, 4, 4, 1), (4, 4, 4), (1, 4, 4, 4)]
 
 
 def expected(fill, call, arguments):
@@ -151,17 +162,21 @@ def outcome(call, answer):
 
 
 def curve_of(call, arguments):
-    """Shape and count, if rows 9 and 10 are passed."""
+    """Shape and count, if rows 9, 10 and 13 are passed."""
     if call in ON_FILES:
         return arguments[0][5], arguments[0][6]
+    if call == 'import':
+        return arguments[1], len(arguments[0]) // 24
     shape = ref.RISING if call == 'fill_slopes' else arguments[1]
     return shape, len(arguments[0][0])
 
 
 def lists_of(call, arguments):
-    """The lists of a curve, of a file's too."""
+    """The lists of a curve, of a file's too; of triples that are taken."""
     if call in ON_FILES:
         return ref.file_lists(arguments[0])
+    if call == 'import':
+        return zip(*ref.import_points(*arguments)[2])
     return arguments[0]
 
 
@@ -309,9 +324,12 @@ def noted(call, arguments, answer):
         yield from noted_of_write(arguments, number, result)
     if call == 'fill_slopes':
         yield from noted_of_fill(arguments, number, result)
+    if call == 'import':
+        for note in import_notes.noted(arguments, number, result):
+            yield 'import', *note
     if number != 'ok':
         yield call, number, result
-        if number in (2, 3, 4, 5, 6):
+        if number in (2, 3, 4, 5, 6, 14):
             yield call, number, result, curve_of(call, arguments)[0]
         return
     yield (call, 'ok') + curve_of(call, arguments)
@@ -321,12 +339,12 @@ def noted(call, arguments, answer):
         yield from noted_of_reading(call, arguments)
     if call == 'sheet':
         yield 'entries', result
-    if call in ('open', 'write', 'fill_slopes'):
+    if call in ('open', 'write', 'fill_slopes', 'import'):
         yield from limits_of(call, arguments)
 
 
 def wanted_of_limits():
-    for call, shape in itertools.product(('open', 'write'), SHAPES):
+    for call, shape in itertools.product(('open', 'write', 'import'), SHAPES):
         fields = [*LIMITS[:2], SLOPE_LIMITS[shape]]
         for field, limits in enumerate(fields):
             for limit, count in itertools.product(limits, (2, 64)):
@@ -383,7 +401,7 @@ def wanted_of_rows(call):
     for shape in SHAPES:
         for count in range(2, 65):
             yield call, 'ok', shape, count
-        for number in (3, 4, 5, 6):
+        for number in (3, 4, 5, 6, *[14] * (call == 'import')):
             places = 1 if call in DESKS else 63 if number == 6 else 64
             for place in range(places):
                 yield call, number, place, shape
@@ -451,6 +469,7 @@ def wanted():
     yield from wanted_of_write()
     yield from wanted_of_fill()
     yield from wanted_of_reading()
+    yield from import_notes.wanted()
     for call in CALLS:
         if call != 'fill_slopes':
             yield from wanted_of_rows(call)
@@ -459,7 +478,8 @@ def wanted():
             yield call, number, 0
     yield from [('desk', 7, 0), ('desk_two', 7, 0), ('read', 7, 0),
                 ('pair', 7, 0), ('pair', 7, 1), ('pair', 11, 0),
-                ('sheet', 8, 0), ('write', 12, 0)]
+                ('sheet', 8, 0), ('write', 12, 0), ('import', 13, 0),
+                ('import', 11, 0)]
     for place in range(list_kinds.ENTRIES_MAX):
         yield 'sheet', 7, place
     for entries in (1, 2, 1023, 1024):
@@ -485,6 +505,7 @@ KINDS = [(on_files(kind), name, 9 * least // 4)
          for kind, name, least in file_kinds.KINDS]
 KINDS += half_kinds.KINDS
 KINDS += list_kinds.KINDS + slope_kinds.KINDS + two_kinds.KINDS
+KINDS += import_kinds.KINDS
 
 
 def chunk(job):

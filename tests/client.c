@@ -7,12 +7,14 @@
  * that ends early, with fewer than LEAST cases, or with fewer than a
  * thirtieth of that for a call, or if a call never gave a result or one of
  * the refusal numbers that it can give. Each case is run with its lists at
- * the start and at the end of pages, against pages that trap. What was written
- * is opened again and must be the lists that went in; what was opened is
- * written again and must be the file that went in. Where the scratch is long
- * enough, a desk reading gives the number that the other one gives, and Open
- * and Read. Slopes that were filled must be accepted, and be the same whatever
- * the list held before.
+ * the start and at the end of pages, against pages that trap; Import also with
+ * its bytes at other addresses. What was written is opened again and must be
+ * the lists that went in; what was opened is written and imported again and
+ * must be the file that went in, and the same lists. What was imported, or
+ * refused by rows 1 to 6, is so by Check too. Where the scratch is long enough,
+ * a desk reading gives the number that the other one gives, and Open and Read.
+ * Slopes that were filled must be accepted, and be the same whatever the list
+ * held before.
  *
  *     heap    each list is a block of its own, for a memory checker
  *     some    not every call and refusal is asked for
@@ -28,7 +30,7 @@
 #include "factor_curves.h"
 #include "lend.h"
 
-enum { NUMBER_MAX = 12, SHOWN = 5, ENTRIES_SHOWN = 70, VALUE_MAX = 200000 };
+enum { NUMBER_MAX = 14, SHOWN = 5, ENTRIES_SHOWN = 70, VALUE_MAX = 200000 };
 
 static unsigned long ran[KINDS_MAX], failures, below_zero, high, filled;
 static unsigned long called[CALLS], refusals[CALLS][NUMBER_MAX + 1];
@@ -187,6 +189,27 @@ static int writes_again(const test_case *c, uint8_t *const list[],
            memcmp(file, list[0], c->size[0]) == 0;
 }
 
+/* So are they if they are exported as binary64 and imported. */
+static int imports_again(const test_case *c, uint8_t *const list[],
+                         int64_t opened)
+{
+    double triples[3 * CURVE_POINTS_MAX] = {0};
+    uint32_t areas[CURVE_POINTS_MAX], values[CURVE_POINTS_MAX];
+    int32_t slopes[CURVE_POINTS_MAX];
+    size_t n = CURVE_COUNT(opened);
+    for (size_t i = 0; i < n; i++) {
+        triples[3 * i] = ((const uint32_t *)list[1])[i];
+        triples[3 * i + 1] = ((const uint32_t *)list[2])[i];
+        triples[3 * i + 2] = ((const int32_t *)list[3])[i];
+    }
+    return curve_import((const uint8_t *)triples, CURVE_TRIPLE_BYTES * n,
+                        CURVE_SHAPE(opened), areas, n, values, n, slopes,
+                        n) == (int64_t)n &&
+           memcmp(areas, c->list[1], n * sizeof *areas) == 0 &&
+           memcmp(values, c->list[2], n * sizeof *values) == 0 &&
+           memcmp(slopes, c->list[3], n * sizeof *slopes) == 0;
+}
+
 /* There and back, where the result is the expected one. */
 static int comes_back(const test_case *c, uint8_t *const list[], int64_t got)
 {
@@ -194,7 +217,8 @@ static int comes_back(const test_case *c, uint8_t *const list[], int64_t got)
         return 1;
     if (c->call == WRITE)
         return opens_again(c, list, (size_t)got);
-    return c->call != OPEN || writes_again(c, list, got);
+    return c->call != OPEN ||
+           (writes_again(c, list, got) && imports_again(c, list, got));
 }
 
 /* The case again, with this in every entry of the slope list. */
@@ -248,6 +272,39 @@ static void check_filled(const test_case *c, uint8_t *const list[],
         show(c, got, "not the same when filled again", -1);
 }
 
+/* The points of triples as lists, if 32 bits hold all of them. */
+static int as_lists(const uint8_t *bytes, size_t n, uint32_t *areas,
+                    uint32_t *values, int32_t *slopes)
+{
+    for (size_t i = 0; i < n; i++) {
+        double f[3];
+        memcpy(f, bytes + CURVE_TRIPLE_BYTES * i, sizeof f);
+        if (!(f[0] >= 0 && f[0] <= UINT32_MAX && f[1] >= 0 &&
+              f[1] <= UINT32_MAX && f[2] >= INT32_MIN && f[2] <= INT32_MAX))
+            return 0;
+        areas[i] = (uint32_t)f[0];
+        values[i] = (uint32_t)f[1];
+        slopes[i] = (int32_t)f[2];
+        if (areas[i] != f[0] || values[i] != f[1] || slopes[i] != f[2])
+            return 0;
+    }
+    return 1;
+}
+
+/* Import's answer without rows 13, 11 and 14, as Check gives it. */
+static int is_checked(const test_case *c, const uint8_t *bytes, int64_t got)
+{
+    uint32_t areas[CURVE_COUNT_MAX], values[CURVE_COUNT_MAX];
+    int32_t slopes[CURVE_COUNT_MAX];
+    int number = CURVE_IS_REFUSED(got) ? CURVE_REFUSAL(got) : 0;
+    size_t n = c->length[0] / CURVE_TRIPLE_BYTES;
+    if (number > CURVE_REFUSED_SEGMENT || n > CURVE_COUNT_MAX ||
+        !as_lists(bytes, n, areas, values, slopes))
+        return 1;
+    return curve_check(areas, n, values, n, slopes, n, c->number[0]) ==
+           (number > 0 ? got : got - 1);
+}
+
 static void run_case(const test_case *c, int where)
 {
     uint8_t *list[LISTS];
@@ -261,7 +318,9 @@ static void run_case(const test_case *c, int where)
     if (is_desk(c->call))
         check_desk(c, list[0], got);
     if (!comes_back(c, list, got))
-        show(c, got, "not the same after Write and Open", -1);
+        show(c, got, "not the same after Write, Open or Import", -1);
+    if (c->call == IMPORT && !is_checked(c, list[0], got))
+        show(c, got, "Check says something else", -1);
     give_back(where, list);
 }
 
@@ -274,6 +333,8 @@ static void run_all(test_case *c)
         else {
             run_case(c, AT_START);
             run_case(c, AT_END);
+            if (c->call == IMPORT)
+                run_case(c, AT_ODD);
         }
         ran[c->kind]++;
         called[c->call]++;
@@ -292,11 +353,11 @@ static void run_all(test_case *c)
 static int can_give(int call, int number)
 {
     static const char *const numbers[CALLS] = {
-        [DESK] = "1111111101110", [DESK_TWO] = "1111111101110",
-        [CHECK] = "1111111000000", [READ] = "1111111100000",
-        [PAIR] = "1111111100010", [SHEET] = "1111111110000",
-        [OPEN] = "1111111001110", [WRITE] = "1111111000001",
-        [FILL_SLOPES] = "1101111000000"};
+        [DESK] = "111111110111000", [DESK_TWO] = "111111110111000",
+        [CHECK] = "111111100000000", [READ] = "111111110000000",
+        [PAIR] = "111111110001000", [SHEET] = "111111111000000",
+        [OPEN] = "111111100111000", [WRITE] = "111111100000100",
+        [FILL_SLOPES] = "110111100000000", [IMPORT] = "111111100001011"};
     return numbers[call][number] == '1';
 }
 

@@ -10,6 +10,7 @@ Run as a program it is `ratesheet`: a curve file on standard input.
 
 import functools
 import math
+import struct
 import sys
 from fractions import Fraction
 
@@ -141,15 +142,16 @@ def has_shape(areas, values, slopes, shape, segment):
 # ---- Document 01, Refusals and their places ----
 
 def area_or_value_fault(areas, values, point):
-    """Rows 3 and 4 at one point: the number, or None."""
+    """Rows 3 and 4 at one point: the number, or None. Document 02, item 7: a
+    negative area counts under 3 and a negative value under 4."""
     area = areas[point]
-    if area > 20000:
+    if area < 0 or area > 20000:
         return 3
     if point > 0:
         before = areas[point - 1]
         if not area > before or area > before + 2000:
             return 3
-    if values[point] > 200000:
+    if values[point] < 0 or values[point] > 200000:
         return 4
     return None
 
@@ -423,6 +425,60 @@ def fill_slopes(areas, values, slopes_count):
     return ('ok', count, slopes)
 
 
+# ---- Document 02, item 7: points from the statistics package ----
+
+def triple(data, point):
+    """Area, value and slope of a point: binary64, little-endian, 24 bytes a
+    point, with no header."""
+    return [struct.unpack('<d', data[at:at + 8])[0]
+            for at in range(24 * point, 24 * point + 24, 8)]
+
+
+def is_whole(figure):
+    """A finite whole number; infinities and not-a-numbers are turned away."""
+    return math.isfinite(figure) and Fraction(figure).denominator == 1
+
+
+def whole(figure):
+    """The number that it is; minus zero is zero."""
+    return Fraction(figure).numerator
+
+
+def import_points(data, shape, lengths):
+    """Rows 13, 11, 1 and 2, then 14, 3, 4 and 5 at the first point with any of
+    them, then 6. `lengths`: those of the three lent lists.
+
+    Result: the count, and the points as (area, value, slope), which stand in
+    the first entries of the lent lists. The entries after them are as found;
+    after a refusal all entries are.
+    """
+    if len(data) % 24 != 0:
+        return refused(13, 0)
+    count = len(data) // 24
+    if any(length < count for length in lengths):
+        return refused(11, 0)
+    # As for a file, row 1 speaks of the count alone.
+    if count < 2 or count > 64:
+        return refused(1, 0)
+    if shape < 1 or shape > 4:
+        return refused(2, 0)
+    areas, values, slopes = [], [], []
+    for point in range(count):
+        figures = triple(data, point)
+        if not all(is_whole(figure) for figure in figures):
+            return refused(14, point)
+        for numbers, figure in zip((areas, values, slopes), figures):
+            numbers.append(whole(figure))
+        number = point_fault(areas, values, slopes, point)
+        if number is not None:
+            return refused(number, point)
+    # Every point passes, so that only row 6 can refuse these lists.
+    checked = check(areas, values, slopes, shape)
+    if checked[0] == 'refused':
+        return checked
+    return ('ok', count, list(zip(areas, values, slopes)))
+
+
 # ---- The C interface (include/factor_curves.h): answers and lists ----
 #
 # The lent lists go in as they are before the call. Each function gives the
@@ -461,16 +517,27 @@ def curve_sheet(areas, values, slopes, shape, start, step, out):
     return number_of(answer), answer[2]
 
 
+def written(points, areas, values, slopes):
+    """The lists with the points in their first entries."""
+    return [[point[field] for point in points] + found[len(points):]
+            for field, found in enumerate((areas, values, slopes))]
+
+
 def curve_open(data, areas, values, slopes):
     lengths = (len(areas), len(values), len(slopes))
     answer = open_file(data, lengths)
     if answer[0] == 'refused':
         return number_of(answer), areas, values, slopes
     shape, count, points = answer[1:]
-    return (256 * shape + count,
-            [point[0] for point in points] + areas[count:],
-            [point[1] for point in points] + values[count:],
-            [point[2] for point in points] + slopes[count:])
+    return 256 * shape + count, *written(points, areas, values, slopes)
+
+
+def curve_import(data, shape, areas, values, slopes):
+    lengths = (len(areas), len(values), len(slopes))
+    answer = import_points(data, shape, lengths)
+    if answer[0] == 'refused':
+        return number_of(answer), areas, values, slopes
+    return answer[1], *written(answer[2], areas, values, slopes)
 
 
 def curve_write(areas, values, slopes, shape, out):

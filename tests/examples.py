@@ -1,9 +1,9 @@
 """Document 01's examples as cases for client.c, to standard output.
 
 The expected answers are those that document 01 states, and document 02 of the
-file that is written, of the second desk reading and of halves; filled slopes,
-and falling and concave curves, are worked out by hand. If exact_fractions.py
-gives another, it is said and the exit status is 1.
+file that is written, of the second desk reading, of halves and of triples;
+filled slopes, and falling and concave curves, are worked out by hand. If
+exact_fractions.py gives another, it is said and the exit status is 1.
 """
 
 import sys
@@ -11,6 +11,7 @@ import sys
 import cases
 import curves
 from curve_file import curve_file
+from triples import triples
 
 FILL = 7
 STEEP = [(500, 10000, 0), (600, 14000, 10000)]
@@ -58,6 +59,8 @@ def passes(points, shape):
     yield ('open', (data, (count,) * 3), 256 * shape + count,
            [list(fields) for fields in lists])
     yield 'write', (lists, shape, len(data)), len(data), [data]
+    yield ('import', (triples(points), shape, (count,) * 3), count,
+           [list(fields) for fields in lists])
 
 
 def not_accepted(points, shape, number, place):
@@ -68,6 +71,8 @@ def not_accepted(points, shape, number, place):
     yield 'open', (data, (len(points),) * 3), answer, None
     yield 'write', (lists, shape, len(data)), answer, None
     yield 'write', (lists, shape, 0), answer, None
+    yield ('import', (triples(points), shape, (len(points),) * 3), answer,
+           None)
     yield from refused(points, shape, points[0][0], number, place)
 
 
@@ -194,6 +199,81 @@ def filled_limits():
     yield 'fill_slopes', (([0, 1], [5, 5]), 3), refusal(1, 0), None
 
 
+# K3's points as the package exports them: 500 is 125/64 of 2^8, 600 is 75/64
+# of 2^9, 10,000 and 14,000 are 625/512 and 875/512 of 2^13.
+TRIPLES = bytes.fromhex('00 00 00 00 00 40 7F 40 00 00 00 00 00 88 C3 40'
+                        '00 00 00 00 00 00 00 00'
+                        '00 00 00 00 00 C0 82 40 00 00 00 00 00 58 CB 40'
+                        '00 00 00 00 00 88 C3 40')
+STEEP_LISTS = [[500, 600], [10000, 14000], [0, 10000]]
+
+
+def exported():
+    """By hand, to the byte; minus zero is zero; longer lists; K1 and K3."""
+    minus = TRIPLES[:16] + bytes(7) + b'\x80' + TRIPLES[24:]
+    after = [cases.numbers(letter, cases.found(FILL, 20))[2:]
+             for letter in 'IIi']
+    for data, shape in ((TRIPLES, 2), (TRIPLES, 1), (minus, 2)):
+        yield 'import', (data, shape, (2, 2, 2)), 2, STEEP_LISTS
+        yield ('import', (data, shape, (5, 5, 5)), 2,
+               [points + found for points, found in zip(STEEP_LISTS, after)])
+    yield ('import', (triples([(0, 0, -300), (2, 0, 300)]), 2, (2, 2, 2)), 2,
+           [[0, 2], [0, 0], [-300, 300]])
+
+
+def not_imported(points, shape, number, place):
+    data = triples(points)
+    yield ('import', (data, shape, (len(data) // 24,) * 3),
+           refusal(number, place), None)
+
+
+def not_exported():
+    """Row 13, and the rows after it."""
+    for data, shape, lengths, number in (
+            (TRIPLES[:47], 2, (2, 2, 2), 13),
+            (TRIPLES + b'x', 2, (2, 2, 2), 13),
+            (TRIPLES[:1], 2, (0, 0, 0), 13), (TRIPLES[:47], 9, (0, 0, 0), 13),
+            (TRIPLES, 2, (1, 2, 2), 11), (TRIPLES, 2, (2, 1, 2), 11),
+            (TRIPLES, 2, (2, 2, 1), 11), (TRIPLES[:24], 9, (0, 9, 9), 11),
+            (b'', 2, (0, 0, 0), 1), (TRIPLES[:24], 9, (1, 1, 1), 1),
+            (triples(flat(65, 1)), 1, (65, 65, 64), 11),
+            (triples(flat(65, 1)), 1, (65, 65, 65), 1),
+            (TRIPLES, 0, (2, 2, 2), 2), (TRIPLES, 5, (2, 2, 2), 2),
+            (TRIPLES, 2**32 - 1, (2, 2, 2), 2),
+            (triples([(0.5, 5, 0), (1, 5, 0)]), 258, (2, 2, 2), 2)):
+        yield 'import', (data, shape, lengths), refusal(number, 0), None
+
+
+def figures():
+    """Each in each field of the second point: what is not a finite whole
+    number, and whole numbers of any size."""
+    start = (0, 5, 0)
+    for figure in (0.5, -0.5, 1.0000000000000002, 5e-324, float('inf'),
+                   float('-inf'), float('nan'), 2.0**52 - 0.5):
+        for point in ((figure, 5, 0), (1, figure, 0), (1, 5, figure)):
+            yield from not_imported([start, point], 1, 14, 1)
+    for figure in (-2.0**31, 2.0**32, 2.0**53, -2.0**63, 2.0**64, 1e300):
+        yield from not_imported([start, (figure, 5, 0)], 1, 3, 1)
+        yield from not_imported([start, (1, figure, 0)], 1, 4, 1)
+        yield from not_imported([start, (1, 5, figure)], 1, 5, 1)
+    yield from not_imported([(-1, 5, 0), (1, 5, 0)], 1, 3, 0)
+    yield from not_imported([(0, -1, 0), (1, 5, 0)], 1, 4, 0)
+
+
+def row_14():
+    """Just before 3, 4 and 5 at its point; after those of earlier points."""
+    for point in ((30000, 5, 0.5), (0, 300000, 0.5), (30000.5, 300000, 20000),
+                  (-1, 5.5, 0), (1, -5.5, 20000), (1, 5, 20000.5)):
+        yield from not_imported([(0, 5, 0), point, (2, 5, 0.5)], 1, 14, 1)
+    for point, number in (((30000, 5, 0), 3), ((1, 300000, 0), 4),
+                          ((1, 5, 20000), 5)):
+        yield from not_imported([(0, 5, 0), point, (2, 5, 0.5)], 1, number, 1)
+        yield from not_imported([(0.5, 5, 0), point, (2, 5, 0)], 1, 14, 0)
+    # A segment before it has no shape.
+    yield from not_imported([(0, 5, 0), (1, 4, 0), (2, 5.5, 0)], 1, 14, 2)
+    yield from not_imported([(0, 5, 0), (1, 4, 0), (2, 5, 0)], 1, 6, 0)
+
+
 EXAMPLES = [
     # Readings to prove.
     ('K1: 550 reads 10,889', reads(STEEP, 1, 550, 10889)),
@@ -261,6 +341,11 @@ EXAMPLES = [
     ('a slope above 100, then a fall: refused 6 at 1',
      not_filled([0, 1, 2], [0, 200, 199], 6, 1)),
     ('fill slopes: gaps of 2,000 and 2,001, 64 and 65 points', filled_limits()),
+    # Triples.
+    ('48 bytes are taken', exported()),
+    ('rows 13, 11, 1 and 2 of triples', not_exported()),
+    ('figures that are not taken', figures()),
+    ('row 14 among rows 3 to 6', row_14()),
 ]
 
 
@@ -270,10 +355,11 @@ def written(call, arguments, after):
         return []
     if call in ('desk', 'desk_two', 'write'):
         return after or [cases.found(FILL, arguments[-1])]
+    three = call in ('open', 'import')
     if after is None:
-        lengths = arguments[-1] if call == 'open' else arguments[-1:]
+        lengths = arguments[-1] if three else arguments[-1:]
         return [cases.found(FILL, 4 * length) for length in lengths]
-    letters = 'IIi' if call == 'open' else 'i'
+    letters = 'IIi' if three else 'i'
     return [cases.packed(*pair) for pair in zip(letters, after)]
 
 

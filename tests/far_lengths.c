@@ -160,6 +160,42 @@ static void fill_far_slopes(void)
     expect("filled", s[0] == 4000 && s[1] == 4000 && s[2] == 7, 1);
 }
 
+/*
+ * K3's points as triples. 2^32 is 16 more than a multiple of 24; three times
+ * it and 48 bytes are 2^29 + 2 points.
+ */
+static void import_far_lists(void)
+{
+    static const double triples[6] = {500, 10000, 0, 600, 14000, 10000};
+    static const uint32_t found[3] = {7, 7, 7};
+    uint8_t *bytes = far_list(triples, sizeof triples);
+    uint32_t *a = far_list(found, sizeof found);
+    uint32_t *v = far_list(found, sizeof found);
+    int32_t *s = far_list(found, sizeof found);
+    size_t many = 3 * FAR + 48, n = ((size_t)1 << 29) + 2;
+    expect("triples", curve_import(bytes, FAR + 48, 2, a, 2, v, 2, s, 2),
+           REFUSED(13));
+    expect("short lists", curve_import(bytes, many, 2, a, 2, v, 2, s, 2),
+           REFUSED(11));
+    expect("areas", curve_import(bytes, many, 2, a, n - 1, v, n, s, n),
+           REFUSED(11));
+    expect("values", curve_import(bytes, many, 2, a, n, v, n - 1, s, FAR),
+           REFUSED(11));
+    expect("slopes", curve_import(bytes, many, 2, a, FAR, v, FAR, s, 64),
+           REFUSED(11));
+    expect("2^29 + 2 points", curve_import(bytes, many, 2, a, n, v, FAR, s, n),
+           REFUSED(1));
+    expect("2^16 + 2 points", curve_import(bytes, 24 * 65538, 2, a, 65538, v,
+                                           65538, s, 65538), REFUSED(1));
+    expect("2^16 + 2 points, short lists",
+           curve_import(bytes, 24 * 65538, 2, a, 2, v, 2, s, 2), REFUSED(11));
+    expect("as found", a[0] == 7 && v[0] == 7 && s[0] == 7, 1);
+    expect("import", curve_import(bytes, 48, 2, a, FAR, v, FAR + 1, s, FAR), 2);
+    expect("areas", a[0] == 500 && a[1] == 600 && a[2] == 7, 1);
+    expect("values", v[0] == 10000 && v[1] == 14000 && v[2] == 7, 1);
+    expect("slopes", s[0] == 0 && s[1] == 10000 && s[2] == 7, 1);
+}
+
 int main(void)
 {
     if (sizeof(size_t) < 8)
@@ -171,6 +207,7 @@ int main(void)
     read_at_desk(desk_reading_two);
     write_far_buffer();
     fill_far_slopes();
+    import_far_lists();
     printf("%d tests, %d failures\n", tests, failures);
     return failures > 0 || tests == 0;
 }

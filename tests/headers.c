@@ -32,29 +32,34 @@ static void sizes(void)
     expect("scratch", DESK_SCRATCH_MAX == 12 * 64);
     expect("any scratch", DESK_SCRATCH_ENOUGH == 12 * 255);
     expect("scratch of two", DESK_SCRATCH_TWO == 24);
+    expect("triple", CURVE_TRIPLE_BYTES == 24);
 }
 
-/* Document 01, Refusals and their places; document 02, item 1: number 12. */
+/*
+ * Document 01, Refusals and their places; document 02, items 1 and 7: numbers
+ * 12 to 14.
+ */
 static void numbers(void)
 {
     static const int curve[] = {
         CURVE_REFUSED_COUNT, CURVE_REFUSED_SHAPE, CURVE_REFUSED_AREA,
         CURVE_REFUSED_VALUE, CURVE_REFUSED_SLOPE, CURVE_REFUSED_SEGMENT,
         CURVE_REFUSED_OUTSIDE, CURVE_REFUSED_SHEET, CURVE_REFUSED_MARK,
-        CURVE_REFUSED_LENGTH, CURVE_REFUSED_ROOM, CURVE_REFUSED_BUFFER};
+        CURVE_REFUSED_LENGTH, CURVE_REFUSED_ROOM, CURVE_REFUSED_BUFFER,
+        CURVE_REFUSED_TRIPLES, CURVE_REFUSED_FIGURE};
     static const int desk[] = {
         DESK_REFUSED_COUNT, DESK_REFUSED_SHAPE, DESK_REFUSED_AREA,
         DESK_REFUSED_VALUE, DESK_REFUSED_SLOPE, DESK_REFUSED_SEGMENT,
         DESK_REFUSED_OUTSIDE, 8, DESK_REFUSED_MARK, DESK_REFUSED_LENGTH,
         DESK_REFUSED_SCRATCH};
-    for (int i = 0; i < 12; i++)
+    for (int i = 0; i < 14; i++)
         expect("a refusal's number",
-               curve[i] == i + 1 && (i == 11 || desk[i] == i + 1));
+               curve[i] == i + 1 && (i >= 11 || desk[i] == i + 1));
 }
 
 static void answers(void)
 {
-    for (int number = 1; number <= 12; number++) {
+    for (int number = 1; number <= 14; number++) {
         const uint32_t places[] = {0, 1, 63, 1023, UINT32_MAX};
         for (int i = 0; i < 5; i++) {
             int64_t answer = -((int64_t)number * 4294967296 + places[i]);
@@ -82,17 +87,17 @@ static void answers(void)
 static void words(void)
 {
     const char *unknown = curve_refusal_words(0);
-    for (int n = 1; n <= 12; n++) {
+    for (int n = 1; n <= 14; n++) {
         expect("words", strlen(curve_refusal_words(n)) > 10);
         expect("known", strcmp(curve_refusal_words(n), unknown) != 0);
-        expect("a desk's words", n == 8 || n == 12 ||
+        expect("a desk's words", n == 8 || n >= 12 ||
                                      (strcmp(desk_reason(n), unknown) &&
                                       strlen(desk_reason(n)) > 10));
         for (int m = 1; m < n; m++)
             expect("its own words", strcmp(curve_refusal_words(n),
                                            curve_refusal_words(m)) != 0);
     }
-    const int others[] = {-1, 13, 256 + 1, 2147483647, -2147483647 - 1};
+    const int others[] = {-1, 15, 256 + 1, 2147483647, -2147483647 - 1};
     for (int i = 0; i < 5; i++)
         expect("unknown", strcmp(curve_refusal_words(others[i]), unknown) == 0);
 }
@@ -114,10 +119,13 @@ static void calls(void)
                     size_t, int32_t *, size_t) = curve_open;
     int64_t (*fill)(const uint32_t *, size_t, const uint32_t *, size_t,
                     int32_t *, size_t) = curve_fill_slopes;
+    int64_t (*take)(const uint8_t *, size_t, uint32_t, uint32_t *, size_t,
+                    uint32_t *, size_t, int32_t *, size_t) = curve_import;
     int32_t (*desk[])(const uint8_t *, size_t, uint32_t, uint8_t *, size_t) = {
         desk_reading, desk_reading_two};
     uint32_t a[] = {500, 600}, v[] = {10000, 14000};
     int32_t s[] = {0, 10000}, out[3];
+    const double triples[] = {500, 10000, -0.0, 600, 14000, 10000};
     uint8_t file[CURVE_FILE_MAX], scratch[DESK_SCRATCH_MAX];
     expect("check", check(a, 2, v, 2, s, 2, CURVE_CONVEX) == 1);
     expect("read", read(a, 2, v, 2, s, 2, CURVE_CONVEX, 550) == 10800);
@@ -130,6 +138,30 @@ static void calls(void)
     expect("fill", fill(a, 2, v, 2, s, 2) == 2);
     expect("filled", s[0] == 4000 && s[1] == 4000 &&
                          check(a, 2, v, 2, s, 2, CURVE_RISING) == 1);
+    a[0] = v[0] = v[1] = 7;
+    expect("import", take((const uint8_t *)triples, 2 * CURVE_TRIPLE_BYTES,
+                          CURVE_CONVEX, a, 2, v, 2, s, 2) == 2);
+    expect("imported", a[0] == 500 && v[0] == 10000 && s[0] == 0 &&
+                           a[1] == 600 && v[1] == 14000 && s[1] == 10000);
+}
+
+/* Document 02, item 7: the numbers of curve_import's own, with their places. */
+static void triples(void)
+{
+    double t[] = {0, 5, 0, 1, 5, 0.5};
+    uint32_t a[2], v[2];
+    int32_t s[2];
+    const uint8_t *bytes = (const uint8_t *)t;
+    int64_t answer = curve_import(bytes, 47, 1, a, 2, v, 2, s, 2);
+    expect("47 bytes", CURVE_REFUSAL(answer) == CURVE_REFUSED_TRIPLES &&
+                           CURVE_PLACE(answer) == 0);
+    answer = curve_import(bytes, 48, 1, a, 2, v, 2, s, 2);
+    expect("half a hundredth", CURVE_REFUSAL(answer) == CURVE_REFUSED_FIGURE &&
+                                   CURVE_PLACE(answer) == 1);
+    t[5] = 1e300;
+    answer = curve_import(bytes, 48, 1, a, 2, v, 2, s, 2);
+    expect("a large slope", CURVE_REFUSAL(answer) == CURVE_REFUSED_SLOPE &&
+                                CURVE_PLACE(answer) == 1);
 }
 
 /* Document 02, item 6: 1/2, 3/2 and 5/2 go to the even unit. */
@@ -178,6 +210,7 @@ int main(void)
     calls();
     halves();
     mirrored();
+    triples();
     printf("%d tests, %d failures\n", tests, failures);
     return failures > 0 || tests == 0;
 }

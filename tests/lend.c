@@ -72,13 +72,23 @@ static int is_repeated(const test_case *c, int k)
            memcmp(c->list[k], c->list[k - 1], c->size[k]) == 0;
 }
 
+/* How far from the start of its room list k lies. */
+static size_t offset(const test_case *c, int where, int k)
+{
+    const list_form *form = &forms[c->call][k];
+    if (where == AT_END)
+        return ROOM - c->size[k];
+    return where == AT_ODD && form->width == 1 && !form->written
+               ? 1 + taken % 7 : 0;
+}
+
 void lend(const test_case *c, int where, uint8_t *list[LISTS])
 {
     for (int k = 0; k < LISTS; k++) {
         size_t size = c->size[k];
         int written = forms[c->call][k].written;
         const room *r = &rooms[k][written];
-        size_t at = where == AT_END ? ROOM - size : 0;
+        size_t at = offset(c, where, k);
         list[k] = NULL;
         if (forms[c->call][k].width == 0)
             continue;

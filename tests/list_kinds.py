@@ -11,6 +11,7 @@ is given by its length:
     'open', file, lengths of the three lists
     'write', lists, shape, length of out
     'fill_slopes', the first two lists, length of the slope list
+    'import', triples, shape, lengths of the three lists
 """
 
 import itertools
@@ -19,6 +20,7 @@ import curves
 import exact_fractions as ref
 from curve_file import curve_file
 from curves import any_curve
+from triples import triples
 
 TOP = 2**32 - 1                 # the end of 32 bits
 ENTRIES_MAX = 1024
@@ -114,6 +116,8 @@ def all_calls(rng, points, shape, area):
     yield 'desk_two', data, area, 24
     yield 'write', lists, shape, len(data) + rng.randrange(2)
     yield 'fill_slopes', lists[:2], len(points)
+    yield ('import', triples(points), shape,
+           (len(points), len(points), len(points) + rng.randrange(3)))
 
 
 # ---- lists: lengths, shape codes, places ----

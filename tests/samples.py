@@ -5,8 +5,8 @@
     samples.py quote PROGRAM     the quoting desk on the samples
     samples.py sheet PROGRAM     ratesheet on the samples and on made-up files
 
-Expected answers are exact_fractions.py's, expected files curve_file.py's.
-Exit status 0: all as expected.
+Expected answers are exact_fractions.py's, expected files curve_file.py's,
+expected triples triples.py's. Exit status 0: all as expected.
 """
 
 import glob
@@ -21,6 +21,7 @@ from fractions import Fraction
 import curves
 import exact_fractions as ref
 from curve_file import curve_file
+from triples import triples
 
 SAMPLES = os.path.join(os.path.dirname(os.path.abspath(__file__)), '..',
                        'samples')
@@ -43,6 +44,20 @@ REFUSED = {
     'refused-10-length.trf': curve_file(STEEP, 2)[:-1],
 }
 
+# Triples: their bytes, the shape code to take them with, and the curve file
+# that they give, or the refusal and its place.
+RISING = [(300, 8200, 900), (500, 9600, 500), (800, 10700, 300),
+          (1200, 11500, 0), (1500, 11500, 0), (2500, 13400, 260),
+          (4000, 16900, 200)]
+TRIPLES = {
+    'rising.f64': (triples(RISING), 1, 'rising.trf'),
+    # The last byte is missing.
+    'refused-13-length.f64': (triples(RISING)[:-1], 1, (13, 0)),
+    # At point 4.
+    'refused-14-slope.f64': (triples(RISING[:4] + [(1500, 11500, 0.5)]
+                                     + RISING[5:]), 1, (14, 4)),
+}
+
 failures = 0
 tests = 0
 
@@ -55,9 +70,9 @@ def expect(name, got, wanted):
         print('DIFFERENCE in %s: got %r, wanted %r' % (name, got, wanted))
 
 
-def sample_files():
-    """(name, bytes) of every sample."""
-    for path in sorted(glob.glob(os.path.join(SAMPLES, '*.trf'))):
+def sample_files(ending='.trf'):
+    """(name, bytes) of every sample whose name ends so: curve files."""
+    for path in sorted(glob.glob(os.path.join(SAMPLES, '*' + ending))):
         with open(path, 'rb') as file:
             yield os.path.basename(path), file.read()
 
@@ -106,7 +121,24 @@ def test_made(folder):
            REFUSED['refused-6-no-shape.trf'])
 
 
+def test_triples():
+    stored, files = dict(sample_files('.f64')), dict(sample_files())
+    expect('names', sorted(stored), sorted(TRIPLES))
+    for name, (data, shape, wanted) in TRIPLES.items():
+        expect(name, stored.get(name), data)
+        found = [7] * 70                    # in the lists before the call
+        answer, *lists = ref.curve_import(data, shape, found, found, found)
+        if wanted in files:
+            expect(name, curve_file(list(zip(*lists))[:answer], shape),
+                   files[wanted])
+            expect(name + ', the rest', [each[answer:] for each in lists],
+                   [found[answer:]] * 3)
+        else:
+            expect(name, (divmod(-answer, 2**32), lists), (wanted, [found] * 3))
+
+
 def test_files():
+    test_triples()
     stored, wanted = dict(sample_files()), dict(expected_files())
     expect('names', sorted(stored), sorted(wanted))
     for name, data in stored.items():

@@ -6,24 +6,27 @@
 #include "desk.h"
 #include "factor_curves.h"
 
-#define FILE_BYTES {1, 0}
+#define BYTES {1, 0}
 #define POINT_LISTS {4, 0}, {4, 0}, {4, 0}
+#define WRITTEN_LISTS {4, 1}, {4, 1}, {4, 1}
 
 const char *const call_names[CALLS] = {
     "desk_reading", "desk_reading_two", "curve_check",
     "curve_read",   "curve_pair",       "curve_sheet",
-    "curve_open",   "curve_write",      "curve_fill_slopes"};
+    "curve_open",   "curve_write",      "curve_fill_slopes",
+    "curve_import"};
 
 const list_form forms[CALLS][LISTS] = {
-    [DESK] = {FILE_BYTES, {1, 1}},
-    [DESK_TWO] = {FILE_BYTES, {1, 1}},
+    [DESK] = {BYTES, {1, 1}},
+    [DESK_TWO] = {BYTES, {1, 1}},
     [CHECK] = {POINT_LISTS},
     [READ] = {POINT_LISTS},
     [PAIR] = {POINT_LISTS, {4, 1}},
     [SHEET] = {POINT_LISTS, {4, 1}},
-    [OPEN] = {FILE_BYTES, {4, 1}, {4, 1}, {4, 1}},
+    [OPEN] = {BYTES, WRITTEN_LISTS},
     [WRITE] = {POINT_LISTS, {1, 1}},
     [FILL_SLOPES] = {{4, 0}, {4, 0}, {4, 1}},
+    [IMPORT] = {BYTES, WRITTEN_LISTS},
 };
 
 char names[KINDS_MAX][256];
@@ -116,6 +119,8 @@ void fill_list(uint8_t *list, size_t size, uint8_t fill)
 #define THREE_LISTS (const uint32_t *)list[0], c->length[0],                  \
                     (const uint32_t *)list[1], c->length[1],                  \
                     (const int32_t *)list[2], c->length[2]
+#define LENT_LISTS (uint32_t *)list[1], c->length[1], (uint32_t *)list[2],    \
+                   c->length[2], (int32_t *)list[3], c->length[3]
 
 int64_t invoke(const test_case *c, uint8_t *const list[LISTS])
 {
@@ -136,11 +141,11 @@ int64_t invoke(const test_case *c, uint8_t *const list[LISTS])
         return curve_sheet(THREE_LISTS, number[0], number[1], number[2],
                            (int32_t *)list[3], c->length[3]);
     case OPEN:
-        return curve_open(list[0], c->length[0], (uint32_t *)list[1],
-                          c->length[1], (uint32_t *)list[2], c->length[2],
-                          (int32_t *)list[3], c->length[3]);
+        return curve_open(list[0], c->length[0], LENT_LISTS);
     case WRITE:
         return curve_write(THREE_LISTS, number[0], list[3], c->length[3]);
+    case IMPORT:
+        return curve_import(list[0], c->length[0], number[0], LENT_LISTS);
     default:
         return curve_fill_slopes((const uint32_t *)list[0], c->length[0],
                                  (const uint32_t *)list[1], c->length[1],

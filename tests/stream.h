@@ -6,7 +6,7 @@
 #include <stdint.h>
 
 enum { DESK, DESK_TWO, CHECK, READ, PAIR, SHEET, OPEN, WRITE, FILL_SLOPES,
-       CALLS };
+       IMPORT, CALLS };
 enum { LISTS = 4, NUMBERS = 3, KINDS_MAX = 128, END_KIND = 255 };
 enum { LIST_BYTES_MAX = 4 * 66560 };
 

@@ -2,7 +2,7 @@
 
     PYTHONPATH=python FACTOR_CURVES_LIBRARY=... python3 -m unittest tests/test_command_line.py
 
-Expected answers are exact_fractions.py's, expected files curve_file.py's.
+Expected answers are exact_fractions.py's, expected files curve_file.py's, triples triples.py's.
 """
 
 import glob
@@ -31,6 +31,7 @@ import exact_fractions as ref
 from curve_file import curve_file
 from factor_curves import __main__ as program
 from factor_curves import refusal_words
+from triples import figure, joined, of_bits, rows, triples
 
 SAMPLES = os.path.join(ROOT, 'samples')
 GOOD = os.path.join(SAMPLES, 'document-01.trf')
@@ -39,6 +40,8 @@ TEXT = os.path.join(SAMPLES, 'document-01.txt')
 WITHOUT_SLOPES = os.path.join(SAMPLES, 'without-slopes.txt')
 FILLED = 'factor-curves: %s has no slopes; they were filled by the harmonic rule\n'
 TWO = [os.path.join(SAMPLES, 'same-points-%s.trf' % shape) for shape in ('rising', 'convex')]
+TRIPLES = os.path.join(SAMPLES, 'rising.f64')
+RISING = os.path.join(SAMPLES, 'rising.trf')
 DISCOUNT = os.path.join(SAMPLES, 'large-home-discount.trf')
 FLATTENING = os.path.join(SAMPLES, 'flattening.trf')
 NAMES = {1: 'rising', 2: 'convex', 3: 'falling', 4: 'concave'}
@@ -918,6 +921,218 @@ class MakingWithoutSlopes(MakingCase):
                 self.assertEqual((done.status, done.out), (0, data))
 
 
+class Importing(Case):
+    """The command import."""
+
+    def setUp(self):
+        self.place = self.folder()
+        self.triples, self.file = (os.path.join(self.place, name) for name in ('c.f64', 'c.trf'))
+
+    def put(self, data, before=None):
+        """The triples are these, and the curve file has these bytes or is not there."""
+        with open(self.triples, 'wb') as file:
+            file.write(data)
+        if os.path.exists(self.file):
+            os.remove(self.file)
+        if before is not None:
+            with open(self.file, 'wb') as file:
+                file.write(before)
+
+    def assert_made(self, data, shape, made):
+        """By paths, by -, and by the streams that are taken if nothing is named."""
+        self.put(data)
+        code = ['--shape', str(shape)]
+        done = inside('import', *code, self.triples, '-o', self.file)
+        self.assertEqual((done.status, done.out, done.err), (0, '', ''), data.hex())
+        self.assertEqual(open_bytes(self.file), made)
+        for words in ([], ['-'], ['-o', '-'], ['-', '--output', '-']):
+            done = inside('import', *code, *words, data=data)
+            self.assertEqual((done.status, done.data, done.err), (0, made, ''))
+        done = inside('import', self.triples, *code)
+        self.assertEqual((done.status, done.data, done.err), (0, made, ''))
+
+    def assert_not_made(self, data, shape, number, place, detail):
+        """Nothing is written, whether the file is there or not."""
+        for before in (None, b'before'):
+            self.put(data, before)
+            done = inside('import', '--shape', str(shape), self.triples, '-o', self.file)
+            self.assert_refused(done, number, place, ' (%s, %s)' % (self.triples, detail))
+            self.assertEqual(os.path.exists(self.file), before is not None)
+            if before is not None:
+                self.assertEqual(open_bytes(self.file), before)
+        self.assert_refused(inside('import', '--shape', str(shape), data=data), number, place,
+                            ' (-, %s)' % detail)
+
+    def test_samples(self):
+        self.assert_made(open_bytes(TRIPLES), 1, open_bytes(RISING))
+        for name, number, place, detail in [('refused-13-length', 13, 0, '167 bytes'),
+                                            ('refused-14-slope', 14, 4, 'point 4: slope 0.5')]:
+            path = os.path.join(SAMPLES, name + '.f64')
+            self.assert_refused(inside('import', '--shape', '1', path, '-o', self.file), number,
+                                place, ' (%s, %s)' % (path, detail))
+            self.assert_not_made(open_bytes(path), 1, number, place, detail)
+
+    def test_accepted_curves(self):
+        for points, shape in curves.random_curves('importing', 120):
+            self.assert_made(triples(points), shape, curve_file(points, shape))
+
+    def test_refused_by_hand(self):
+        first, last = (500, 10000, 0), (600, 14000, 10000)
+        for points, shape, number, place, detail in [
+                ([], 1, 1, 0, '0 points'), ([first], 1, 1, 0, '1 point'),
+                ([(0.5, 0, 0)] * 65, 9, 1, 0, '65 points'),
+                ([first, last], 0, 2, 0, 'shape 0'), ([first, last], 5, 2, 0, 'shape 5'),
+                ([first, (0.5, 0, 0)], 2**32 - 1, 2, 0, 'shape 4294967295'),
+                ([first, (600, 14000, 0.5)], 2, 14, 1, 'point 1: slope 0.5'),
+                ([(0.25, 0.5, 0.75), last], 2, 14, 0, 'point 0: area 0.25'),
+                ([(-7, 0.1, 0.5), last], 2, 14, 0, 'point 0: value 0.1'),
+                ([first, (600, 14000, -2.5e-300)], 2, 14, 1, 'point 1: slope -2.5e-300'),
+                ([first, (float('inf'), 0, 0)], 2, 14, 1, 'point 1: area inf'),
+                ([first, (1, float('-inf'), 0)], 2, 14, 1, 'point 1: value -inf'),
+                ([(1, 1, float('nan')), last], 2, 14, 0, 'point 0: slope nan'),
+                ([(-1, -2, 10001), last], 2, 3, 0, 'point 0: area -1'),
+                ([first, (500, 0, 0)], 2, 3, 1, 'point 1: area 500'),
+                ([first, (2501, 0, 0)], 2, 3, 1, 'point 1: area 2501'),
+                ([(1e300, 0, 0), last], 2, 3, 0, 'point 0: area 1e+300'),
+                ([first, (600, -2, 10001)], 2, 4, 1, 'point 1: value -2'),
+                ([first, (600, 200001, 0)], 2, 4, 1, 'point 1: value 200001'),
+                ([(-0.0, 2.0**53, 0), last], 2, 4, 0, 'point 0: value 9007199254740992.0'),
+                ([first, (600, 14000, -10001)], 2, 5, 1, 'point 1: slope -10001'),
+                ([first, last], 3, 6, 0, 'points 0 and 1'),
+                ([first, last, (700, 14000, 1)], 1, 6, 1, 'points 1 and 2')]:
+            self.assert_not_made(triples(points), shape, number, place, detail)
+        data = triples([(0.5, -1, 0)] * 70)
+        for length in (1, 23, 25, 47, 49, 1535, 1537, 1679):
+            self.assert_not_made(data[:length], 7, 13, 0,
+                                 '1 byte' if length == 1 else '%d bytes' % length)
+
+    def test_refused(self):
+        """The refusal of the exact fractions; the figure that is named is one of the point's."""
+        rng, seen = random.Random('refused triples'), set()
+        names = {3: ['area'], 4: ['value'], 5: ['slope'], 14: ['area', 'value', 'slope']}
+        for points, shape in curves.random_curves('refused triples', 250):
+            made, wrong = rows(points), rng.randrange(len(points))
+            made[wrong][rng.randrange(3)] = rng.choice(
+                [figure(rng.choice([0.5, -1, 1e300, 20001, 200001, 10001, -10001])),
+                 of_bits(rng.getrandbits(64)), of_bits(0x7ff << 52 | rng.getrandbits(52))])
+            data = joined(made)
+            number, *_ = ref.curve_import(data, shape, *[[0] * len(points)] * 3)
+            done = inside('import', '--shape', str(shape), data=data)
+            if number > 0:
+                self.assertEqual((done.status, done.err), (0, ''))
+                continue
+            number, place = divmod(-number, 2**32)
+            seen.add(number)
+            detail = done.err[done.err.rindex('(-, '):-1]
+            self.assert_refused(done, number, place, ' ' + detail)
+            if number == 6:
+                self.assertEqual(detail, '(-, points %d and %d)' % (place, place + 1))
+                continue
+            at, name, shown = re.fullmatch(r'\(-, point (\d+): (\w+) (\S+)\)', detail).groups()
+            self.assertEqual(int(at), place)
+            self.assertIn(name, names[number])
+            eight = made[place][['area', 'value', 'slope'].index(name)]
+            if shown != 'nan':
+                self.assertEqual(figure(float(shown)), eight)
+        self.assertEqual(seen, {14, 3, 4, 5, 6})
+
+    def test_longest(self):
+        """Up to 2**20 bytes the length and the count are right; beyond it they are not known."""
+        data = triples([(5, 5, 0)] * 43691)
+        self.assertGreater(len(data), 2**20)
+        self.assert_not_made(data[:24 * 43690], 1, 1, 0, '43690 points')
+        self.assert_not_made(data[:2**20], 1, 13, 0, '1048576 bytes')
+        for more in (2**20 + 1, len(data)):
+            self.put(data[:more], b'before')
+            done = inside('import', '--shape', '1', self.triples, '-o', self.file)
+            self.assert_usage(done, 'cannot read %s: it has more than 1048576 bytes'
+                              % self.triples)
+            self.assertEqual(open_bytes(self.file), b'before')
+
+    def test_endless(self):
+        message = 'it has more than 1048576 bytes'
+        self.assert_usage(inside('import', '--shape', '1', '/dev/zero'), message)
+        with subprocess.Popen(['cat', '/dev/zero'], stdout=subprocess.PIPE) as endless:
+            try:
+                done = run('import', '--shape', '1', stdin=endless.stdout)
+            finally:
+                endless.kill()
+        self.assert_usage(done, 'cannot read -: ' + message)
+
+    def test_slow(self):
+        data = open_bytes(TRIPLES)
+        with subprocess.Popen(COMMAND + ['import', '--shape', '1'], stdin=subprocess.PIPE,
+                              stdout=subprocess.PIPE, env=environment(), bufsize=0) as process:
+            for at in range(0, len(data), 35):
+                process.stdin.write(data[at:at + 35])
+                time.sleep(0.1)
+            self.assertEqual(process.communicate(timeout=60)[0], open_bytes(RISING))
+
+    def test_redirected(self):
+        """As a shell does it: both streams are files."""
+        with open(TRIPLES, 'rb') as source, open(self.file, 'wb') as target:
+            done = run('import', '--shape', '1', stdin=source, stdout=target)
+        self.assertEqual((done.status, done.err), (0, ''))
+        self.assertEqual(open_bytes(self.file), open_bytes(RISING))
+
+    def test_shapes(self):
+        """Of a straight line, which has three of them; and codes that are no whole numbers."""
+        line = [(0, 0, 50), (6, 3, 50)]
+        for shape in (1, 2, 4):
+            self.assert_made(triples(line), shape, curve_file(line, shape))
+        self.assert_not_made(triples(line), 3, 6, 0, 'points 0 and 1')
+        self.assert_made(triples(line), '0002', curve_file(line, 2))
+        for text in ('', '-1', '+1', '1.0', 'rising', '4294967296', '0x1', '9' * 5000):
+            done = inside('import', '--shape=' + text, TRIPLES)
+            self.assert_usage(done, '--shape', 'not a whole number from 0 to 4294967295')
+
+    def test_the_triples_as_output(self):
+        self.put(open_bytes(TRIPLES))
+        other = os.path.join(self.place, 'link')
+        os.symlink(self.triples, other)
+        for one, two in [(self.triples, self.triples), (self.triples, other),
+                         (other, self.triples)]:
+            self.assert_usage(inside('import', '--shape', '1', one, '-o', two),
+                              '%s cannot be both the triples and the curve file' % one)
+            self.assertEqual(open_bytes(self.triples), open_bytes(TRIPLES))
+
+    def test_a_file_named_dash(self):
+        with open(os.path.join(self.place, '-'), 'wb') as file:
+            file.write(b'x')
+        with open(TRIPLES, 'rb') as source:
+            done = run('import', '--shape', '1', '-', '-o', '-', stdin=source, cwd=self.place)
+        self.assertEqual((done.status, done.out, done.err), (0, open_bytes(RISING), ''))
+        self.assertEqual(open_bytes(os.path.join(self.place, '-')), b'x')
+
+    def test_in_place_of_a_longer_file(self):
+        self.put(open_bytes(TRIPLES), bytes(5000))
+        inside('import', '--shape', '1', self.triples, '-o', self.file)
+        self.assertEqual(open_bytes(self.file), open_bytes(RISING))
+
+    def test_unwritten(self):
+        for path, words in [('/dev/full', 'No space left on device'), (self.place, 'directory'),
+                            (os.path.join(self.place, 'none', 'x.trf'), 'No such file'),
+                            ('', 'No such file')]:
+            done = inside('import', '--shape', '1', TRIPLES, '-o', path)
+            self.assertEqual((done.status, done.out), (3, ''))
+            self.assert_message(done, 'cannot write %s: ' % path, words)
+        done = run('import', '--shape', '1', TRIPLES, '-o', self.file, closed=[1])
+        self.assertEqual((done.status, done.err), (0, ''))
+        self.assertEqual(open_bytes(self.file), open_bytes(RISING))
+
+    def test_show_and_make(self):
+        """The curve file is one that the other commands take."""
+        inside('import', '--shape', '1', TRIPLES, '-o', self.file)
+        shown = inside('show', self.file)
+        self.assertEqual(inside('make', '-', '-o', '-', data=shown.data).data, open_bytes(RISING))
+
+    def test_without_the_library(self):
+        env = environment(FACTOR_CURVES_LIBRARY='/no/such/library.so')
+        done = run('import', '--shape', '1', TRIPLES, '-o', self.file, env=env)
+        self.assert_usage(done, '/no/such/library.so')
+        self.assertFalse(os.path.exists(self.file))
+
+
 class Usage(Case):
     """Exit status 2."""
 
@@ -926,6 +1141,9 @@ class Usage(Case):
                       ['show', '--all', GOOD], ['plot', GOOD], ['plot', '-o', 'x.svg'],
                       ['make'], ['make', TEXT], ['make', '-o', 'x.trf'],
                       ['make', TEXT, TEXT, '-o', 'x.trf'],
+                      ['import'], ['import', TRIPLES], ['import', TRIPLES, '-o', 'x.trf'],
+                      ['import', '--shape'], ['import', '--sh', '1', TRIPLES],
+                      ['import', '--shape', '1', TRIPLES, TRIPLES], ['import_', '--shape', '1'],
                       ['sheet', GOOD, '--st', '25'], ['--nothing'], ['sheet', GOOD, '--count']):
             self.assert_usage(inside(*words), 'usage: factor-curves', 'error: ')
 
@@ -945,7 +1163,7 @@ class Usage(Case):
                             (os.path.join(GOOD, 'x'), 'Not a directory')]:
             for command in (['check', path], ['read', path, '1'], ['sheet', path],
                             ['show', path], ['plot', path, '-o', '-'],
-                            ['make', path, '-o', '-']):
+                            ['make', path, '-o', '-'], ['import', '--shape', '1', path]):
                 self.assert_usage(inside(*command), 'cannot read %s: %s' % (path, words))
 
     @unittest.skipIf(os.geteuid() == 0, 'root may read every file')
@@ -966,6 +1184,7 @@ class Usage(Case):
     def test_standard_input(self):
         self.assert_usage(run('check', '-', closed=[0]), 'standard input is closed')
         self.assert_usage(run('make', '-', '-o', '-', closed=[0]), 'standard input is closed')
+        self.assert_usage(run('import', '--shape', '1', closed=[0]), 'standard input is closed')
         self.assert_usage(inside('plot', '-', '-', '-o', 'x.svg'), 'only once')
         with open(GOOD, 'rb') as file:
             self.assertEqual(run('read', '-', '550', stdin=file).out, b'550 10800\n')
@@ -1021,7 +1240,8 @@ class Output(Case):
 
     PRINTING = [['check', GOOD], ['read', GOOD, '550'], ['show', GOOD], ['--help'], ['--version'],
                 ['sheet', '--help'], ['sheet', TWO[0], '--step', '1'], ['make', '--help'],
-                ['make', TEXT, '-o', '-']]
+                ['make', TEXT, '-o', '-'], ['import', '--help'],
+                ['import', '--shape', '1', TRIPLES]]
 
     def assert_unwritten(self, done, *words):
         self.assertEqual(done.status, 3, done)
@@ -1113,18 +1333,21 @@ class Help(Case):
 
     def test_help(self):
         text = run('--help').out.decode()
-        for word in ('check', 'read', 'sheet', 'show', 'make', 'plot', 'examples:',
+        for word in ('check', 'read', 'sheet', 'show', 'make', 'import', 'plot', 'examples:',
                      'exit status:'):
             self.assertIn(word, text)
         examples = re.findall('^  factor-curves (.*)$', text, re.MULTILINE)
-        self.assertEqual(len(examples), 7)
+        self.assertEqual(len(examples), 9)
         folder = self.folder_with_samples()
         for example in examples:
             if example.startswith('plot') and not MATPLOTLIB:
                 continue
-            command, _, source = example.partition(' < ')
+            command, target = (example.split(' > ') + [''])[:2]
+            command, _, source = command.partition(' < ')
             with open(os.path.join(ROOT, source or GOOD), 'rb') as file:
                 done = run(*shlex.split(command), cwd=folder, stdin=file)
+            if target:
+                self.assertEqual((target, done.out), ('imported.trf', open_bytes(RISING)))
             filled = re.search(r'\S*without-slopes\.txt', example)
             self.assertEqual((done.status, done.err), (0, FILLED % filled[0] if filled else ''))
 
@@ -1147,14 +1370,18 @@ class Help(Case):
         try:
             for command, text in found:
                 if not command.startswith('plot'):
-                    done = inside(*shlex.split(command))
+                    words, _, source = command.partition(' < ')
+                    done = inside(*shlex.split(words), data=open_bytes(source or GOOD))
                     self.assertEqual(done.out + done.err, text, command)
         finally:
             os.chdir(folder)
         self.assertEqual({command.split()[0] for command, _ in found},
-                         {'check', 'read', 'sheet', 'show', 'make', 'plot'})
-        for word in ('--start', '--step', '--count', '-o', '--help', '--version'):
+                         {'check', 'read', 'sheet', 'show', 'make', 'import', 'plot'})
+        for word in ('--start', '--step', '--count', '--shape', '-o', '--help', '--version'):
             self.assertIn(word, page)
+        refusals = page.split('.SH REFUSALS\n')[1].split('.SH')[0]
+        self.assertEqual(re.findall(r'^\.B (\d+)$', refusals, re.MULTILINE),
+                         '9 10 13 1 2 14 3 4 5 6 8 7'.split())
         statuses = page.split('.SH EXIT STATUS\n')[1].split('.SH')[0]
         self.assertEqual(re.findall(r'^\.B (\d+)$', statuses, re.MULTILINE),
                          ['0', '1', '2', '3', '130'])

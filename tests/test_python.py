@@ -3,9 +3,10 @@
     PYTHONPATH=python FACTOR_CURVES_LIBRARY=... python3 -m unittest tests/test_python.py
 
 Expected answers are exact_fractions.py's, or those of documents 01 and 02;
-expected files are curve_file.py's.
+expected files are curve_file.py's, triples triples.py's.
 """
 
+import array
 import copy
 import ctypes
 import doctest
@@ -35,6 +36,16 @@ import factor_curves as fc
 import half_kinds
 from curve_file import curve_file
 from factor_curves import _calls, _library
+from triples import figure, joined, of_bits, rows, triples
+
+try:
+    import numpy
+except ImportError:
+    numpy = None
+try:
+    import _testbuffer              # CPython's own arrays with any strides
+except ImportError:
+    _testbuffer = None
 
 LARGEST = 2**32 - 1
 STEEP = [(500, 10000, 0), (600, 14000, 10000)]
@@ -72,8 +83,17 @@ def opened(data):
     return ('ok', fc.Curve(given[3], given[1])) if given[0] == 'ok' else given
 
 
-def sample_files():
-    for path in sorted(glob.glob(os.path.join(ROOT, 'samples', '*.trf'))):
+def imported(data, shape):
+    """The reference's answer to triples, where the lists have an entry for each."""
+    room = [0] * (len(data) // 24)
+    number, *columns = ref.curve_import(data, shape, room, room, room)
+    if number < 0:
+        return ('refused', *divmod(-number, 2**32))
+    return ('ok', fc.Lists(*map(tuple, columns), shape))
+
+
+def sample_files(ending='.trf'):
+    for path in sorted(glob.glob(os.path.join(ROOT, 'samples', '*' + ending))):
         with open(path, 'rb') as file:
             yield path, file.read()
 
@@ -688,6 +708,387 @@ class Filling(unittest.TestCase):
             self.assertEqual(list(out), after)
 
 
+def nan(payload, sign=0):
+    """A not-a-number with this payload; below 2**51 it is a signalling one."""
+    return of_bits(sign << 63 | 0x7ff << 52 | payload)
+
+
+class Triples(unittest.TestCase):
+    """Document 02, item 7: points from the statistics package."""
+
+    # Triples as rows of figures, a shape and the answer, by the request's words.
+    INFINITE, NAN, LARGE = float('inf'), float('nan'), 1e300
+    REFUSED = [
+        ([], 1, 1, 0), ([], 7, 1, 0), (STEEP[:1], 2, 1, 0), (STEEP[:1], 0, 1, 0),
+        ([(0.5, 0.5, 0.5)] * 65, 5, 1, 0),                                  # 1 before 2 and 14
+        (STEEP, 0, 2, 0), (STEEP, 5, 2, 0), (STEEP, 258, 2, 0), (STEEP, LARGEST, 2, 0),
+        ([(0.5, 0, 0), (-1, 0, 0)], 5, 2, 0),                               # 2 before 14 and 3
+        ([(0, 0, 0.5), STEEP[1]], 2, 14, 0), ([STEEP[0], (600, 0.5, 0)], 2, 14, 1),
+        ([(-1, -1, 0.5), STEEP[1]], 2, 14, 0),                              # 14 before 3 and 4
+        ([(20001, 200001, 0.5), STEEP[1]], 2, 14, 0),
+        ([(500, 200001, 0), (600.5, 0, 0)], 2, 4, 0),                       # the first point
+        ([STEEP[0], (600, 14000, 10001), (0.5, 0, 0)], 2, 5, 1),
+        ([STEEP[0], (INFINITE, 0, 0)], 2, 14, 1), ([STEEP[0], (0, -INFINITE, 0)], 2, 14, 1),
+        ([(NAN, 0, 0), STEEP[1]], 2, 14, 0), ([(0, 0, NAN), STEEP[1]], 2, 14, 0),
+        ([(-1, 0, 0), STEEP[1]], 2, 3, 0), ([STEEP[0], (-600, 14000, 0)], 2, 3, 1),
+        ([(-1, -1, 10001), STEEP[1]], 2, 3, 0), ([(500, -1, 10001), STEEP[1]], 2, 4, 0),
+        ([(500, -0.0, 10001), STEEP[1]], 2, 5, 0), ([(500, 1, -10001), STEEP[1]], 2, 5, 0),
+        ([STEEP[0], (500, 14000, 0)], 2, 3, 1), ([STEEP[0], (2501, 14000, 0)], 2, 3, 1),
+        ([(20001, 0, 0), (20002, 0, 0)], 1, 3, 0),
+        ([(LARGE, 0, 0), STEEP[1]], 2, 3, 0), ([(-LARGE, 0, 0), STEEP[1]], 2, 3, 0),
+        ([(0, LARGE, 0), STEEP[1]], 2, 4, 0), ([(0, -LARGE, 0), STEEP[1]], 2, 4, 0),
+        ([(0, 0, LARGE), STEEP[1]], 2, 5, 0), ([(0, 0, -LARGE), STEEP[1]], 2, 5, 0),
+        ([(2**32 + 500, 10000, 0), STEEP[1]], 2, 3, 0),     # never cut to 32 or 64 bits
+        ([(500, 2**32 + 10000, 0), STEEP[1]], 2, 4, 0), ([(2**64, 0, 0), STEEP[1]], 2, 3, 0),
+        ([(500, 10000, 2**32), STEEP[1]], 2, 5, 0), ([(500, 10000, -2**64), STEEP[1]], 2, 5, 0),
+        ([(0, 0, 100), (100, 100, 200)], 2, 6, 0), (STEEP, 3, 6, 0),
+        ([(400, 9000, 0)] + STEEP[::-1], 1, 3, 2),
+        ([(400, 9000, 0), (450, 9000, 0), (500, 8000, 0)], 1, 6, 1),
+    ]
+
+    def same(self, data, shape):
+        """Of both functions; the answer is the reference's."""
+        given = imported(data, shape)
+        self.assertEqual(answer(fc.import_triples, data, shape), given, data.hex())
+        if given[0] == 'ok':
+            given = ('ok', fc.Curve(zip(*given[1][:3]), shape))
+        self.assertEqual(answer(fc.Curve.from_triples, data, shape), given)
+        return given
+
+    def assert_refused(self, data, shape, number, place):
+        self.assertEqual(self.same(data, shape), ('refused', number, place), data.hex())
+        with self.assertRaises(fc.Refused) as caught:
+            fc.Curve.from_triples(data, shape)
+        self.assertEqual(str(caught.exception), 'refused %d at %d: %s'
+                         % (number, place, fc.refusal_words(number)))
+
+    def test_examples(self):
+        """Those of docs/SPECIFICATION.md, item 7."""
+        data = triples(STEEP)
+        self.assertEqual(self.same(data, 2), ('ok', fc.Curve(STEEP, 2)))
+        minus_zero = data[:16] + bytes(7) + b'\x80' + data[24:]
+        self.assertEqual(self.same(minus_zero, 2), ('ok', fc.Curve(STEEP, 2)))
+        for shape in (0, 2, 9):
+            self.assert_refused(data[:-1], shape, 13, 0)
+            self.assert_refused(data[:24], shape, 1, 0)
+        self.assert_refused(data, 5, 2, 0)
+        for first, last, number, place in [
+                (STEEP[0], (600, 14000, 0.5), 14, 1), ((-1, 10000, self.NAN), STEEP[1], 14, 0),
+                ((500, 200001, 0), (600.5, 14000, 10000), 4, 0), ((-1, -1, 10001), STEEP[1], 3, 0),
+                ((500, -1, 10001), STEEP[1], 4, 0), ((500, 10000, 1e300), STEEP[1], 5, 0)]:
+            self.assert_refused(triples([first, last]), 2, number, place)
+        self.assert_refused(data, 3, 6, 0)
+
+    def test_bytes_of_document_01(self):
+        data = bytes.fromhex('0000000000407f40' '000000000088c340' '0000000000000000'
+                             '0000000000c08240' '000000000058cb40' '000000000088c340')
+        self.assertEqual(data, triples(STEEP))
+        self.assertEqual(fc.import_triples(data, 2),
+                         fc.Lists((500, 600), (10000, 14000), (0, 10000), 2))
+        curve = fc.Curve.from_triples(data, 2)
+        self.assertEqual((curve, curve.read(550)), (fc.Curve(STEEP, 2), 10800))
+
+    def test_accepted_curves(self):
+        for points, shape in curves.random_curves('triples', 200):
+            data = triples(points)
+            self.assertEqual(len(data), fc.TRIPLE_SIZE * len(points))
+            self.assertEqual(self.same(data, shape), ('ok', fc.Curve(points, shape)))
+            self.assertEqual(fc.write(*fc.import_triples(data, shape)), curve_file(points, shape))
+            given = fc.import_triples(data, shape)
+            self.assertEqual({type(each) for column in given[:3] for each in column}, {int})
+
+    def test_refused(self):
+        seen = set()
+        for points, shape, number, place in self.REFUSED:
+            self.assert_refused(triples(points), shape, number, place)
+            seen.add(number)
+        self.assertEqual(seen, {1, 2, 14, 3, 4, 5, 6})
+
+    def test_lengths(self):
+        """13 comes before all else, and 1 is about the count alone."""
+        flat = triples([(point, 5, 0) for point in range(300)])
+        for length in [*range(100), *range(1530, 1600), 24 * 255, 24 * 256, 24 * 258, 7200]:
+            for shape in (1, 5):
+                given = self.same(flat[:length], shape)
+                if length % 24:
+                    self.assertEqual(given, ('refused', 13, 0))
+                elif length < 48 or length > 64 * 24:
+                    self.assertEqual(given, ('refused', 1, 0))
+                else:
+                    self.assertEqual(given[0], 'ok' if shape == 1 else 'refused')
+        self.assert_refused(triples([(0.5, -1, 0)] * 2)[:-1], 7, 13, 0)
+        self.assert_refused(triples([(0.5, -1, 0)] * 65) + b'x', 7, 13, 0)
+
+    def test_long_input(self):
+        """No lists of that length are made."""
+        data = bytes(24 * 10**6)
+        for more, number in [(0, 1), (1, 13), (23, 13)]:
+            self.assertEqual(answer(fc.import_triples, data + bytes(more), 9),
+                             ('refused', number, 0))
+
+    def test_figures(self):
+        """Each figure in each field of a straight line; what it is to be is worked out by hand."""
+        whole = [0.0, -0.0, 1.0, 5.0, -5.0, -1.0]
+        large = [2.0**51, 2.0**52 - 1, 2.0**52, 2.0**52 + 1, 2.0**53 - 1, 2.0**53, 2.0**53 + 2,
+                 2.0**63, 2.0**64, 1e300, sys.float_info.max]
+        broken = [0.5, 1.5, 1 - 2**-53, 1 + 2**-52, 5 - 2**-50, 5 + 2**-50, 2.0**51 - 0.5,
+                  2.0**51 + 0.5, 2.0**52 - 0.5, 2.0**-1022, 5e-324, float('inf')]
+        payloads = [1, 2**51 - 1, 2**51, 2**51 + 1, 2**52 - 1, 0x123456789abcd]
+        none = [figure(sign * each) for each in broken for sign in (1, -1)]
+        none += [nan(payload, sign) for payload in payloads for sign in (0, 1)]
+        for field in range(3):
+            for eight in none:
+                self.assertEqual(self.with_figure(field, eight), ('refused', 14, 0))
+            for each in large:
+                for sign in (1, -1):
+                    self.assertEqual(self.with_figure(field, figure(sign * each)),
+                                     ('refused', 3 + field, 0))
+            for each in whole:
+                point = [10, 9, 100]
+                point[field] = int(each)
+                wrong = each < 0 and field < 2
+                self.assertEqual(self.with_figure(field, figure(each)), ('refused', 3 + field, 0)
+                                 if wrong else checked([point, (19, 18, 100)], 2))
+
+    def with_figure(self, field, eight):
+        """The answer to a straight line with one figure of the first point in place of its own."""
+        made = rows([(10, 9, 100), (19, 18, 100)])
+        made[0][field] = eight
+        return self.same(joined(made), 2)
+
+    def test_limits(self):
+        """The largest and smallest figures that are taken, and their neighbours in binary64."""
+        for points, field, limit in [
+                ([(18000, 0, 0), (20000, 0, 0)], 0, 20000),
+                ([(0, 0, 0), (1, 200000, 0)], 1, 200000),
+                ([(0, 0, 0), (2000, 200000, 10000)], 2, 10000)]:
+            self.assertEqual(self.same(triples(points), 1)[0], 'ok')
+            bits = int.from_bytes(figure(limit), 'little')
+            for eight, number in [(of_bits(bits + 1), 14), (of_bits(bits - 1), 14),
+                                  (figure(limit + 1), 3 + field)]:
+                made = rows(points)
+                made[1][field] = eight
+                self.assert_refused(joined(made), 1, number, 1)
+        falling = [(0, 200000, -10000), (2000, 0, -10000)]
+        self.assertEqual(self.same(triples(falling), 3), ('ok', fc.Curve(falling, 3)))
+        self.assert_refused(triples([falling[0], (2000, 0, -10001)]), 3, 5, 1)
+
+    def test_changed_figures(self):
+        """One figure, or one bit, of an accepted curve changed."""
+        rng, seen = random.Random('changed figures'), set()
+        figures = [0.5, -1, -0.0, 1e300, 20001, 200001, 10001, -10001, float('inf'), float('nan'),
+                   2.0**53, 1.5]
+        for points, shape in curves.random_curves('changed figures', 250):
+            made = rows(points)
+            made[rng.randrange(len(points))][rng.randrange(3)] = rng.choice(
+                [figure(rng.choice(figures)), of_bits(rng.getrandbits(64)),
+                 nan(rng.getrandbits(52))])
+            given = self.same(joined(made), shape)
+            seen.add(given[1] if given[0] == 'refused' else 0)
+            flipped = bytearray(triples(points))
+            flipped[rng.randrange(len(flipped))] ^= 1 << rng.randrange(8)
+            self.same(bytes(flipped), shape)
+            self.same(bytes(flipped), rng.choice([0, 1, 2, 3, 4, 5, 256 + shape, LARGEST]))
+        self.assertEqual(seen, {0, 14, 3, 4, 5, 6})
+
+    def test_lent_lists(self):
+        """Refusal 11, which only a caller with lists of its own can meet."""
+        call = _library.library().curve_import
+        flat = [(point, 5, 0) for point in range(65)]
+        for points, shape, lengths in [
+                (STEEP, 2, (2, 2, 2)), (STEEP, 2, (1, 2, 2)), (STEEP, 2, (2, 0, 2)),
+                (STEEP, 2, (2, 2, 1)), (STEEP, 2, (5, 2, 70)), (STEEP, 7, (1, 2, 2)),
+                (STEEP, 7, (2, 2, 2)), ([(0.5, 0, 0)] * 2, 2, (2, 2, 1)), (STEEP, 3, (2, 2, 2)),
+                (flat, 1, (64, 64, 64)), (flat, 1, (65, 65, 64)), (flat, 1, (65, 65, 65)),
+                (flat[:64], 1, (64, 65, 70)), ([], 1, (0, 0, 0)), (flat[:1], 1, (0, 0, 0))]:
+            lent = [(kind * 70)(*range(900, 970))
+                    for kind in (ctypes.c_uint32, ctypes.c_uint32, ctypes.c_int32)]
+            before = [list(range(900, 900 + length)) for length in lengths]
+            data = triples(points)
+            for bytes_given in (data, data + b'x'):
+                number, *after = ref.curve_import(bytes_given, shape, *before)
+                self.assertEqual(call(bytes_given, len(bytes_given), shape, lent[0], lengths[0],
+                                      lent[1], lengths[1], lent[2], lengths[2]), number)
+                self.assertEqual([list(each) for each in lent], [
+                    column + list(range(900 + len(column), 970)) for column in after])
+                for each in lent:
+                    each[:] = range(900, 970)
+
+    def test_samples(self):
+        (rising,) = [data for path, data in sample_files('.f64') if path.endswith('/rising.f64')]
+        self.assertEqual(fc.Curve.from_triples(rising, 1),
+                         fc.Curve.from_file(os.path.join(ROOT, 'samples', 'rising.trf')))
+        for path, data in sample_files('.f64'):
+            said = re.search(r'refused-(\d+)-', path)
+            given = self.same(data, 1)
+            self.assertEqual(given[:2] if said else given[0],
+                             ('refused', int(said.group(1))) if said else 'ok')
+
+    def test_shape_codes(self):
+        data = triples(STEEP)
+        for shape in (0, 5, 255, 257, LARGEST):
+            self.assert_refused(data, shape, 2, 0)
+        self.assertEqual(fc.Curve.from_triples(data, Index(2)), fc.Curve(STEEP, 2))
+        self.assertIs(type(fc.import_triples(data, Index(2)).shape), int)
+
+    def test_other_buffers(self):
+        data = triples(STEEP)
+        for same in (bytearray(data), memoryview(data), memoryview(b'x' + data)[1:],
+                     memoryview(data[::-1])[::-1], array.array('B', data), array.array('b', data),
+                     memoryview(data).cast('c'), memoryview(data).cast('B', shape=[2, 24]),
+                     (ctypes.c_uint8 * 48).from_buffer_copy(data),
+                     (ctypes.c_char * 48).from_buffer_copy(data)):
+            self.assertEqual(fc.Curve.from_triples(same, 2), fc.Curve(STEEP, 2))
+            self.assertEqual(fc.import_triples(same, 2), fc.import_triples(data, 2))
+        memory = bytearray(data)
+        fc.import_triples(memory, 2)
+        memory.append(0)                        # nothing holds it after the call
+        self.assertEqual(answer(fc.import_triples, memory, 2), ('refused', 13, 0))
+        self.assertEqual(memory, data + b'\0')
+
+    def test_no_bytes(self):
+        for wrong in (5, None, 1.5, 'x' * 48, STEEP, tuple(map(float, range(6))), iter(STEEP)):
+            for call in (fc.import_triples, fc.Curve.from_triples):
+                with self.assertRaisesRegex(TypeError, 'must be bytes or an array of float64'):
+                    call(wrong, 2)
+
+    def test_subclass(self):
+        class Tariff(fc.Curve):
+            pass
+        self.assertIs(type(Tariff.from_triples(triples(STEEP), 2)), Tariff)
+
+    def test_threads(self):
+        made = list(curves.random_curves('triples in threads', 200))
+        words = [(triples(points), shape) for points, shape in made]
+        with multiprocessing.pool.ThreadPool(4) as pool:
+            given = pool.starmap(fc.Curve.from_triples, words)
+        self.assertEqual(given, [fc.Curve(points, shape) for points, shape in made])
+
+
+def checked(points, shape):
+    """What the exact fractions say of points: the curve, or a refusal."""
+    given = ref.check(*lists(points), shape)
+    return given if given[0] == 'refused' else ('ok', fc.Curve(points, shape))
+
+
+def table(points):
+    """The points as an array of float64 with three columns, by the buffer protocol."""
+    flat = array.array('d', [float(each) for point in points for each in point])
+    return memoryview(flat).cast('B').cast('d', shape=[len(points), 3])
+
+
+def ctypes_table(points, kind):
+    return (kind * 3 * len(points))(*[(kind * 3)(*map(float, point)) for point in points])
+
+
+class Arrays(unittest.TestCase):
+    """Triples as arrays, numpy's and others."""
+
+    def same(self, made, points, shape):
+        given = checked(points, shape)
+        self.assertEqual(answer(fc.Curve.from_triples, made, shape), given)
+        if given[0] == 'ok':
+            given = ('ok', fc.Lists(*map(tuple, lists(points)), shape))
+        self.assertEqual(answer(fc.import_triples, made, shape), given)
+
+    def test_of_the_buffer_protocol(self):
+        for points, shape in curves.random_curves('arrays', 100):
+            self.same(table(points), points, shape)
+            self.same(table(points)[::2], points[::2], shape)
+            self.same(table(points[::-1])[::-1], points, shape)
+            self.same(ctypes_table(points, ctypes.c_double.__ctype_le__), points, shape)
+            self.same(ctypes_table(points, ctypes.c_double.__ctype_be__), points, shape)
+
+    @unittest.skipIf(_testbuffer is None, "CPython's _testbuffer is not installed")
+    def test_orders_and_strides(self):
+        for points, shape in curves.random_curves('strides', 100):
+            count, flat = len(points), [float(each) for point in points for each in point]
+            columns = [float(each) for column in lists(points) for each in column]
+            wide = [each for point in points for figure in point for each in (figure, 0.5)]
+            for order in ('', '@', '=', '<', '>', '!'):
+                for items, strides, offset in [
+                        (flat, [24, 8], 0), (columns, [8, 8 * count], 0),
+                        (flat[::-1], [-24, -8], 8 * (3 * count - 1)), (wide, [48, 16], 0)]:
+                    made = _testbuffer.ndarray(items, shape=[count, 3], strides=strides,
+                                               offset=offset, format=order + 'd')
+                    self.same(made, points, shape)
+
+    def test_refused(self):
+        for points, shape, number, place in Triples.REFUSED:
+            if points:
+                for made in (table(points), ctypes_table(points, ctypes.c_double.__ctype_be__)):
+                    self.assertEqual(answer(fc.Curve.from_triples, made, shape),
+                                     ('refused', number, place))
+        for kind in (ctypes.c_double.__ctype_le__, ctypes.c_double.__ctype_be__):
+            self.assertEqual(answer(fc.import_triples, ctypes_table([], kind), 1),
+                             ('refused', 1, 0))
+
+    def test_every_bit_counts(self):
+        """Not-a-numbers keep their bits in either order: the library sees what the array has."""
+        made = ctypes_table(STEEP, ctypes.c_double.__ctype_be__)
+        for at, eight in [(0, nan(1)), (8, nan(2**51 - 1, 1)), (40, nan(0x123456789abcd))]:
+            wrong = bytearray(bytes(made))
+            wrong[at:at + 8] = eight[::-1]
+            again = type(made).from_buffer_copy(bytes(wrong))
+            little = bytearray(triples(STEEP))
+            little[at:at + 8] = eight
+            self.assertEqual(_calls._triples(again), bytes(little))
+            self.assertEqual(answer(fc.import_triples, again, 2), ('refused', 14, at // 24))
+
+    def test_other_figures(self):
+        """No other kind of number is turned into binary64 by the package."""
+        for code in 'fqQiIlLhH':
+            flat = array.array(code, [500, 10000, 0, 600, 14000, 10000])
+            for made in (flat, memoryview(flat).cast('B').cast(code, shape=[2, 3])):
+                for call in (fc.import_triples, fc.Curve.from_triples):
+                    with self.assertRaisesRegex(TypeError, r"float64, not of format '%s'; astype"
+                                                r"\('float64'\)" % code):
+                        call(made, 2)
+        for kind in (ctypes.c_bool, ctypes.c_wchar, ctypes.c_float.__ctype_be__):
+            self.assertRaises(TypeError, fc.import_triples, (kind * 3 * 2)(), 2)
+
+    def test_other_shapes(self):
+        flat = array.array('d', map(float, range(24)))
+        for shape in ([24], [12, 2], [6, 4], [4, 6], [24, 1], [3, 8], [4, 3, 2], [8, 3, 1],
+                      [1, 8, 3]):
+            made = memoryview(flat).cast('B').cast('d', shape=shape)
+            for call in (fc.import_triples, fc.Curve.from_triples):
+                with self.assertRaisesRegex(ValueError, r'shape \(n, 3\), not \(%d,' % shape[0]) \
+                        as caught:
+                    call(made, 2)
+                self.assertNotIsInstance(caught.exception, fc.Refused)
+        self.assertRaises(ValueError, fc.import_triples, ctypes.c_double(5), 2)
+
+    @unittest.skipIf(numpy is None, 'numpy is not installed')
+    def test_numpy(self):
+        for points, shape in curves.random_curves('numpy', 60):
+            made = numpy.array(points, dtype='float64')
+            wide = numpy.full((2 * len(points), 7), 0.5)
+            wide[::2, 6:0:-2] = made
+            for same in (made, made.astype('<f8'), made.astype('>f8'), numpy.asfortranarray(made),
+                         numpy.asfortranarray(made.astype('>f8')), wide[::2, 6:0:-2],
+                         made[::-1].copy()[::-1], made.T.copy().T):
+                self.same(same, points, shape)
+            self.same(numpy.frombuffer(triples(points), '<f8').reshape(-1, 3), points, shape)
+            self.same(numpy.frombuffer(triples(points), 'uint8'), points, shape)
+            self.same(numpy.frombuffer(b'x' + triples(points), '<f8', offset=1).reshape(-1, 3),
+                      points, shape)
+        self.assertEqual(answer(fc.import_triples, numpy.empty((0, 3)), 1), ('refused', 1, 0))
+        for kind in ('float32', 'float16', 'longdouble', 'int64', 'uint32', 'object', 'bool',
+                     'complex128', 'datetime64[D]'):
+            self.assertRaises(TypeError, fc.import_triples, numpy.zeros((2, 3), kind), 1)
+        for shape in ((6,), (3, 2), (2, 3, 1), ()):
+            with self.assertRaisesRegex(ValueError, r'shape \(n, 3\)'):
+                fc.import_triples(numpy.zeros(shape), 1)
+
+    @unittest.skipIf(numpy is None, 'numpy is not installed')
+    def test_numpy_is_not_imported(self):
+        text = 'import sys, factor_curves, factor_curves.__main__; print("numpy" in sys.modules)'
+        done = subprocess.run([sys.executable, '-c', text], stdout=subprocess.PIPE, timeout=60,
+                              check=True)
+        self.assertEqual(done.stdout, b'False\n')
+
+
 class Index:
     """A whole number that is no int."""
 
@@ -712,6 +1113,8 @@ class Numbers(unittest.TestCase):
         yield 'unsigned', lambda n: fc.check(*columns, n), 'shape'
         yield 'unsigned', lambda n: fc.write(*columns, n), 'shape'
         yield 'unsigned', lambda n: fc.Curve(STEEP, n), 'shape'
+        yield 'unsigned', lambda n: fc.import_triples(triples(STEEP), n), 'shape'
+        yield 'unsigned', lambda n: fc.Curve.from_triples(table(STEEP), n), 'shape'
         yield 'unsigned', lambda n: fc.read(*columns, 2, n), 'area'
         yield 'unsigned', lambda n: fc.pair(*columns, 2, n, 550), 'form'
         yield 'unsigned', lambda n: fc.pair(*columns, 2, 550, n), 'plan'
@@ -912,12 +1315,23 @@ class Refusals(unittest.TestCase):
         """Each number has words of its own: those that stand in c/refusal_words.c."""
         with open(os.path.join(ROOT, 'c', 'refusal_words.c'), encoding='ascii') as file:
             text = re.sub(r'"\s*"', '', file.read())
-        words = [fc.refusal_words(number) for number in range(13)]
-        self.assertEqual(len(set(words)), 13)
+        words = [fc.refusal_words(number) for number in range(15)]
+        self.assertEqual(len(set(words)), 15)
         for each in words:
             self.assertIn('return "%s";' % each, text)
-        for number in (-1, 13, 2**31 - 1, -2**31):
+        for number in (-1, 15, 2**31 - 1, -2**31):
             self.assertEqual(fc.refusal_words(number), words[0])
+
+    def test_words_for_figures(self):
+        """Those of 3 and 4 fit negative figures too, which triples can have."""
+        for number, words in [
+                (fc.Refusal.AREA, 'an area is outside 0 to 20,000, not larger than the one before,'
+                 ' or more than 2,000 beyond it'),
+                (fc.Refusal.VALUE, 'a value is outside 0 to 200,000'),
+                (fc.Refusal.SLOPE, 'a slope is outside -10,000 to 10,000'),
+                (fc.Refusal.TRIPLES, 'the length of the triples is no multiple of 24 bytes'),
+                (fc.Refusal.FIGURE, 'a figure is not a finite whole number')]:
+            self.assertEqual(fc.refusal_words(number), words)
 
     def test_words_for_the_shape_code(self):
         """They name every code; the README has the same."""
@@ -944,7 +1358,10 @@ class Package(unittest.TestCase):
         numbers = {name[14:]: int(number) for name, number in header.items()
                    if name.startswith('CURVE_REFUSED_')}
         self.assertEqual({each.name: each.value for each in fc.Refusal}, numbers)
-        self.assertEqual(len(numbers), 12)
+        self.assertEqual(len(numbers), 14)
+        self.assertEqual((fc.Refusal.TRIPLES, fc.Refusal.FIGURE), (13, 14))
+        self.assertEqual(fc.TRIPLE_SIZE, int(header['CURVE_TRIPLE_BYTES']))
+        self.assertEqual(fc.TRIPLE_SIZE, 24)
         desk = self.defines('desk.h')
         self.assertEqual(fc.SCRATCH_ENOUGH,
                          int(desk['DESK_POINT_BYTES']) * int(header['CURVE_COUNT_MAX']))
@@ -961,7 +1378,8 @@ class Package(unittest.TestCase):
     def test_names(self):
         self.assertEqual(sorted(fc.__all__), sorted(
             name for name in vars(fc) if not name.startswith('_')))
-        for name in ('SCRATCH_TWO', 'desk_reading', 'desk_reading_two'):
+        for name in ('SCRATCH_TWO', 'TRIPLE_SIZE', 'desk_reading', 'desk_reading_two',
+                     'import_triples'):
             self.assertIn(name, fc.__all__)
         for name in fc.__all__:
             thing = getattr(fc, name)
@@ -988,6 +1406,13 @@ class Package(unittest.TestCase):
                     self.assertGreater(result.attempted, 4)
             finally:
                 os.chdir(before)
+
+    def test_examples_of_functions(self):
+        for thing in (fc.import_triples, fc.Curve.from_triples):
+            (test,) = doctest.DocTestFinder().find(thing, globs=dict(vars(fc)))
+            result = doctest.DocTestRunner().run(test)
+            self.assertEqual(result.failed, 0)
+            self.assertGreater(result.attempted, 1)
 
 
 FIND = '''

@@ -13,6 +13,9 @@ from fractions import Fraction
 import curves
 import exact_fractions as ref
 import half_kinds
+import import_kinds
+import import_notes
+import triples
 from curve_file import curve_file
 
 tests = 0
@@ -1079,6 +1082,221 @@ def test_c_fill_slopes():
                (-5 * 2**32 - 2, found))
     expect('fill, a list short', ref.curve_fill_slopes(areas, values, [7, 7]),
            (-2**32, [7, 7]))
+
+
+# K3's points by hand: 500 is 125/64 of 2^8, 600 is 75/64 of 2^9, 10,000 and
+# 14,000 are 625/512 and 875/512 of 2^13.
+TRIPLES_48 = bytes.fromhex('00 00 00 00 00 40 7F 40 00 00 00 00 00 88 C3 40'
+                           '00 00 00 00 00 00 00 00'
+                           '00 00 00 00 00 C0 82 40 00 00 00 00 00 58 CB 40'
+                           '00 00 00 00 00 88 C3 40')
+
+
+def test_triples():
+    """What the tests' writer of triples writes. -10,000 has the sign bit, 2 is
+    2^1, the least number is the last bit."""
+    expect('as exported', triples.triples(STEEP), TRIPLES_48)
+    for number, wanted in ((-10000, '00 00 00 00 00 88 c3 c0'),
+                           (2, '00 00 00 00 00 00 00 40'),
+                           (5e-324, '01 00 00 00 00 00 00 00'),
+                           (-0.0, '00 00 00 00 00 00 00 80'),
+                           (math.inf, '00 00 00 00 00 00 f0 7f')):
+        expect('%r' % number, triples.figure(number).hex(' '), wanted)
+        eight = triples.figure(number)
+        expect('bits', triples.of_bits(triples.bits_of(eight)), eight)
+    expect('a row', triples.joined(triples.rows(STEEP)), TRIPLES_48)
+    expect('no number', math.isnan(triples.number(bytes(6) + b'\xf8\x7f')),
+           True)
+
+
+def taken(data, shape, count=None):
+    """With lists long enough, or of this length."""
+    count = len(data) // 24 if count is None else count
+    return ref.import_points(data, shape, (count,) * 3)
+
+
+def test_import():
+    """Document 02, item 7: the points and the count, in each shape."""
+    expect('48 bytes', taken(TRIPLES_48, 2), ('ok', 2, STEEP))
+    expect('rising', taken(TRIPLES_48, 1), ('ok', 2, STEEP))
+    expect('falling', taken(TRIPLES_48, 3), refused(6, 0))
+    for points, shape in ((K5, 1), (K7, 2), (K8, 2), (MIRROR_K5, 3),
+                          (MIRROR_K7, 4), (HILL, 4), (HIGH, 2), (flat(64), 3)):
+        expect('shape %d' % shape, taken(triples.triples(points), shape),
+               ('ok', len(points), points))
+    minus = TRIPLES_48[:16] + bytes(7) + b'\x80' + TRIPLES_48[24:]
+    expect('minus zero', taken(minus, 2), ('ok', 2, STEEP))
+    zeros = triples.triples([(-0.0, -0.0, -0.0), (1, -0.0, -0.0)])
+    expect('minus zeros', taken(zeros, 4), ('ok', 2, [(0, 0, 0), (1, 0, 0)]))
+    answer = ref.curve_import(zeros, 1, [7] * 2, [7] * 2, [7] * 2)
+    expect('whole numbers', [type(number) for entries in answer[1:]
+                             for number in entries], [int] * 6)
+
+
+# What each figure is, in words of item 7.
+NOT_WHOLE = [0.5, -0.5, 0.1, 1.5, 5e-324, -5e-324, 2.2250738585072014e-308,
+             0.9999999999999999, 1.0000000000000002, 499.99999999999994,
+             20000.000000000004, 2.0**31 + 0.5, 2.0**51 + 0.5, 2.0**52 - 0.5,
+             -(2.0**52 - 0.5), math.inf, -math.inf, math.nan, -math.nan]
+FAR = [2.0**31, -2.0**31, 2.0**32 - 1, 2.0**32 + 1, 2.0**52, 2.0**52 + 1,
+       2.0**53 - 1, 2.0**53, -2.0**53, 2.0**63, 2.0**64, 2.0**64 + 4096, 1e300,
+       -1e300, sys.float_info.max]
+
+
+def test_import_figures():
+    """Document 02, item 7: in each field of each point. A figure that is not a
+    finite whole number is refused 14; of the others the area 3, the value 4
+    and the slope 5, whatever their size."""
+    for figure in NOT_WHOLE + FAR:
+        for point, field in ((0, 0), (1, 1), (2, 2), (1, 0), (2, 1), (0, 2)):
+            points = curves.changed(flat(3), point, field, figure)
+            number = 14 if figure in NOT_WHOLE else 3 + field
+            expect('%r' % figure, taken(triples.triples(points), 1),
+                   refused(number, point))
+    for figure, whole in ((0.0, 0), (-0.0, 0), (-7.0, -7), (2.0**53, 2**53),
+                          (1e22, 10**22), (-2.0**70, -2**70)):
+        expect('%r' % figure, (ref.is_whole(figure), ref.whole(figure)),
+               (True, whole))
+    # Not-a-numbers by their bits: quiet and signalling, of both signs.
+    for eight in ('000000000000f87f', '010000000000f07f', 'ffffffffffffff7f',
+                  '000000000000f8ff', '000000000000f4ff', '000000000100f07f',
+                  'fffffffffffff7ff'):
+        data = bytes.fromhex(eight)
+        for at in range(0, 48, 8):
+            wrong = TRIPLES_48[:at] + data + TRIPLES_48[at + 8:]
+            expect('no number', taken(wrong, 2), refused(14, at // 24))
+
+
+def test_import_limits():
+    """Document 02, item 7, with document 01's limits; negative figures."""
+    for figure, field, number in (
+            (-1, 0, 3), (20001, 0, 3), (-20000, 0, 3), (-1, 1, 4),
+            (200001, 1, 4), (-200000, 1, 4), (-10001, 2, 5), (10001, 2, 5)):
+        for point in (0, 1):
+            points = curves.changed(flat(2), point, field, figure)
+            expect('%d' % figure, taken(triples.triples(points), 1),
+                   refused(number, point))
+    limits = [(18000, 200000, -10000), (20000, 200000, 10000)]
+    expect('limits', taken(triples.triples(limits), 2), ('ok', 2, limits))
+    for gap, answer in ((2000, ('ok', 2, flat(2, 2000))),
+                        (2001, refused(3, 1)), (0, refused(3, 1)),
+                        (-1, refused(3, 1))):
+        expect('a gap of %d' % gap, taken(triples.triples(flat(2, gap)), 1),
+               answer)
+
+
+def test_import_rows():
+    """Document 02, item 7: 13 before 11 and all later rows; 1 by the count
+    alone; the code that the caller names."""
+    for length in range(200):
+        data, count = (TRIPLES_48 * 5)[:length], length // 24
+        for lists in ((count,) * 3, (0, 0, 0), (99, 99, 99)):
+            answer = ref.import_points(data, 9, lists)
+            if length % 24:
+                expect('%d bytes' % length, answer, refused(13, 0))
+            elif lists[0] < count:
+                expect('%d points' % count, answer, refused(11, 0))
+            else:
+                expect('%d points' % count, answer,
+                       refused(2 if count > 1 else 1, 0))
+    for lists in ((1, 2, 2), (2, 1, 2), (2, 2, 1), (0, 9, 9)):
+        expect('lists', ref.import_points(TRIPLES_48, 2, lists),
+               refused(11, 0))
+    expect('longer', ref.import_points(TRIPLES_48, 2, (2, 65, 300)),
+           ('ok', 2, STEEP))
+    many = triples.triples(flat(65))
+    expect('65 points, short', taken(many, 1, 64), refused(11, 0))
+    expect('65 points', taken(many, 1, 65), refused(1, 0))
+    expect('65 points, longer', taken(many, 1, 99), refused(1, 0))
+    expect('64 points', taken(many[:-24], 1), ('ok', 64, flat(64)))
+    expect('none', taken(b'', 1, 9), refused(1, 0))
+    half = triples.triples([(0.5, 5, 0), (1, 5, 0)])
+    for code in (0, 5, 255, 257, 2**31 + 1, LARGEST):
+        expect('code %d' % code, taken(TRIPLES_48, code), refused(2, 0))
+        expect('2 before 14', taken(half, code), refused(2, 0))
+
+
+def test_import_order():
+    """Document 02, item 7: 14 at its point, just before 3, 4 and 5 there."""
+    start, half = (0, 5, 0), (2, 5, 0.5)
+    for point in ((30000, 5, 0.5), (0, 300000, 0.5), (30000.5, 300000, 20000),
+                  (-1, 5.5, 0), (1, -5.5, 20000), (1, 5, 20000.5),
+                  (math.inf, -1, -20000), (1, math.nan, 20000)):
+        expect('14 at 1', taken(triples.triples([start, point, half]), 1),
+               refused(14, 1))
+        expect('14 at 0', taken(triples.triples([half, point, start]), 1),
+               refused(14, 0))
+    for point, number in (((30000, 300000, 20000), 3), ((0, 5, 20000), 3),
+                          ((-1, -1, 0), 3), ((1, 300000, 20000), 4),
+                          ((1, -1, -20000), 4), ((1, 5, 20000), 5)):
+        expect('%d at 1' % number,
+               taken(triples.triples([start, point, half]), 1),
+               refused(number, 1))
+        expect('14 before it', taken(triples.triples([half, point]), 1),
+               refused(14, 0))
+    # Points before segments.
+    falls = [start, (1, 4, 0)]
+    expect('14 at 2', taken(triples.triples(falls + [half]), 1),
+           refused(14, 2))
+    expect('6 at 0', taken(triples.triples(falls + [(2, 5, 0)]), 1),
+           refused(6, 0))
+
+
+def test_imported_files():
+    """Document 02, item 7: checked as by Open, where a file can hold them."""
+    rng = random.Random('triples')
+    results = 0
+    for _ in range(400):
+        points, shape = curves.any_curve(rng)
+        points = rng.choice([points, points, curves.past_limit(rng, points),
+                             curves.shapeless_points(rng, points)])
+        numbers = list(zip(*curves.lists(points)))
+        length = len(points) - rng.choice([0, 0, 0, 1])
+        opened = ref.open_file(curve_file(numbers, shape), (length,) * 3)
+        answer = taken(triples.triples(numbers), shape, length)
+        results += answer[0] == 'ok'
+        expect('as by Open', answer, opened if opened[0] == 'refused'
+               else ('ok', *opened[2:]))
+    expect('results', 100 < results < 300, True)
+
+
+def test_import_kinds():
+    """The lists of figures that import_kinds.py puts into each field, and what
+    import_notes.py says of them."""
+    for name, bits, whole in (('not whole', import_kinds.NOT_WHOLE, False),
+                              ('far', import_kinds.FAR, True)):
+        numbers = [triples.number(triples.of_bits(one)) for one in bits]
+        expect(name, {ref.is_whole(number) for number in numbers}, {whole})
+        expect('each once', len(set(bits)), len(bits))
+        if whole:
+            expect('far', min(map(abs, numbers)) > 200000, True)
+    rng = random.Random('figures')
+    for kind, make in import_kinds.KIND_BITS.items():
+        for _ in range(300):
+            expect(kind, import_notes.kind_of(make(rng)), kind)
+
+
+def test_c_import():
+    """include/factor_curves.h: the answer of Import, and its lists."""
+    expect('import',
+           ref.curve_import(TRIPLES_48, 2, [7] * 2, [7] * 3, [7] * 4),
+           (2, [500, 600], [10000, 14000, 7], [0, 10000, 7, 7]))
+    below = triples.triples(K7)
+    expect('import, slope below 0',
+           ref.curve_import(below, 2, [7] * 2, [7] * 2, [7] * 2),
+           (2, [0, 2], [0, 0], [-300, 300]))
+    lent = [7, 7], [8, 8], [9, 9]
+    for data, shape, answer in (
+            (TRIPLES_48[:47], 2, -13 * 2**32),
+            (TRIPLES_48 * 2, 2, -11 * 2**32), (TRIPLES_48[:24], 2, -2**32),
+            (TRIPLES_48, 5, -2 * 2**32),
+            (triples.triples([(0, 5, 0), (1, 5, 0.5)]), 1, -14 * 2**32 - 1),
+            (triples.triples([(0, 5, 0), (1e300, 5, 0)]), 1, -3 * 2**32 - 1),
+            (triples.triples([(0, -1, 0), (1, 5, 0)]), 1, -4 * 2**32),
+            (triples.triples([(0, 5, 0), (1, 5, -2**40)]), 1, -5 * 2**32 - 1),
+            (triples.triples(K9), 2, -6 * 2**32)):
+        expect('import, refused', ref.curve_import(data, shape, *lent),
+               (answer, *lent))
 
 
 def test_curve_file():

@@ -1,6 +1,7 @@
 """Wrong versions of bench/plain.c: the first text, which occurs there once,
 becomes the second. Those of shape codes, and of falling and concave curves,
-are in wrong_shapes.py, those of halves in wrong_halves.py."""
+are in wrong_shapes.py, those of halves in wrong_halves.py, those of Import in
+wrong_imports.py."""
 
 CHECKED = '''\
     int64_t fault = lists_fault(c, values_len, slopes_len, shape);

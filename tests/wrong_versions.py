@@ -4,9 +4,9 @@
 
 Builds client.c and far_lengths.c with the plain C version of bench/, which
 must pass on the file CASES, then with the wrong versions of it that
-wrong_edits.py, wrong_shapes.py and wrong_halves.py have, which must not. With
-"threads" also threads.c under the thread sanitizer. Nor may the client pass on
-streams that leave something out.
+wrong_edits.py, wrong_shapes.py, wrong_halves.py and wrong_imports.py have,
+which must not. With "threads" also threads.c under the thread sanitizer. Nor
+may the client pass on streams that leave something out.
 
 A wrong version is one edit, the first text of which becomes the second, or a
 list of such edits.
@@ -20,6 +20,7 @@ import sys
 
 import wrong_edits
 import wrong_halves
+import wrong_imports
 import wrong_shapes
 
 HERE = os.path.dirname(os.path.abspath(__file__))
@@ -27,20 +28,21 @@ ROOT = os.path.join(HERE, '..')
 CC = shlex.split(os.environ.get('CC', 'cc'))
 CALLS = ['desk_reading', 'desk_reading_two', 'curve_check', 'curve_read',
          'curve_pair', 'curve_sheet', 'curve_open', 'curve_write',
-         'curve_fill_slopes']
+         'curve_fill_slopes', 'curve_import']
 FLAGS = ['-std=c99', '-I' + os.path.join(ROOT, 'include'),
          '-I' + os.path.join(ROOT, 'bench')]
 FLAGS += ['-Dplain_%s=%s' % (call, call) for call in CALLS]
 COMPARED = (wrong_edits.COMPARED + wrong_shapes.COMPARED
-            + wrong_halves.COMPARED)
+            + wrong_halves.COMPARED + wrong_imports.COMPARED)
 
 
 class Test:
     """A program that takes cases, and what it is made of."""
 
-    def __init__(self, name, words, parts, flags=()):
+    def __init__(self, name, words, parts, flags=(), fault=None):
         self.name, self.words, self.parts = name, words, parts
         self.flags = [*FLAGS, *flags]
+        self.fault = fault                  # its status then; None for any
         self.objects = []
 
     def compile_parts(self, folder):
@@ -52,8 +54,8 @@ class Test:
                            check=True)
             self.objects.append(made)
 
-    def passes(self, name, text, folder, cases):
-        """Whether it passes with this text for plain.c."""
+    def status(self, name, text, folder, cases):
+        """Its exit status with this text for plain.c; -1 if it goes on."""
         program = os.path.join(folder, name)
         with open(program + '.c', 'w', encoding='ascii') as file:
             file.write(text)
@@ -63,24 +65,33 @@ class Test:
             try:
                 done = subprocess.run([program, *self.words], stdin=stream,
                                       stdout=subprocess.DEVNULL,
-                                      stderr=subprocess.DEVNULL, timeout=60)
+                                      stderr=subprocess.DEVNULL, timeout=60,
+                                      env={**os.environ, **SANITIZER})
             except subprocess.TimeoutExpired:
-                return False
-        return done.returncode == 0
+                return -1
+        return done.returncode
+
+    def finds(self, status):
+        """Whether this status says that the version is wrong."""
+        return status != 0 if self.fault is None else status == self.fault
 
 
+# Of the thread sanitizer, its own status is wanted: another answer, with which
+# threads.c ends too, comes by chance.
+RACE = 66
+SANITIZER = {'TSAN_OPTIONS': 'exitcode=%d history_size=7' % RACE}
 CLIENT = Test('client', ['1', 'first'], ['client', 'stream', 'lend'])
 FAR = Test('far', [], ['far_lengths'])
 THREADS = Test('threads', ['1', '1'], ['threads', 'stream'],
-               ['-g', '-pthread', '-fsanitize=thread'])
+               ['-g', '-pthread', '-fsanitize=thread'], RACE)
 
 
 def jobs(with_threads):
     """(test, edits), no edits for the right version."""
     groups = [(CLIENT, edits) for _, edits in COMPARED]
-    groups += [(FAR, wrong_edits.FAR)]
+    groups += [(FAR, wrong_edits.FAR + wrong_imports.FAR)]
     if with_threads:
-        groups += [(THREADS, wrong_edits.SHARED)]
+        groups += [(THREADS, wrong_edits.SHARED + wrong_imports.SHARED)]
     for test in dict.fromkeys(test for test, _ in groups):
         yield test, []
     for test, versions in groups:
@@ -95,7 +106,8 @@ def fault_of(right, folder, cases, number, test, edits):
         if right.count(old) != 1:
             return '%d times in bench/plain.c: %s' % (right.count(old), old)
         text = text.replace(old, new)
-    if test.passes(name, text, folder, cases) == (edits == []):
+    status = test.status(name, text, folder, cases)
+    if test.finds(status) if edits else status == 0:
         return None
     if not edits:
         return '%s: bench/plain.c itself does not pass' % test.name

@@ -33,26 +33,38 @@ A curve file holds one curve, and each curve has one file:
     >>> Curve.from_bytes(curve.to_bytes()) == curve
     True
 
-The functions check, read, pair, sheet, write, fill_slopes, open_bytes, desk_reading and
-desk_reading_two are the library's calls on plain lists and bytes. The library is looked for and
-loaded at the first call; importing the package does not need it. `python3 -m factor_curves --help`
-says what the command line offers.
+A statistics package's points come as triples: area, value and slope in float64, little-endian.
+Their figures must be whole numbers:
+
+    >>> import struct
+    >>> Curve.from_triples(struct.pack('<6d', 500, 10000, 0, 600, 14000, 10000), CONVEX) == curve
+    True
+    >>> Curve.from_triples(struct.pack('<6d', 500, 10000, 0.5, 600, 14000, 10000), CONVEX)
+    Traceback (most recent call last):
+    ...
+    factor_curves.Refused: refused 14 at 0: a figure is not a finite whole number
+
+The functions check, read, pair, sheet, write, fill_slopes, open_bytes, import_triples,
+desk_reading and desk_reading_two are the library's calls on plain lists and bytes. The library is
+looked for and loaded at the first call; importing the package does not need it. `python3 -m
+factor_curves --help` says what the command line offers.
 """
 
 from ._calls import (CONCAVE, CONVEX, COUNT_MAX, ENTRIES_MAX, FALLING, FILE_MAX, POINTS_MAX,
-                     RISING, SCRATCH_ENOUGH, SCRATCH_TWO, SHAPE_NAMES, Lists, Pair, Refusal,
-                     Refused, check, desk_reading, desk_reading_two, fill_slopes, open_bytes,
-                     pair, read, refusal_words, sheet, write)
+                     RISING, SCRATCH_ENOUGH, SCRATCH_TWO, SHAPE_NAMES, TRIPLE_SIZE, Lists, Pair,
+                     Refusal, Refused, check, desk_reading, desk_reading_two, fill_slopes,
+                     import_triples, open_bytes, pair, read, refusal_words, sheet, write)
 from ._curve import Curve, Point
 from ._library import LibraryNotFound
 
-__version__ = "0.6.0"
+__version__ = "0.7.0"
 
 __all__ = [
     'CONCAVE', 'CONVEX', 'COUNT_MAX', 'ENTRIES_MAX', 'FALLING', 'FILE_MAX', 'POINTS_MAX',
-    'RISING', 'SCRATCH_ENOUGH', 'SCRATCH_TWO', 'SHAPE_NAMES', 'Curve', 'LibraryNotFound',
-    'Lists', 'Pair', 'Point', 'Refusal', 'Refused', 'check', 'desk_reading', 'desk_reading_two',
-    'fill_slopes', 'open_bytes', 'pair', 'read', 'refusal_words', 'sheet', 'write',
+    'RISING', 'SCRATCH_ENOUGH', 'SCRATCH_TWO', 'SHAPE_NAMES', 'TRIPLE_SIZE', 'Curve',
+    'LibraryNotFound', 'Lists', 'Pair', 'Point', 'Refusal', 'Refused', 'check', 'desk_reading',
+    'desk_reading_two', 'fill_slopes', 'import_triples', 'open_bytes', 'pair', 'read',
+    'refusal_words', 'sheet', 'write',
 ]
 
 for _name in ('Curve', 'LibraryNotFound', 'Lists', 'Pair', 'Point', 'Refusal', 'Refused'):

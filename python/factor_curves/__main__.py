@@ -3,17 +3,18 @@
 import argparse
 import os
 import re
+import struct
 import sys
 from typing import Any, List, NoReturn, Optional
 
-from . import (ENTRIES_MAX, FILE_MAX, SHAPE_NAMES, Curve, LibraryNotFound, Lists, Refusal,
-               Refused, __version__, fill_slopes, write)
-from ._text import Mistake, Text, read_text
+from . import (ENTRIES_MAX, FILE_MAX, SHAPE_NAMES, TRIPLE_SIZE, Curve, LibraryNotFound, Lists,
+               Refusal, Refused, __version__, fill_slopes, import_triples, write)
+from ._text import NAMES, Mistake, Text, read_text
 
 PROGRAM = 'factor-curves'
 REFUSED, USAGE, UNWRITTEN, INTERRUPTED = 1, 2, 3, 130       # exit statuses other than 0
 NUMBER_MAX = 2**32 - 1
-TEXT_MAX = 2**20                        # bytes of a text; that of a curve has far fewer
+INPUT_MAX = 2**20                       # bytes of a text or of triples; a curve's are far fewer
 
 DESCRIPTION = '''\
 Reads and writes curve files (.trf) of factor curves. FILE may be -, for standard input. Areas
@@ -28,10 +29,12 @@ examples:
   factor-curves show - < samples/rising.trf
   factor-curves make samples/rising.csv -o rising.trf
   factor-curves make samples/without-slopes.txt -o filled.trf
+  factor-curves import --shape 1 samples/rising.f64 -o imported.trf
+  factor-curves import --shape 1 < samples/rising.f64 > imported.trf
   factor-curves plot samples/flattening.trf samples/large-home-discount.trf -o curves.svg
 
-exit status: 0 done; 1 the curve, an area or the sheet is refused; 2 wrong usage, a mistake in a
-text, or a file or the library that cannot be read; 3 output that cannot be written
+exit status: 0 done; 1 the curve, the triples, an area or the sheet is refused; 2 wrong usage, a
+mistake in a text, or a file or the library that cannot be read; 3 output that cannot be written
 '''
 TEXT_FORMAT = '''
 The text has a line `shape N` (1 is rising, 2 convex, 3 falling, 4 concave), then a line with area,
@@ -48,6 +51,13 @@ is refused, nothing is written. What `factor-curves show` prints is such a text.
 
 A rising curve may be without slopes: then each line has area and value only, and the names may be
 area, value. The slopes are filled by the harmonic rule, and a message on standard error says so.
+'''
+
+TRIPLES_FORMAT = '''
+Triples are what a statistics package exports: 24 bytes for each point and nothing else, its area,
+value and slope as binary64 numbers (float64, double), little-endian. Every figure must be a whole
+number. Shape 1 is rising, 2 convex, 3 falling, 4 concave. If the triples are refused, nothing is
+written.
 '''
 
 
@@ -133,12 +143,13 @@ def curve_of(path: str) -> Curve:
     return Curve.from_bytes(file_bytes(path, FILE_MAX + 1))
 
 
-def text_of(path: str) -> bytes:
-    text = file_bytes(path, TEXT_MAX + 1)
-    if len(text) > TEXT_MAX:
+def whole_input(path: str) -> bytes:
+    """All bytes of a text or of triples; whether they are refused by 13 shows at the end only."""
+    data = file_bytes(path, INPUT_MAX + 1)
+    if len(data) > INPUT_MAX:
         raise Failure(USAGE, '%s: cannot read %s: it has more than %d bytes'
-                      % (PROGRAM, path, TEXT_MAX))
-    return text
+                      % (PROGRAM, path, INPUT_MAX))
+    return data
 
 
 def whole_number(text: str) -> int:
@@ -225,10 +236,12 @@ def show(options: argparse.Namespace) -> None:
     put_lines(lines)
 
 
-def same_file(path: str, other: str) -> bool:
-    """Whether both are the path of one file on disk; - is none."""
-    return ('-' not in (path, other) and os.path.isfile(path) and os.path.isfile(other)
-            and os.path.samefile(path, other))
+def keep_apart(path: str, output: str, name: str) -> None:
+    """Fails if what is read, which has this name, is the file to be written; - is no file."""
+    if ('-' not in (path, output) and os.path.isfile(path) and os.path.isfile(output)
+            and os.path.samefile(path, output)):
+        raise Failure(USAGE, '%s: %s cannot be both the %s and the curve file'
+                      % (PROGRAM, path, name))
 
 
 def where(text: Text, refusal: Refused) -> str:
@@ -253,10 +266,9 @@ def with_slopes(text: Text) -> Lists:
 
 def make(options: argparse.Namespace) -> None:
     path = options.text
-    if same_file(path, options.output):
-        raise Failure(USAGE, '%s: %s cannot be both the text and the curve file' % (PROGRAM, path))
+    keep_apart(path, options.output, 'text')
     try:
-        text = read_text(text_of(path))
+        text = read_text(whole_input(path))
     except Mistake as mistake:
         raise Failure(USAGE, '%s:%s' % (path, mistake)) from None
     try:
@@ -266,6 +278,42 @@ def make(options: argparse.Namespace) -> None:
     put_file(options.output, data)
     if not text.has_slopes:
         say('%s: %s has no slopes; they were filled by the harmonic rule' % (PROGRAM, path))
+
+
+def shown(figure: float) -> str:
+    """A figure of a triple: digits if it is a whole number that has few, otherwise as Python."""
+    return '%d' % figure if figure.is_integer() and abs(figure) < 10**15 else repr(figure)
+
+
+def where_in_triples(data: bytes, shape: int, refusal: Refused) -> str:
+    """What of triples a refusal is about."""
+    if refusal.number == Refusal.TRIPLES:
+        return number_of(len(data), 'byte')
+    if refusal.number == Refusal.COUNT:
+        return number_of(len(data) // TRIPLE_SIZE, 'point')
+    if refusal.number == Refusal.SHAPE:
+        return 'shape %d' % shape
+    place = refusal.place or 0
+    if refusal.number == Refusal.SEGMENT:
+        return 'points %d and %d' % (place, place + 1)
+    figures = struct.unpack_from('<3d', data, TRIPLE_SIZE * place)
+    if refusal.number == Refusal.FIGURE:
+        index = [figure.is_integer() for figure in figures].index(False)
+    else:
+        index = refusal.number - Refusal.AREA           # 3, 4 and 5: area, value and slope
+    return 'point %d: %s %s' % (place, NAMES[index], shown(figures[index]))
+
+
+def import_(options: argparse.Namespace) -> None:
+    path, shape = options.file, options.shape
+    keep_apart(path, options.output, 'triples')
+    triples = whole_input(path)
+    try:
+        data = write(*import_triples(triples, shape))
+    except Refused as refusal:
+        raise Failure(REFUSED, '%s (%s, %s)' % (
+            refusal, path, where_in_triples(triples, shape, refusal))) from None
+    put_file(options.output, data)
 
 
 def plot(options: argparse.Namespace) -> None:
@@ -308,7 +356,8 @@ class Parser(argparse.ArgumentParser):
 
 
 def add_command(commands: Any, run: Any, text: str, more: str = '') -> Any:
-    command = commands.add_parser(run.__name__, help=text, description=text.capitalize() + '.',
+    name = run.__name__.rstrip('_')         # `import` is a word of Python's own
+    command = commands.add_parser(name, help=text, description=text.capitalize() + '.',
                                   epilog=more, allow_abbrev=False,
                                   formatter_class=argparse.RawDescriptionHelpFormatter)
     command.set_defaults(run=run)
@@ -340,6 +389,14 @@ def parser() -> Parser:
     command.add_argument('text', metavar='TEXT', help='a text or CSV file, or - for standard input')
     command.add_argument('-o', '--output', metavar='FILE', required=True,
                          help='the curve file to write, or - for standard output')
+    command = add_command(commands, import_, 'write the curve file of triples, points in binary64',
+                          TRIPLES_FORMAT)
+    command.add_argument('--shape', metavar='N', type=whole_number, required=True,
+                         help='the shape code: 1, 2, 3 or 4')
+    command.add_argument('file', metavar='FILE', nargs='?', default='-',
+                         help='triples (default: -, standard input)')
+    command.add_argument('-o', '--output', metavar='FILE', default='-',
+                         help='the curve file to write (default: -, standard output)')
     command = add_command(commands, plot, 'draw curves as a picture (needs matplotlib)')
     command.add_argument('files', nargs='+', **file)
     command.add_argument('-o', '--output', metavar='PICTURE', required=True,

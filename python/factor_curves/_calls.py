@@ -5,9 +5,11 @@ Whatever fits the C types reaches the library, which refuses what is wrong. What
 a bool, is a TypeError.
 """
 
+import array
 import ctypes
 import enum
 import operator
+import sys
 from typing import Any, Iterable, List, NamedTuple, Optional, Tuple, Union
 
 from ._library import library
@@ -24,12 +26,19 @@ FILE_MAX = 775          #: bytes of an accepted curve's file
 COUNT_MAX = 255         #: points that a file's head can state
 SCRATCH_ENOUGH = 12 * COUNT_MAX     #: bytes of scratch for any file at all
 SCRATCH_TWO = 24        #: bytes of scratch for desk_reading_two, whatever the file
+TRIPLE_SIZE = 24        #: bytes of a point in triples
 
 BytesLike = Union[bytes, bytearray, memoryview]
+Triples = Any           # BytesLike, or an array of float64 with three columns, as numpy's
 
 _UNSIGNED = (0, 2**32 - 1)
 _SIGNED = (-2**31, 2**31 - 1)
 _SIZE = (0, int(ctypes.c_size_t(-1).value))
+
+# How the buffer protocol writes what triples may be made of, and the byte order of a float64.
+_BYTE_FORMATS = ('B', 'b', 'c')
+_DOUBLE_FORMATS = {'d': sys.byteorder, '@d': sys.byteorder, '=d': sys.byteorder,
+                   '<d': 'little', '>d': 'big', '!d': 'big'}
 
 
 class Refusal(enum.IntEnum):
@@ -37,9 +46,11 @@ class Refusal(enum.IntEnum):
 
     MARK = 9            #: under 7 bytes, not TRF, or not version 1
     LENGTH = 10         #: the file's length is not 7 + 12 * count
+    TRIPLES = 13        #: the length of the triples is no multiple of 24 bytes
     ROOM = 11           #: a lent list, or the scratch, is too short
     COUNT = 1           #: list lengths differ, or not 2 to 64 points
     SHAPE = 2           #: the shape code is outside 1 to 4
+    FIGURE = 14         #: a figure that is no finite whole number; the place is the point
     AREA = 3            #: a point's area; the place is the point
     VALUE = 4           #: a point's value; the place is the point
     SLOPE = 5           #: a point's slope; the place is the point; fill_slopes: after 6
@@ -50,7 +61,7 @@ class Refusal(enum.IntEnum):
 
 
 class Refused(ValueError):
-    """The library refuses a curve, a file, an area or a sheet.
+    """The library refuses a curve, a file, triples, an area or a sheet.
 
     number  what is wrong, one of Refusal
     place   where, counted from 0; None for a desk reading, which gives no place
@@ -132,6 +143,30 @@ def _file(data: BytesLike) -> bytes:
     return data if isinstance(data, bytes) else memoryview(data).tobytes()
 
 
+def _triples(data: Triples) -> bytes:
+    """The triples as the library takes them: bytes as they are, an array's figures in order."""
+    try:
+        view = memoryview(data)
+    except (TypeError, ValueError, BufferError) as error:
+        raise TypeError('the triples must be bytes or an array of float64, such as the to_numpy()'
+                        ' of a table (%s)' % error) from None
+    if view.format.lstrip('<>') in _BYTE_FORMATS:
+        return _file(data)
+    if view.format not in _DOUBLE_FORMATS:
+        raise TypeError("the array must be of float64, not of format '%s'; astype('float64') makes"
+                        ' it so, and Curve takes points of whole numbers' % view.format)
+    shape = view.shape or ()
+    if len(shape) != 2 or shape[1] != 3:
+        raise ValueError('the array must have the shape (n, 3), not %s; reshape(-1, 3) gives it to'
+                         ' a flat one' % (shape,))
+    whole = view.tobytes()
+    if _DOUBLE_FORMATS[view.format] == 'little':
+        return whole
+    swapped = array.array('Q', whole)       # bytes are moved, and no number is made of them
+    swapped.byteswap()
+    return swapped.tobytes()
+
+
 def _lent(scratch: Any) -> Tuple[Any, int]:
     """A writable buffer as a C array on the same memory, never null, and its length."""
     view = memoryview(scratch)
@@ -140,6 +175,12 @@ def _lent(scratch: Any) -> Tuple[Any, int]:
     if view.nbytes == 0:
         return (ctypes.c_uint8 * 1)(), 0
     return (ctypes.c_uint8 * view.nbytes).from_buffer(view.cast('B')), view.nbytes
+
+
+def _room(count: int) -> Tuple[Any, ...]:
+    """Three lists to be written, of so many entries, with their lengths."""
+    return ((ctypes.c_uint32 * count)(), count, (ctypes.c_uint32 * count)(), count,
+            (ctypes.c_int32 * count)(), count)
 
 
 # ---- from C to Python ----
@@ -156,6 +197,12 @@ def _result(answer: int) -> int:
         number, place = divmod(-answer, 2**32)
         raise Refused(number, place, refusal_words(number))
     return answer
+
+
+def _written(room: Tuple[Any, ...], count: int, shape: int) -> Lists:
+    """The curve of the points that a call has written into the first entries of three lists."""
+    areas, values, slopes = room[0:6:2]
+    return Lists(tuple(areas[:count]), tuple(values[:count]), tuple(slopes[:count]), shape)
 
 
 # ---- the calls on arguments ----
@@ -240,13 +287,30 @@ def open_bytes(data: BytesLike) -> Lists:
 
     The result can be handed on: read(*open_bytes(data), 550).
     """
-    whole = _file(data)
-    areas, values = (ctypes.c_uint32 * COUNT_MAX)(), (ctypes.c_uint32 * COUNT_MAX)()
-    slopes = (ctypes.c_int32 * COUNT_MAX)()
-    opened = _result(library().curve_open(whole, len(whole), areas, COUNT_MAX, values, COUNT_MAX,
-                                          slopes, COUNT_MAX))
-    shape, count = divmod(opened, 256)
-    return Lists(tuple(areas[:count]), tuple(values[:count]), tuple(slopes[:count]), shape)
+    whole, room = _file(data), _room(COUNT_MAX)
+    shape, count = divmod(_result(library().curve_open(whole, len(whole), *room)), 256)
+    return _written(room, count, shape)
+
+
+def import_triples(data: Triples, shape: int) -> Lists:
+    """The points of a statistics package's triples, if the curve with this shape is accepted.
+
+    Each point has 24 bytes: area, value and slope as float64, little-endian. A figure must be a
+    whole number; minus zero is 0. An array of float64 with three columns, in any byte order and
+    memory layout, may stand for the bytes.
+
+    >>> import struct
+    >>> import_triples(struct.pack('<6d', 500, 10000, 0, 600, 14000, 10000), CONVEX)
+    Lists(areas=(500, 600), values=(10000, 14000), slopes=(0, 10000), shape=2)
+    """
+    whole, code = _triples(data), unsigned(shape, 'shape')
+    # Above 64 points only the remainder of the length matters (it decides between refusals 13
+    # and 1), so no longer lists are made.
+    room, length = _room(POINTS_MAX + 1), len(whole)
+    most = TRIPLE_SIZE * (POINTS_MAX + 1)
+    if length > most:
+        length = most + length % TRIPLE_SIZE
+    return _written(room, _result(library().curve_import(whole, length, code, *room)), code)
 
 
 def _desk(name: str, data: BytesLike, area: int, scratch: Union[bytearray, memoryview]) -> int:

@@ -4,7 +4,7 @@ import os
 from typing import TYPE_CHECKING, Any, Iterable, List, NamedTuple, Tuple, Type, TypeVar, Union
 
 from . import _calls
-from ._calls import BytesLike, Pair
+from ._calls import BytesLike, Pair, Triples
 
 # One byte more than the longest file that a head can state, so that a longer one shows.
 _FILE_ROOM = 7 + 12 * _calls.COUNT_MAX + 1
@@ -86,6 +86,19 @@ class Curve:
         """The curve of a curve file, given its path."""
         with open(path, 'rb') as file:
             return cls.from_bytes(file.read(_FILE_ROOM))
+
+    @classmethod
+    def from_triples(cls: Type[_Self], data: Triples, shape: int) -> _Self:
+        """The curve of a statistics package's triples, with this shape.
+
+        data is their bytes, 24 for each point: area, value and slope as float64, little-endian;
+        or an array of float64 with three columns, as numpy's. Every figure must be a whole number.
+
+        >>> import struct
+        >>> Curve.from_triples(struct.pack('<6d', 500, 10000, 0, 600, 14000, 10000), 2)
+        Curve([(500, 10000, 0), (600, 14000, 10000)], 2)
+        """
+        return cls.from_lists(*_calls.import_triples(data, shape))
 
     def to_bytes(self) -> bytes:
         """The bytes of the curve's file. No other file has this curve."""

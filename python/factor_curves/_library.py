@@ -28,6 +28,7 @@ _FUNCTIONS: Dict[str, Tuple[Any, List[Any]]] = {
     'curve_open': (ctypes.c_int64, [_BYTES, _SIZE] + _LISTS),
     'curve_write': (ctypes.c_int64, _CURVE + [_MEMORY, _SIZE]),
     'curve_fill_slopes': (ctypes.c_int64, _LISTS),
+    'curve_import': (ctypes.c_int64, [_BYTES, _SIZE, ctypes.c_uint32] + _LISTS),
     'desk_reading': (ctypes.c_int32, _DESK),
     'desk_reading_two': (ctypes.c_int32, _DESK),
     'curve_refusal_words': (ctypes.c_char_p, [ctypes.c_int]),

@@ -1,6 +1,7 @@
 -- Which binary64 numbers are whole: those that truncation leaves as they are.
 --   itself           a number with an exponent from 0 on: it is whole, and stays as it is
 --   no_fraction      one with a negative exponent is not whole, since its significand is odd; and it is another, truncated
+--   found            what compares equal to a whole number of 32 bits is that number
 --   taken            what is whole, brought into range
 --   not_whole, not_finite    what is not
 -- Assumes nothing.
@@ -9,16 +10,18 @@ use mathlib.Core.Bool.{Bool, true, false, ◌&&◌, ◌||◌, beq, cond, true≢
 use mathlib.Core.Option.{Option, none, some}
 use Prim.Native.Nat.{ℕ, zero, suc, ◌+◌, ◌*◌, ◌/◌, ◌%◌, ◌^◌, ◌≤◌, ◌<◌, min}
 use native.Mathlib.Nat.{div-le_self, div-one, pow-suc, mul-one, mul_assoc, mul_right_comm, eq_of_mul-eq-mul_right, le_trans}
-use native.Mathlib.Nat.{mul-lt-mul_of_pos_right, le_of_lt}
+use native.Mathlib.Nat.{mul-lt-mul_of_pos_right, le_of_lt, mul-pos, zero-lt-suc}
 use native.Mathlib.Omega.{arith}
 use borrow.Author.Tests.{eq-eqb}
 use lib.IntN.{ℤ, pos, negsuc, neg_ℤ}
 use lib.Dec.{T, ltb, leb, eqb, ltb→lt, eqb→eq}
 use lib.Pow.{pow-add, pow_pos}
-use lib.Ieee.{Float, nan, inf, fin, binary64, up, down, round, eq, fits, to_signed}
+use lib.Ieee.{Float, nan, inf, fin, binary64, up, down, round, eq, fits, of_int, to_signed}
 use lib.Ieee.Fits.{down_pos, and_l, and_r, round-fits}
 use lib.Ieee.Exact.{HasValue, round_exact}
 use lib.Ieee.Back.{round_whole, whole_unique}
+use mir.Val.{SFits}
+use Rattle.std.specs.Int.{w32}
 use Rattle.std.specs.Float.{trunc, round_with, float_is_finite}
 use Rattle.binary64.specs.Value.{signed, float_value, whole_of, whole_number}
 use Rattle.binary64.specs.Inner.{saturate, saturated}
@@ -83,18 +86,40 @@ few_digits : (s : Bool) (m : ℕ) (e : ℤ) → T (fits binary64 (fin s m e)) �
 few_digits s zero e t = omega arith
 few_digits s (suc m) e t = le_of_lt (bounds s m e t).digits
 
--- two that compare equal have one value
-value_of_eq : (y : Float) (s : Bool) (q m : ℕ) (e : ℤ) → HasValue y s q 1 → eq y (fin s m e) ≡ true →
-    m * up e ≡ q * down e
+-- two that compare equal have one value, and one sign if it is not 0
+record Alike (t s : Bool) (q m : ℕ) (e : ℤ) : Type 0 where
+  pub size : m * up e ≡ q * down e
+  pub sign : T (beq t s || eqb q 0)
+
+zero_of : (q k : ℕ) → q * k ≡ 0 → 0 < k → T (eqb q 0)
+zero_of zero k h p = tt
+zero_of (suc q) k h p = let some = mul-pos (zero-lt-suc q) p in absurd (omega arith)
+
+sign_of : (t s : Bool) (l q k : ℕ) → l ≡ q * k → 0 < k → T (beq t s || eqb l 0) → T (beq t s || eqb q 0)
+sign_of true true l q k h p b = tt
+sign_of false false l q k h p b = tt
+sign_of true false l q k h p b = zero_of q k (sym h ∙ eqb→eq l 0 b) p
+sign_of false true l q k h p b = zero_of q k (sym h ∙ eqb→eq l 0 b) p
+
+alike : (y : Float) (t s : Bool) (q m : ℕ) (e : ℤ) → HasValue y t q 1 → eq y (fin s m e) ≡ true → Alike t s q m e
 unfolding eq
-value_of_eq nan s q m e v h = absurd v
-value_of_eq (inf t) s q m e v h = absurd v
-value_of_eq (fin t a d) s q m e v h =
+alike nan t s q m e v h = absurd v
+alike (inf u) t s q m e v h = absurd v
+alike (fin u a d) t s q m e v h =
     let l = a * up d * down e in
     let r = m * up e * down d in
-    let same : l ≡ r = eqb→eq l r (and_l (eqb l r) (beq t s || eqb l 0) (subst T (sym h) tt)) in
-    eq_of_mul-eq-mul_right (down d) (down_pos d) (m * up e) (q * down e)
-    (sym same ∙ ap (λ (n : ℕ). n * down e) (sym (mul-one (a * up d)) ∙ v.1) ∙ mul_right_comm q (down d) (down e))
+    let both : T (eqb l r && (beq u s || eqb l 0)) = subst T (sym h) tt in
+    let own : a * up d ≡ q * down d = sym (mul-one (a * up d)) ∙ v.1 in
+    let whole : l ≡ q * down e * down d = ap (λ (n : ℕ). n * down e) own ∙ mul_right_comm q (down d) (down e) in
+    record {
+      size =
+          eq_of_mul-eq-mul_right (down d) (down_pos d) (m * up e) (q * down e)
+          (sym (eqb→eq l r (and_l (eqb l r) (beq u s || eqb l 0) both)) ∙ whole);
+      sign =
+          rw (sym v.0)
+          (sign_of u s l q (down e * down d) (whole ∙ mul_assoc q (down e) (down d)) (mul-pos (down_pos e) (down_pos d))
+          (and_r (eqb l r) (beq u s || eqb l 0) both));
+    }
 
 cut_off : (s : Bool) (m k : ℕ) → T (fits binary64 (fin s m (negsuc k))) →
     eq (trunc binary64 (fin s m (negsuc k))) (fin s m (negsuc k)) ≡ true → ⊥
@@ -102,9 +127,35 @@ cut_off s m k t h =
     let q = m * 1 / 2 ^ suc k in
     let few : q ≤ 2 ^ 53 = le_trans (div-le_self (m * 1) (2 ^ suc k)) (rw mul-one (few_digits s m (negsuc k) t)) in
     no_fraction s m k t q
-    (value_of_eq _ s q m (negsuc k) (round_whole binary64 s q few) (rw trunc_is at h))
+    (alike _ s s q m (negsuc k) (round_whole binary64 s q few) (rw trunc_is at h)).size
 
 -- ---- what the code finds
+
+signed_alike : (t s : Bool) (q : ℕ) → T (beq t s || eqb q 0) → signed s q ≡ signed t q
+signed_alike true true q k = refl
+signed_alike false false q k = refl
+signed_alike true false q k = rw (eqb→eq q 0 k) refl
+signed_alike false true q k = rw (eqb→eq q 0 k) refl
+
+-- whatever number compares equal to x
+value_is : (y x : Float) (t : Bool) (q : ℕ) → HasValue y t q 1 → eq y x ≡ true → whole_number x ≡ some (signed t q)
+value_is y (fin s m e) t q v h =
+    let k = alike y t s q m e v h in whole_of_value s m e q k.size ∙ ap some (signed_alike t s q k.sign)
+value_is (fin u a d) nan t q v h = absurd (unfold eq in true≢false (sym h))
+value_is (fin u a d) (inf s) t q v h = absurd (unfold eq in true≢false (sym h))
+value_is nan nan t q v h = absurd v
+value_is nan (inf s) t q v h = absurd v
+value_is (inf u) nan t q v h = absurd v
+value_is (inf u) (inf s) t q v h = absurd v
+
+pub found : (z : ℤ) (x : Float) → SFits w32 z → eq (of_int binary64 z) x ≡ true → some z ≡ saturated (whole_number x)
+unfolding of_int saturate saturated
+found (pos n) x f h =
+    let e : min n 2147483647 ≡ n = omega (arith, f.sfits) in
+    rw (value_is _ x false n (round_whole binary64 false n (omega (arith, f.sfits))) h, e) refl
+found (negsuc n) x f h =
+    let e : min n 2147483647 ≡ n = omega (arith, f.sfits) in
+    rw (value_is _ x true (suc n) (round_whole binary64 true (suc n) (omega (arith, f.sfits))) h, e) refl
 
 in_range : (s : Bool) (n : ℕ) → cond s (neg_ℤ (pos (min n 2147483648))) (pos (min n 2147483647)) ≡ saturate (signed s n)
 unfolding saturate

@@ -15,9 +15,7 @@ use Rattle.model.specs.Check.{on_lists}
 use Rattle.model.specs.Sheet.{entries_most}
 use Rattle.model.proofs.Rows.{count_of_row_1, row_left}
 use Rattle.model.proofs.Indexed.{segments_length}
-use Rattle.model.specs.Inner.{number_most, table_most}
 use Rattle.model.proofs.Numbered.{Numbered, in_row, in_then, in_each, in_segments, in_curve, in_lists}
-use Rattle.model.proofs.Numbered.{NumberedTo, row_to, then_to, raised}
 use Rattle.pair.specs.Pair.{pair_answer}
 use Rattle.layout.proofs.Heads.{in_head}
 use Rattle.file.specs.Open.{open_answer}
@@ -78,33 +76,29 @@ in_fill areas values slopes =
     in_then _ _ (in_each _ 6 0 _ tt (omega arith)) (λ _.
     in_then _ _ (in_each _ 5 0 _ tt (omega arith)) (λ _. tt)))))
 
--- ---- Import, whose numbers are up to 14
-
 in_triples : (i : ℕ) (before : Option ℕ) (ps : List (Option WholePoint)) → i + length ps ≤ entries_most →
-    NumberedTo table_most (triple_rows i before ps)
+    Numbered (triple_rows i before ps)
 unfolding triple_rows
 in_triples i before [] h = tt
 in_triples i before (none ∷ ps) h = record { least = omega arith; most = omega arith; near = omega arith }
 in_triples i before (some p ∷ ps) h =
     let here : i ≤ entries_most = omega arith in
-    then_to table_most _ _ (row_to table_most _ 3 i tt here) (λ _.
-    then_to table_most _ _ (row_to table_most _ 4 i tt here) (λ _.
-    then_to table_most _ _ (row_to table_most _ 5 i tt here) (λ _. in_triples (suc i) _ ps (omega arith))))
+    in_then _ _ (in_row _ 3 i tt here) (λ _.
+    in_then _ _ (in_row _ 4 i tt here) (λ _.
+    in_then _ _ (in_row _ 5 i tt here) (λ _. in_triples (suc i) _ ps (omega arith))))
 
-in_export : (ps : List (Option WholePoint)) (code : ℕ) → NumberedTo table_most (export_rows ps code)
+in_export : (ps : List (Option WholePoint)) (code : ℕ) → Numbered (export_rows ps code)
 unfolding export_rows
 in_export ps code =
-    then_to table_most _ _ (row_to table_most _ 1 0 tt (omega arith)) (λ counted.
+    in_then _ _ (in_row _ 1 0 tt (omega arith)) (λ counted.
     let few = (count_of_row_1 (length ps) (row_left _ 1 0 counted)).1 in
     let size = segments_length (map point_from ps) in
-    let shaped = in_segments 0 _ (segments (map point_from ps)) (omega (arith, size, length-map ps point_from)) in
-    then_to table_most _ _ (row_to table_most _ 2 0 tt (omega arith)) (λ _.
-    then_to table_most _ _ (in_triples 0 none ps (omega arith)) (λ _. raised number_most table_most _ (omega arith) shaped)))
+    in_then _ _ (in_row _ 2 0 tt (omega arith)) (λ _.
+    in_then _ _ (in_triples 0 none ps (omega arith)) (λ _.
+    in_segments 0 _ (segments (map point_from ps)) (omega (arith, size, length-map ps point_from)))))
 
-pub in_import : (bytes : List ℕ) (code areas values slopes : ℕ) →
-    NumberedTo table_most (import_answer bytes code areas values slopes)
+pub in_import : (bytes : List ℕ) (code areas values slopes : ℕ) → Numbered (import_answer bytes code areas values slopes)
 unfolding import_answer
 in_import bytes code areas values slopes =
-    then_to table_most _ _ (row_to table_most _ 13 0 tt (omega arith)) (λ _.
-    then_to table_most _ _ (row_to table_most _ 11 0 tt (omega arith)) (λ _.
-    then_to table_most _ _ (in_export _ code) (λ _. tt)))
+    in_then _ _ (in_row _ 13 0 tt (omega arith)) (λ _.
+    in_then _ _ (in_row _ 11 0 tt (omega arith)) (λ _. in_then _ _ (in_export _ code) (λ _. tt)))

@@ -19,7 +19,7 @@ Apart result (refused number place) =
     × (nat_abs (c_number result (refused number place)) / word ≡ number)
     × (nat_abs (c_number result (refused number place)) % word ≡ place)
 
--- so it is for each of the seven calls, whatever they are given
+-- so it is for each of the eight calls, whatever they are given
 pub record ResultsAndRefusalsApart : Type 0 where
   pub check : (areas values : List ℕ) (slopes : List ℤ) (code : ℕ) →
       Apart pos (on_lists areas values slopes (λ ps. check_answer ps code))
@@ -34,8 +34,4 @@ pub record ResultsAndRefusalsApart : Type 0 where
   pub written : (areas values : List ℕ) (slopes : List ℤ) (code buffer : ℕ) →
       Apart pos (on_lists areas values slopes (λ ps. write_answer ps code buffer))
   pub slopes_filled : (areas values : List ℕ) (slopes : ℕ) → Apart pos (fill_answer areas values slopes)
-
--- and for Import
-abbrev pub ImportsApart : Type 0
-ImportsApart =
-    (bytes : List ℕ) (code areas values slopes : ℕ) → Apart pos (import_answer bytes code areas values slopes)
+  pub imported : (bytes : List ℕ) (code areas values slopes : ℕ) → Apart pos (import_answer bytes code areas values slopes)

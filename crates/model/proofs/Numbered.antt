@@ -1,7 +1,7 @@
--- The numbers of refusals are 1 to 12, their places at most 1,024.
---   NumberedTo           an answer's refusal, if it is one, has a number up to some most, and such a place
---   row_to, then_to      so have a row's, and those of rows one after the other; raised, up to a larger most
---   Numbered             up to 12; in_row, in_then; in_each, of a row at each of some places
+-- The numbers of refusals are 1 to 14, their places at most 1,024.
+--   number_most          the largest number
+--   Numbered             an answer's refusal, if it is one, has such a number and such a place
+--   in_row, in_then      so have a row's, and those of rows one after the other; in_each, of a row at each of some places
 --   in_segments          row 6; in_curve, rows 1 to 6
 --   in_check, in_reading, in_sheet    Check, Read and Sheet
 --   in_lists             a call on three lists
@@ -22,51 +22,35 @@ use Rattle.model.specs.Answer.{Answer, gives, refused, row, ◌then◌, row_at_e
 use Rattle.model.specs.Points.{Point, points, Segment, segments, Rule}
 use Rattle.model.specs.Check.{point_rows, segment_rows, curve_rows, check_answer, on_lists}
 use Rattle.model.specs.Read.{read_answer}
-use Rattle.model.specs.Inner.{number_most}
 use Rattle.model.specs.Sheet.{entries_most, bad_sheet, sheet_answer}
 use Rattle.model.proofs.Rows.{count_of_row_1, row_left}
 use Rattle.model.proofs.Indexed.{segments_length}
 
-pub record Tabled (limit number place : ℕ) : Type 0 where
+abbrev pub number_most : ℕ
+number_most = 14
+
+pub record Tabled (number place : ℕ) : Type 0 where
   pub least : 1 ≤ number
-  pub most : number ≤ limit
+  pub most : number ≤ number_most
   pub near : place ≤ entries_most
 
-abbrev pub NumberedTo : (most : ℕ) {A : Type 0} → Answer A → Type 0
-NumberedTo most (gives x) = Unit {0}
-NumberedTo most (refused number place) = Tabled most number place
-
 abbrev pub Numbered : {A : Type 0} → Answer A → Type 0
-Numbered = NumberedTo number_most
-
-pub row_to : (most : ℕ) (b : Bool) (number place : ℕ) → T (leb 1 number && leb number most) → place ≤ entries_most →
-    NumberedTo most (row b number place)
-unfolding row
-row_to most true number place t h =
-    let both = and_yes (leb 1 number) (leb number most) t in
-    record { least = leb→le 1 number both.0; most = leb→le number most both.1; near = h }
-row_to most false number place t h = tt
-
-pub then_to : (most : ℕ) {A : Type 0} (first : Answer (Unit {0})) (rest : Answer A) → NumberedTo most first →
-    (first ≡ gives tt → NumberedTo most rest) →
-    NumberedTo most (first then rest)
-unfolding ◌then◌
-then_to most (gives u) rest k m = m refl
-then_to most (refused number place) rest k m = k
-
--- whose numbers have one limit, have a larger one
-pub raised : (most larger : ℕ) {A : Type 0} (a : Answer A) → most ≤ larger → NumberedTo most a → NumberedTo larger a
-raised most larger (gives x) h k = tt
-raised most larger (refused number place) h k =
-    record { least = k.least; most = omega (arith, k.most); near = k.near }
+Numbered (gives x) = Unit {0}
+Numbered (refused number place) = Tabled number place
 
 pub in_row : (b : Bool) (number place : ℕ) → T (leb 1 number && leb number number_most) → place ≤ entries_most →
     Numbered (row b number place)
-in_row = row_to number_most
+unfolding row
+in_row true number place t h =
+    let both = and_yes (leb 1 number) (leb number number_most) t in
+    record { least = leb→le 1 number both.0; most = leb→le number number_most both.1; near = h }
+in_row false number place t h = tt
 
 pub in_then : {A : Type 0} (first : Answer (Unit {0})) (rest : Answer A) → Numbered first → (first ≡ gives tt → Numbered rest) →
     Numbered (first then rest)
-in_then = then_to number_most
+unfolding ◌then◌
+in_then (gives u) rest k m = m refl
+in_then (refused number place) rest k m = k
 
 pub in_each : (condition : ℕ → Bool) (number i n : ℕ) → T (leb 1 number && leb number number_most) → i + n ≤ entries_most →
     Numbered (row_at_each condition number i n)

@@ -1,5 +1,4 @@
 -- What contracts of inner functions cite. Nothing here need be believed: the calls' contracts cite document 01's definitions.
---   number_most        the largest number of a refusal; table_most, of those of an import too
 --   first_answer       a row that refuses at a place, or not at all
 --   read_rows          rows 1 to 7; Accepted, rows 1 to 6 refuse nothing
 --   Alike              three lists are equally long
@@ -19,12 +18,6 @@ use Rattle.model.specs.Shape.{segment_test}
 use Rattle.model.specs.Check.{curve_rows}
 use Rattle.model.specs.Read.{outside}
 use Rattle.model.specs.Sheet.{tabulate}
-
-abbrev pub number_most : ℕ
-number_most = 12
-
-abbrev pub table_most : ℕ
-table_most = 14
 
 -- a row at each of n places, by the first place where its condition holds
 abbrev pub first_answer : ℕ → ℕ → ℕ → Answer (Unit {0})

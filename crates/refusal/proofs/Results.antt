@@ -2,11 +2,12 @@
 --   gives_no_err    what is no Err is a result
 --   answer_through  an answer, and what a function makes of it
 --   refused_exit    the exit of a `?` is the refusal; row_exit, that of a row
---   number_most     the largest number
+--   in_table        a row's number is at most the largest one
 -- Assumes nothing.
 use Rattle.std.proofs.Common.{◌≡◌, ℕ, ◌≤◌, lit≤, false, refl, sym, ap}
 use Rattle.std.specs.Prelude.{Result, Ok, Err, is_err, IsErrAnd}
 use Rattle.model.specs.Answer.{Answer, gives, refused, ◌then◌}
+use Rattle.model.proofs.Numbered.{number_most}
 use Rattle.model.proofs.Rows.{gives_injective, refused≢gives}
 use Rattle.refusal.specs.declared.Row.{Row}
 use Rattle.refusal.specs.declared.Row.TheVariants.{Count, Code, Area, Value, Slope, Segment, Outside}
@@ -36,18 +37,18 @@ answer_through f h (Ok x) (refused number place) b e = absurd (refused≢gives (
 answer_through f h (Err d) (gives u) b e = absurd (refused≢gives e)
 answer_through f h (Err d) (refused number place) b e = cc
 
-pub number_most : (row : Row) → number_of row ≤ 14
-number_most Count = lit≤ tt
-number_most Code = lit≤ tt
-number_most Area = lit≤ tt
-number_most Value = lit≤ tt
-number_most Slope = lit≤ tt
-number_most Segment = lit≤ tt
-number_most Outside = lit≤ tt
-number_most Sheet = lit≤ tt
-number_most Head = lit≤ tt
-number_most Size = lit≤ tt
-number_most Room = lit≤ tt
-number_most Buffer = lit≤ tt
-number_most Triples = lit≤ tt
-number_most Whole = lit≤ tt
+pub in_table : (row : Row) → number_of row ≤ number_most
+in_table Count = lit≤ tt
+in_table Code = lit≤ tt
+in_table Area = lit≤ tt
+in_table Value = lit≤ tt
+in_table Slope = lit≤ tt
+in_table Segment = lit≤ tt
+in_table Outside = lit≤ tt
+in_table Sheet = lit≤ tt
+in_table Head = lit≤ tt
+in_table Size = lit≤ tt
+in_table Room = lit≤ tt
+in_table Buffer = lit≤ tt
+in_table Triples = lit≤ tt
+in_table Whole = lit≤ tt

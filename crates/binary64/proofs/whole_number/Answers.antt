@@ -1,9 +1,16 @@
--- What is finite and stays as it is, truncated, is whole.
-use Rattle.std.proofs.Common.{◌∙◌, sym, w32, to_z-of_z}
+-- What a number is equal to it is; what is finite and stays as it is, truncated, is whole.
+use Rattle.std.proofs.Common.{◌∙◌, sym, w32, SFits, to_z-of_z}
 use Rattle.std.proofs.lemmas.Float.{T_from_true}
-use Rattle.binary64.proofs.Wholes.{taken, not_finite, not_whole}
+use Rattle.binary64.proofs.Wholes.{found, taken, not_finite, not_whole}
 use Rattle.binary64.proofs.whole_number.Goals as goal
 use Rattle.binary64.proofs.whole_number.Goals.{else-is_finite-via-then-is_finite+else-trunc-x, else-is_finite-via-else-is_finite}
+
+pub returns-then-from-x : goal.returns-then-from-x
+returns-then-from-x c =
+    let z = c.cast_signed-z in
+    let fits : SFits w32 z.result = record { sfits = z.type_inv } in
+    rw (to_z-of_z {w = w32} {z = z.result} fits)
+    (found z.result c.args.x fits (rw (c.from.ensures, to_z-of_z {w = w32} {z = z.result} fits) at c.if-from-x.true))
 
 pub returns-then-trunc-x : goal.returns-then-trunc-x
 returns-then-trunc-x c =
