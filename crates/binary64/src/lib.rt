@@ -11,6 +11,7 @@ use std::num::{f64_to_bits_with_nan, saturating_f64_to_i32};
 const WHOLE_BITS: f64 = 6755399441055744.0;
 
 // A number as a whole number, if it is finite and whole; one that 32 bits do not hold as the nearest that they hold.
+#[inline(always)]
 pub fn whole_number(x: f64) -> Option<i32>
     ensures { figure_of result ≡ saturated (whole_number x) }
 {
@@ -21,6 +22,15 @@ pub fn whole_number(x: f64) -> Option<i32>
     if f64::from(z) == x {
         return Some(z);
     }
+    truncated_number(x)
+}
+
+// The same, of any number, by what it is without its fraction. Not inlined: few figures come here.
+#[cold]
+#[inline(never)]
+fn truncated_number(x: f64) -> Option<i32>
+    ensures { figure_of result ≡ saturated (whole_number x) }
+{
     if x.is_finite() && x.trunc() == x {
         return Some(saturating_f64_to_i32(x));
     }

@@ -1,7 +1,8 @@
 -- The rows of Import, in their order.
---   refused_by_13, refused_by_11, refused_by_points    which refuses
 --   Passed, passed         row 13 is passed
---   Given, given           all are, and the points are the export's; few, 64 at most
+--   refused_by_13, refused_by_11    which refuses; rows_left, after both
+--   refused_by_points, all_pass     the rows of the points
+--   Given, given           all are passed, and the points are the export's; few, 64 at most
 --   room                   there is room for the points
 --   after_list             a list into which the points are written
 -- Assumes nothing.
@@ -42,17 +43,20 @@ module _ (bytes : List ℕ) (code areas values slopes : ℕ) where
     unfolding import_answer row ◌then◌
     refused_by_11 e = rw (m, e)
 
-    module _ (r : short_list (count bytes) areas values slopes ≡ false) where
-      pub refused_by_points : {number place : ℕ} →
-          refused number place ≡ (export_rows (exported bytes) code then gives (points_of bytes)) →
-          refused number place ≡ import_answer bytes code areas values slopes
-      unfolding import_answer row ◌then◌
-      refused_by_points e = rw (m, r) (sym (then_refused _ _ (refused_first _ _ (sym e))))
+    pub rows_left : short_list (count bytes) areas values slopes ≡ false →
+        (export_rows (exported bytes) code then gives (count bytes)) ≡ import_answer bytes code areas values slopes
+    unfolding import_answer row ◌then◌
+    rows_left r = rw (m, r)
 
-      pub all_pass : export_rows (exported bytes) code ≡ gives tt →
-          gives (count bytes) ≡ import_answer bytes code areas values slopes
-      unfolding import_answer row ◌then◌
-      all_pass e = rw (m, r, e)
+pub refused_by_points : (bytes : List ℕ) (code : ℕ) {number place : ℕ} →
+    refused number place ≡ (export_rows (exported bytes) code then gives (points_of bytes)) →
+    refused number place ≡ (export_rows (exported bytes) code then gives (count bytes))
+refused_by_points bytes code e = sym (then_refused _ _ (refused_first _ _ (sym e)))
+
+pub all_pass : (bytes : List ℕ) (code : ℕ) → export_rows (exported bytes) code ≡ gives tt →
+    gives (count bytes) ≡ (export_rows (exported bytes) code then gives (count bytes))
+unfolding ◌then◌
+all_pass bytes code e = rw e
 
 pub record Given (bytes : List ℕ) (code : ℕ) (ps : List Point) : Type 0 where
   pub points_are : ps ≡ points_of bytes

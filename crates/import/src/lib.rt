@@ -1,8 +1,11 @@
 // Points from the statistics package.
 #![tactic(auto)]
 
-ghost use Rattle.std.specs.Prelude.{◌≡◌, map, length};
-ghost use Rattle.model.specs.Answer.{filled};
+ghost use Rattle.std.specs.Prelude.{◌≡◌, false, map, length, ◌≤◌};
+ghost use Rattle.model.specs.Answer.{filled, gives, ◌then◌};
+ghost use Rattle.model.specs.Check.{bad_count};
+ghost use Rattle.file.specs.Open.{short_list};
+ghost use Rattle.triples.specs.Triples.{count, exported, export_rows};
 ghost use Rattle.refusal.specs.Refusal.{answer_of};
 ghost use Rattle.import.specs.Import.{points_of, import_answer};
 ghost use Rattle.import.specs.Calls.{imported_answer};
@@ -18,6 +21,41 @@ use triples::Triples;
 pub enum Imported {
     Points(u32),
     Refused(Row, u32),
+}
+
+// Few points need no list that takes long to make.
+const FEW: usize = 8;
+
+const ORIGIN: Point = Point {
+    area: 0,
+    value: 0,
+    slope: 0,
+};
+
+// Rows 1 to 6 and 14, and the points into the lent lists, by way of a list of our own.
+#[inline(always)]
+fn put(
+    export: Triples,
+    code: u32,
+    own: &mut [Point],
+    areas: &mut [u32],
+    values: &mut [u32],
+    slopes: &mut [i32],
+) -> Result<u32, Refusal>
+    requires own { bad_count (count export.bytes.now) ≡ false → count export.bytes.now ≤ length own.old }
+    requires lent { short_list (count export.bytes.now) (length areas.old) (length values.old) (length slopes.old) ≡ false }
+    ensures answer { answer_of (λ n. n) result
+        ≡ (export_rows (exported export.entry.bytes.now) code then gives (count export.entry.bytes.now)) }
+    ensures areas { areas.new
+        ≡ filled (answer_of (λ n. n) result) (map (λ p. p.area) (points_of export.entry.bytes.now)) areas.old }
+    ensures values { values.new
+        ≡ filled (answer_of (λ n. n) result) (map (λ p. p.value) (points_of export.entry.bytes.now)) values.old }
+    ensures slopes { slopes.new
+        ≡ filled (answer_of (λ n. n) result) (map (λ p. p.slope) (points_of export.entry.bytes.now)) slopes.old }
+{
+    let curve = export.curve(code, own)?;
+    points::fill(&curve.points, areas, values, slopes);
+    Ok(export.count() as u32)
 }
 
 fn take(
@@ -42,16 +80,12 @@ fn take(
     if file::short_list(n, areas.len(), values.len(), slopes.len()) {
         return Err(Row::Room.at(0));
     }
-    let origin = Point {
-        area: 0,
-        value: 0,
-        slope: 0,
-    };
-    // No heap: as many as a curve can have.
-    let mut list = [origin; POINTS_MOST];
-    let curve = export.curve(code, &mut list)?;
-    points::fill(&curve.points, areas, values, slopes);
-    Ok(n as u32)
+    // No heap: as many points as a curve can have.
+    if n <= FEW {
+        put(export, code, &mut [ORIGIN; FEW], areas, values, slopes)
+    } else {
+        put(export, code, &mut [ORIGIN; POINTS_MOST], areas, values, slopes)
+    }
 }
 
 // Document 01 names lent lists, and C gives the code as a number.

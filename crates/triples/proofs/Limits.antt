@@ -16,7 +16,7 @@ use Rattle.exact.proofs.Tests.{compare}
 use Rattle.model.specs.Check.{bad_area, bad_value, bad_slope}
 use Rattle.binary64.specs.Inner.{saturate}
 use Rattle.triples.specs.Triples.{or_negative, natural}
-use Rattle.triples.specs.Inner.{outward}
+use Rattle.std.specs.Int.{w32, cast_unsigned}
 
 capped : (n : ℕ) → ((n ≤ 2147483647) × (min n 2147483647 ≡ n)) ⊎ ((2147483647 < n) × (min n 2147483647 ≡ 2147483647))
 capped n = elim (compare n 2147483647) [
@@ -28,9 +28,9 @@ capped n = elim (compare n 2147483647) [
 
 -- a test that holds of all numbers above 200,000 says the same of both
 module _ (bad : ℕ → Bool) (beyond : (n : ℕ) → 200000 < n → bad n ≡ true) where
-  unsigned_alike : (z : ℤ) → or_negative bad z ≡ bad (outward (saturate z))
-  unfolding or_negative saturate outward
-  unsigned_alike (negsuc n) = sym (beyond 4294967295 (omega arith))
+  unsigned_alike : (z : ℤ) → or_negative bad z ≡ bad (cast_unsigned w32 (saturate z))
+  unfolding or_negative saturate
+  unsigned_alike (negsuc n) = sym (beyond _ (omega arith))
   unsigned_alike (pos n) = elim (capped n) [
     | inl h ↦ ap bad (sym h.1)
     | inr h ↦ beyond n (omega (arith, h.0)) ∙ sym (ap bad h.1 ∙ beyond 2147483647 (omega arith))
@@ -45,14 +45,14 @@ large_value : (n : ℕ) → 200000 < n → bad_value n ≡ true
 unfolding bad_value
 large_value n h = lt-ltb 200000 n h
 
-pub area_alike : (before : Option ℕ) (z : ℤ) → or_negative (bad_area before) z ≡ bad_area before (outward (saturate z))
+pub area_alike : (before : Option ℕ) (z : ℤ) → or_negative (bad_area before) z ≡ bad_area before (cast_unsigned w32 (saturate z))
 area_alike before z = unsigned_alike (bad_area before) (large_area before) z
 
-pub value_alike : (z : ℤ) → or_negative bad_value z ≡ bad_value (outward (saturate z))
+pub value_alike : (z : ℤ) → or_negative bad_value z ≡ bad_value (cast_unsigned w32 (saturate z))
 value_alike z = unsigned_alike bad_value large_value z
 
-pub natural_of_limit : (z : ℤ) → outward (saturate z) ≤ 200000 → outward (saturate z) ≡ natural z
-unfolding natural saturate outward
+pub natural_of_limit : (z : ℤ) → cast_unsigned w32 (saturate z) ≤ 200000 → cast_unsigned w32 (saturate z) ≡ natural z
+unfolding natural saturate
 natural_of_limit (negsuc n) h = absurd (omega arith)
 natural_of_limit (pos n) h = elim (capped n) [
   | inl k ↦ k.1

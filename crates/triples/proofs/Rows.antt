@@ -23,7 +23,8 @@ use Rattle.model.specs.Inner.{Limits}
 use Rattle.model.proofs.Rows.{passed, row_refused, then_first, then_rest}
 use Rattle.binary64.specs.Inner.{saturate}
 use Rattle.triples.specs.Triples.{WholePoint, natural, triple_rows, point_from, export_rows}
-use Rattle.triples.specs.Inner.{outward, ranged_point, whole_points}
+use Rattle.std.specs.Int.{w32, cast_unsigned}
+use Rattle.triples.specs.Inner.{ranged_point, whole_points}
 use Rattle.triples.proofs.Limits.{area_alike, value_alike, slope_alike, natural_of_limit, slope_of_limit}
 
 -- how many are taken before one that is not
@@ -69,14 +70,14 @@ unfolding triple_rows point_rows whole_points ranged_point row ◌then◌
 rows_of_whole i before [] = refl
 rows_of_whole i before (none ∷ ps) = rw (lt-ltb 0 (suc (length ps)) (omega arith), add-zero i) refl
 rows_of_whole i before (some p ∷ ps) =
-    let area = outward (saturate p.area) in
+    let area = cast_unsigned w32 (saturate p.area) in
     let later : bad_area before area ≡ false →
     triple_rows (suc i) (some (natural p.area)) ps
     ≡ (point_rows (suc i) (some area) (whole_points ps) then row_14 i (some p ∷ ps)) =
     λ e. rw (sym (natural_of_limit p.area (small_area before area e))) (rows_of_whole (suc i) (some area) ps)
     ∙ ap (λ r. point_rows (suc i) (some area) (whole_points ps) then r) (row_14_next i p ps) in
     rw (area_alike before p.area, value_alike p.value, slope_alike p.slope)
-    (three_then (bad_area before area) (bad_value (outward (saturate p.value))) (bad_slope (saturate p.slope)) i _ _ _ later)
+    (three_then (bad_area before area) (bad_value (cast_unsigned w32 (saturate p.value))) (bad_slope (saturate p.slope)) i _ _ _ later)
 
 -- ---- where they refuse nothing
 

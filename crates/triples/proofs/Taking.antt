@@ -9,7 +9,8 @@ use lib.IntN.{ℤ}
 use Rattle.binary64.specs.Inner.{saturate, saturated}
 use Rattle.binary64.proofs.Values.{none≢some}
 use Rattle.triples.specs.Triples.{whole_point}
-use Rattle.triples.specs.Inner.{outward, ranged_point, ranged}
+use Rattle.std.specs.Int.{w32, cast_unsigned}
+use Rattle.triples.specs.Inner.{ranged_point, ranged}
 
 none_of : (o : Option ℤ) → saturated o ≡ none → o ≡ none
 unfolding saturated
@@ -33,7 +34,7 @@ module _ (area value slope : Option ℤ) where
   no_area e = rw (none_of area e) refl
 
   pub all_taken : {a v s : ℤ} → saturated area ≡ some a → saturated value ≡ some v → saturated slope ≡ some s →
-      some (record { area = outward a; value = outward v; slope = s }) ≡ ranged (whole_point area value slope)
+      some (record { area = cast_unsigned w32 a; value = cast_unsigned w32 v; slope = s }) ≡ ranged (whole_point area value slope)
   unfolding whole_point ranged ranged_point
   all_taken e f g =
       let k = some_of area _ e in

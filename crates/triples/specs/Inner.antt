@@ -1,13 +1,14 @@
 -- What contracts of inner functions cite. Nothing here need be believed: the call's contract cites document 02's definitions.
 --   triple_of       a triple of the code, as one of the definitions
---   outward         an integer as an unsigned number that is beyond every limit if it is negative
---   ranged_point    a point with its figures brought into range: 32 bits hold them, and rows 3 to 5 refuse what they refused
+--   ranged_point    a point with its figures brought into range: 32 bits hold them, and rows 3 to 5 refuse what they refused,
+--                   since an area or a value below 0 is above 2^31 as an unsigned number
 --   ranged          the same, if the point is taken
 --   taken_point     what the code takes of a triple
 --   whole_points    the points before the first that is not taken
 -- Assumes nothing.
 use Rattle.std.specs.Prelude as code
-use Rattle.std.specs.Prelude.{ℕ, List, [], ◌∷◌, ℤ, pos, negsuc}
+use Rattle.std.specs.Prelude.{ℕ, List, [], ◌∷◌}
+use Rattle.std.specs.Int.{w32, cast_unsigned}
 use Rattle.std.proofs.Math.Option.{Option, none, some}
 use Rattle.model.specs.Points as model
 use Rattle.point.specs.declared.Point.{Point}
@@ -19,13 +20,13 @@ use Rattle.triples.specs.Triples.{Triple, WholePoint}
 abbrev pub triple_of : declared.Triple → Triple
 triple_of t = record { area = t.area; value = t.value; slope = t.slope }
 
-unfoldable pub outward : ℤ → ℕ
-outward (pos n) = n
-outward (negsuc n) = 4294967295
-
 unfoldable pub ranged_point : WholePoint → model.Point
 ranged_point p =
-    record { area = outward (saturate p.area); value = outward (saturate p.value); slope = saturate p.slope }
+    record {
+      area = cast_unsigned w32 (saturate p.area);
+      value = cast_unsigned w32 (saturate p.value);
+      slope = saturate p.slope;
+    }
 
 unfoldable pub ranged : Option WholePoint → Option model.Point
 ranged none = none

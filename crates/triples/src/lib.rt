@@ -3,14 +3,15 @@
 
 ghost use Rattle.std.specs.Prelude.{◌≡◌, false, map, ◌+◌, ◌<◌, ◌≤◌, length};
 ghost use Rattle.model.specs.Answer.{gives, row, ◌then◌};
+ghost use Rattle.model.specs.Check.{bad_count};
 ghost use Rattle.refusal.specs.Refusal.{answer_at, answer_of};
 ghost use Rattle.point.specs.Inner.{point_of};
 ghost use Rattle.triples.specs.Triples.{bad_length, figure_at, triple_at, count, taken, exported, point_from, export_rows};
-ghost use Rattle.triples.specs.Inner.{triple_of, taken_point, outward, ranged, whole_points};
+ghost use Rattle.triples.specs.Inner.{triple_of, taken_point, ranged, whole_points};
 
 use point::Point;
 use refusal::{Refusal, Row};
-use rows::{Curve, POINTS_MOST};
+use rows::Curve;
 use shape::Shape;
 use std::num::f64_from_bits_with_nan;
 
@@ -35,13 +36,6 @@ fn figure(bytes: &[u8], at: usize) -> f64
     f64_from_bits_with_nan(bits)
 }
 
-// A number that may not be negative: where it is, one beyond every limit.
-fn unsigned(z: i32) -> u32
-    ensures { result ≡ outward z }
-{
-    u32::try_from(z).unwrap_or(u32::MAX)
-}
-
 // The figures of a point, of whatever value.
 #[derive(Clone, Copy)]
 pub struct Triple {
@@ -53,6 +47,7 @@ pub struct Triple {
 impl Triple {
     // The point, if its figures are whole. Each figure is tested whole before it is cast. Those that 32 bits do not hold, and
     // areas and values below 0, become others that are beyond the limits too.
+    #[inline(always)]
     fn point(self) -> Option<Point>
         ensures { taken_point result ≡ ranged (taken (triple_of self)) }
     {
@@ -60,8 +55,8 @@ impl Triple {
         let value = binary64::whole_number(self.value)?;
         let slope = binary64::whole_number(self.slope)?;
         Some(Point {
-            area: unsigned(area),
-            value: unsigned(value),
+            area: area.cast_unsigned(),
+            value: value.cast_unsigned(),
             slope,
         })
     }
@@ -124,8 +119,9 @@ impl<'a> Triples<'a> {
     pub fn curve<'p>(
         &self,
         code: u32,
-        points: &'p mut [Point; POINTS_MOST],
+        points: &'p mut [Point],
     ) -> Result<Curve<&'p [Point]>, Refusal>
+        requires room { bad_count (count self.now.bytes.now) ≡ false → count self.now.bytes.now ≤ length points.old }
         ensures { answer_of (λ curve. map point_of curve.points.now) result
             ≡ (export_rows (exported self.now.bytes.now) code
             then gives (map point_from (exported self.now.bytes.now))) }

@@ -1,10 +1,10 @@
--- Row 13, then 11, then the rows of the points; or they are written into the lists.
-use Rattle.std.proofs.Common.{refl, sym, ◌∙◌, arith}
+-- Row 13, then 11, then what is left of them.
+use Rattle.std.proofs.Common.{refl, sym, ◌∙◌}
 use Rattle.model.specs.Answer.{filled}
+use Rattle.model.proofs.Rows.{count_of_row_1}
 use Rattle.refusal.proofs.Results.{refused_exit}
 use Rattle.file.proofs.Filled.{after_refusal}
-use Rattle.import.proofs.Taking.{passed, refused_by_13, refused_by_11, refused_by_points, all_pass, given, few}
-use Rattle.import.proofs.Taking.{room, after_list}
+use Rattle.import.proofs.Taking.{passed, refused_by_13, refused_by_11, rows_left}
 use Rattle.import.proofs.take.Goals as goal
 
 pub returns-in_err-export-clause-answer : goal.returns-in_err-export-clause-answer
@@ -38,57 +38,46 @@ pub returns-then-short_list-clause-slopes : goal.returns-then-short_list-clause-
 unfolding filled
 returns-then-short_list-clause-slopes c = refl
 
-pub returns-in_err-curve-clause-answer : goal.returns-in_err-curve-clause-answer
-returns-in_err-curve-clause-answer c =
+pub put-requires : goal.put-requires
+put-requires c =
+    record {
+      own = λ _. rw (← c.count-n.ensures) c.if-n-le-FEW.true;
+      lent = rw c.count-n.ensures at (sym c.short_list.ensures ∙ c.if-short_list.false);
+    }
+
+pub put-requires-else-n-le-FEW : goal.put-requires-else-n-le-FEW
+put-requires-else-n-le-FEW c =
+    record {
+      own = λ counted. (count_of_row_1 _ counted).1;
+      lent = rw c.count-n.ensures at (sym c.short_list.ensures ∙ c.if-short_list.false);
+    }
+
+pub returns-then-n-le-FEW-clause-answer : goal.returns-then-n-le-FEW-clause-answer
+returns-then-n-le-FEW-clause-answer c =
     let k = passed _ c.in_ok-export.ensures in
-    let room = rw (c.count-n.ensures, k.same) at (sym c.short_list.ensures ∙ c.if-short_list.false) in
-    refused_exit _ _ _ c.from_residual-in_err-curve.ensures.1
-    ∙ refused_by_points _ _ _ _ _ k.multiple room (rw k.same at c.in_err-curve.ensures)
+    let lent = rw (c.count-n.ensures, k.same) at (sym c.short_list.ensures ∙ c.if-short_list.false) in
+    rw k.same at c.put.ensures.answer ∙ rows_left _ _ _ _ _ k.multiple lent
 
-pub returns-in_err-curve-clause-areas : goal.returns-in_err-curve-clause-areas
-returns-in_err-curve-clause-areas c = after_refusal _ (refused_exit _ _ _ c.from_residual-in_err-curve.ensures.1)
+pub returns-then-n-le-FEW-clause-areas : goal.returns-then-n-le-FEW-clause-areas
+returns-then-n-le-FEW-clause-areas c = let k = passed _ c.in_ok-export.ensures in rw k.same at c.put.ensures.areas
 
-pub returns-in_err-curve-clause-values : goal.returns-in_err-curve-clause-values
-returns-in_err-curve-clause-values c = after_refusal _ (refused_exit _ _ _ c.from_residual-in_err-curve.ensures.1)
+pub returns-then-n-le-FEW-clause-values : goal.returns-then-n-le-FEW-clause-values
+returns-then-n-le-FEW-clause-values c = let k = passed _ c.in_ok-export.ensures in rw k.same at c.put.ensures.values
 
-pub returns-in_err-curve-clause-slopes : goal.returns-in_err-curve-clause-slopes
-returns-in_err-curve-clause-slopes c = after_refusal _ (refused_exit _ _ _ c.from_residual-in_err-curve.ensures.1)
+pub returns-then-n-le-FEW-clause-slopes : goal.returns-then-n-le-FEW-clause-slopes
+returns-then-n-le-FEW-clause-slopes c = let k = passed _ c.in_ok-export.ensures in rw k.same at c.put.ensures.slopes
 
-pub fill-requires : goal.fill-requires
-fill-requires c =
+pub returns-else-n-le-FEW-clause-answer : goal.returns-else-n-le-FEW-clause-answer
+returns-else-n-le-FEW-clause-answer c =
     let k = passed _ c.in_ok-export.ensures in
-    let free = rw (c.count-n.ensures, k.same) at (sym c.short_list.ensures ∙ c.if-short_list.false) in
-    let g = given _ _ _ (rw k.same at c.in_ok-curve.ensures) in
-    let r = room _ _ _ _ free g.points_are in
-    record { in_areas = omega arith; in_values = omega arith; in_slopes = omega arith }
+    let lent = rw (c.count-n.ensures, k.same) at (sym c.short_list.ensures ∙ c.if-short_list.false) in
+    rw k.same at c.put-else-n-le-FEW.ensures.answer ∙ rows_left _ _ _ _ _ k.multiple lent
 
-pub overflow_cast-result : goal.overflow_cast-result
-overflow_cast-result c =
-    let k = passed _ c.in_ok-export.ensures in
-    let g = given _ _ _ (rw k.same at c.in_ok-curve.ensures) in
-    record { fits = omega (arith, few _ _ g.rows, rw k.same at c.count-n.ensures) }
+pub returns-else-n-le-FEW-clause-areas : goal.returns-else-n-le-FEW-clause-areas
+returns-else-n-le-FEW-clause-areas c = let k = passed _ c.in_ok-export.ensures in rw k.same at c.put-else-n-le-FEW.ensures.areas
 
-pub returns-clause-answer : goal.returns-clause-answer
-returns-clause-answer c =
-    let k = passed _ c.in_ok-export.ensures in
-    let free = rw (c.count-n.ensures, k.same) at (sym c.short_list.ensures ∙ c.if-short_list.false) in
-    let g = given _ _ _ (rw k.same at c.in_ok-curve.ensures) in
-    rw (c.count-n.ensures, k.same) (all_pass _ _ _ _ _ k.multiple free g.rows)
+pub returns-else-n-le-FEW-clause-values : goal.returns-else-n-le-FEW-clause-values
+returns-else-n-le-FEW-clause-values c = let k = passed _ c.in_ok-export.ensures in rw k.same at c.put-else-n-le-FEW.ensures.values
 
-pub returns-clause-areas : goal.returns-clause-areas
-returns-clause-areas c =
-    let k = passed _ c.in_ok-export.ensures in
-    let g = given _ _ _ (rw k.same at c.in_ok-curve.ensures) in
-    c.fill.ensures.areas ∙ after_list _ _ _ _ g.points_are
-
-pub returns-clause-values : goal.returns-clause-values
-returns-clause-values c =
-    let k = passed _ c.in_ok-export.ensures in
-    let g = given _ _ _ (rw k.same at c.in_ok-curve.ensures) in
-    c.fill.ensures.values ∙ after_list _ _ _ _ g.points_are
-
-pub returns-clause-slopes : goal.returns-clause-slopes
-returns-clause-slopes c =
-    let k = passed _ c.in_ok-export.ensures in
-    let g = given _ _ _ (rw k.same at c.in_ok-curve.ensures) in
-    c.fill.ensures.slopes ∙ after_list _ _ _ _ g.points_are
+pub returns-else-n-le-FEW-clause-slopes : goal.returns-else-n-le-FEW-clause-slopes
+returns-else-n-le-FEW-clause-slopes c = let k = passed _ c.in_ok-export.ensures in rw k.same at c.put-else-n-le-FEW.ensures.slopes

@@ -15,8 +15,8 @@ returns-in_err-slope c = rw c.from_residual-in_err-slope.ensures (no_slope _ _ _
 pub returns : goal.returns
 returns c =
     rw (
-      c.unsigned.ensures,
-      c.unsigned-2.ensures,
+      c.cast_unsigned.ensures,
+      c.cast_unsigned-2.ensures,
       to_z-of_z {w = w32} {z = c.in_ok-area.area} (search rules),
       to_z-of_z {w = w32} {z = c.in_ok-value.value} (search rules),
       to_z-of_z {w = w32} {z = c.in_ok-slope.slope} (search rules),

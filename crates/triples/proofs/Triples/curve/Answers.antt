@@ -18,9 +18,12 @@ use Rattle.triples.proofs.Triples.curve.Goals as goal
 
 module _ (bytes : List ℕ) where
   -- what row 1 says
+  row_1 : {n : ℕ} {found bad : Bool} → n ≡ count bytes → found ≡ bad_count n → found ≡ bad → bad_count (count bytes) ≡ bad
+  row_1 e f g = rw (← e) (sym f ∙ g)
+
   counted : {n : ℕ} {found bad : Bool} → n ≡ count bytes → found ≡ bad_count n → found ≡ bad →
       bad_count (length (exported bytes)) ≡ bad
-  counted e f g = rw (exported_length bytes, ← e) (sym f ∙ g)
+  counted e f g = rw (exported_length bytes) (row_1 e f g)
 
   -- as many points as are taken
   size : (l : List Point) → map point_of l ≡ whole_points (exported bytes) → length l ≡ whole_count (exported bytes)
@@ -36,9 +39,7 @@ returns-then-bad_count c =
 
 pub decode-whole-requires : goal.decode-whole-requires
 decode-whole-requires c =
-    let bytes = c.args.self.now.bytes.now in
-    let n = counted bytes c.count-n.ensures c.bad_count.ensures c.if-bad_count.false in
-    omega (arith, count_of_row_1 _ n, exported_length bytes)
+    c.requires.room (row_1 c.args.self.now.bytes.now c.count-n.ensures c.bad_count.ensures c.if-bad_count.false)
 
 pub returns-then-whole-n : goal.returns-then-whole-n
 returns-then-whole-n c =
