@@ -2,10 +2,32 @@
 #![tactic(auto)]
 
 ghost use Rattle.std.specs.Prelude.{◌≡◌};
+ghost use Rattle.std.specs.Float.{binary64};
+ghost use Rattle.std.specs.Float.Ieee.{of_bits};
 ghost use Rattle.binary64.specs.Value.{whole_number};
 ghost use Rattle.binary64.specs.Inner.{figure_of, saturated};
 
-use std::num::{f64_to_bits_with_nan, saturating_f64_to_i32};
+use std::num::{f64_from_bits_with_nan, f64_to_bits_with_nan, saturating_f64_to_i32};
+
+// The number that a pattern of bits stands for.
+#[inline(always)]
+pub fn from_pattern(bits: u64) -> f64
+    ensures { result ≡ of_bits binary64 bits }
+{
+    if 0x7ff0_0000_0000_0000 < bits % 0x8000_0000_0000_0000 {
+        return not_a_number(bits);
+    }
+    f64_from_bits_with_nan(bits)
+}
+
+// Not inlined: a branch that is not taken takes less time than a choice between two numbers.
+#[cold]
+#[inline(never)]
+fn not_a_number(bits: u64) -> f64
+    ensures { result ≡ of_bits binary64 bits }
+{
+    f64_from_bits_with_nan(bits)
+}
 
 // 2^52 + 2^51
 const WHOLE_BITS: f64 = 6755399441055744.0;
@@ -19,7 +41,8 @@ pub fn whole_number(x: f64) -> Option<i32>
     // they are some whole number, and another one.
     let bits = f64_to_bits_with_nan(x + WHOLE_BITS);
     let z = ((bits % 4294967296) as u32).cast_signed();
-    if f64::from(z) == x {
+    let found = f64::from(z) == x;
+    if found {
         return Some(z);
     }
     truncated_number(x)

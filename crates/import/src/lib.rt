@@ -33,7 +33,7 @@ const ORIGIN: Point = Point {
 };
 
 // Rows 1 to 6 and 14, and the points into the lent lists, by way of a list of our own.
-#[inline(always)]
+#[inline(never)]
 fn put(
     export: Triples,
     code: u32,
@@ -84,7 +84,14 @@ fn take(
     if n <= FEW {
         put(export, code, &mut [ORIGIN; FEW], areas, values, slopes)
     } else {
-        put(export, code, &mut [ORIGIN; POINTS_MOST], areas, values, slopes)
+        put(
+            export,
+            code,
+            &mut [ORIGIN; POINTS_MOST],
+            areas,
+            values,
+            slopes,
+        )
     }
 }
 

@@ -13,7 +13,6 @@ use point::Point;
 use refusal::{Refusal, Row};
 use rows::Curve;
 use shape::Shape;
-use std::num::f64_from_bits_with_nan;
 
 // Bytes of each point.
 pub const TRIPLE_SIZE: usize = 24;
@@ -33,7 +32,7 @@ fn figure(bytes: &[u8], at: usize) -> f64
         bytes[at + 6],
         bytes[at + 7],
     ]);
-    f64_from_bits_with_nan(bits)
+    binary64::from_pattern(bits)
 }
 
 // The figures of a point, of whatever value.

@@ -16,5 +16,5 @@ returns c =
     let e₅ : suc (at + 4) ≡ at + 5 = omega arith in
     let e₆ : suc (at + 5) ≡ at + 6 = omega arith in
     let e₇ : suc (at + 6) ≡ at + 7 = omega arith in
-    c.f64_from_bits_with_nan.ensures
+    c.from_pattern.ensures
     ∙ ap (of_bits binary64) (rw (e₁, e₂, e₃, e₄, e₅, e₆, e₇) (omega (arith, c.from_le_bytes-bits.ensures)))
