@@ -23,7 +23,7 @@ pub enum Imported {
     Refused(Row, u32),
 }
 
-// Few points need no list that takes long to make.
+// Up to so many points a shorter list is made.
 const FEW: usize = 8;
 
 const ORIGIN: Point = Point {
@@ -32,7 +32,8 @@ const ORIGIN: Point = Point {
     slope: 0,
 };
 
-// Rows 1 to 6 and 14, and the points into the lent lists, by way of a list of our own.
+// Rows 1 to 6 and 14; the points go into a list of our own and, if none refuses, from there into the lent lists. Not inlined:
+// twice in place, the curve would go through memory.
 #[inline(never)]
 fn put(
     export: Triples,
@@ -80,7 +81,7 @@ fn take(
     if file::short_list(n, areas.len(), values.len(), slopes.len()) {
         return Err(Row::Room.at(0));
     }
-    // No heap: as many points as a curve can have.
+    // No heap: a list of as many points as a curve can have.
     if n <= FEW {
         put(export, code, &mut [ORIGIN; FEW], areas, values, slopes)
     } else {
