@@ -1,5 +1,4 @@
 -- Laws that other crates cite.
 pub mod Values
 mod Wholes
-pub mod Large
 pub mod Laws

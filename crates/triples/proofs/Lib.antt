@@ -3,5 +3,4 @@ mod Limits
 mod Taking
 mod Rows
 mod Decoding
-mod Answered
 pub mod Sizes

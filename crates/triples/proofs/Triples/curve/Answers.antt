@@ -13,7 +13,7 @@ use Rattle.triples.specs.Inner.{whole_points}
 use Rattle.triples.proofs.Rows.{whole_count, at_most_all}
 use Rattle.triples.proofs.Rows.{refused_by_count, refused_by_code, refused_before_14, refused_by_14, points_given}
 use Rattle.triples.proofs.Sizes.{exported_length}
-use Rattle.triples.proofs.Answered.{answer_along}
+use Rattle.refusal.proofs.Results.{answer_through}
 use Rattle.triples.proofs.Triples.curve.Goals as goal
 
 module _ (bytes : List ℕ) where
@@ -46,7 +46,7 @@ returns-then-whole-n c =
     let bytes = c.args.self.now.bytes.now in
     let all : whole_count (exported bytes) ≡ length (exported bytes) =
     omega (arith, size bytes _ c.decode-whole.ensures, exported_length bytes) in
-    rw c.decode-whole.ensures at (answer_along _ (λ p. map point_of p.0.now) c.new.result _ _ c.new.ensures)
+    rw c.decode-whole.ensures at (answer_through _ (λ p. map point_of p.0.now) c.new.result _ _ c.new.ensures)
     ∙ points_given _ _ all
 
 pub returns-in_err-try_from : goal.returns-in_err-try_from
