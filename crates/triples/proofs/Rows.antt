@@ -77,7 +77,8 @@ rows_of_whole i before (some p ∷ ps) =
     λ e. rw (sym (natural_of_limit p.area (small_area before area e))) (rows_of_whole (suc i) (some area) ps)
     ∙ ap (λ r. point_rows (suc i) (some area) (whole_points ps) then r) (row_14_next i p ps) in
     rw (area_alike before p.area, value_alike p.value, slope_alike p.slope)
-    (three_then (bad_area before area) (bad_value (cast_unsigned w32 (saturate p.value))) (bad_slope (saturate p.slope)) i _ _ _ later)
+    (three_then (bad_area before area) (bad_value (cast_unsigned w32 (saturate p.value))) (bad_slope (saturate p.slope)) i _ _ _
+    later)
 
 -- ---- where they refuse nothing
 

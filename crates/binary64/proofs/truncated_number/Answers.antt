@@ -3,7 +3,8 @@ use Rattle.std.proofs.Common.{◌∙◌, sym, w32, to_z-of_z}
 use Rattle.std.proofs.lemmas.Float.{T_from_true}
 use Rattle.binary64.proofs.Wholes.{taken, not_finite, not_whole}
 use Rattle.binary64.proofs.truncated_number.Goals as goal
-use Rattle.binary64.proofs.truncated_number.Goals.{else-is_finite-via-then-is_finite+else-trunc-x, else-is_finite-via-else-is_finite}
+use Rattle.binary64.proofs.truncated_number.Goals.{else-is_finite-via-then-is_finite+else-trunc-x}
+use Rattle.binary64.proofs.truncated_number.Goals.{else-is_finite-via-else-is_finite}
 
 pub returns-then-trunc-x : goal.returns-then-trunc-x
 returns-then-trunc-x c =
