@@ -37,8 +37,8 @@ const WHOLE_BITS: f64 = 6755399441055744.0;
 pub fn whole_number(x: f64) -> Option<i32>
     ensures { figure_of result ≡ saturated (whole_number x) }
 {
-    // In the sum, where numbers are 1 apart, the lowest bits are those of a whole number that 32 bits hold. Of other numbers
-    // they are some whole number, and another one.
+    // Numbers of the size of the sum are 1 apart, so its lowest bits are those of x, if x is whole and 32 bits hold it. Of any
+    // other x they are a whole number that is not x.
     let bits = f64_to_bits_with_nan(x + WHOLE_BITS);
     let z = ((bits % 4294967296) as u32).cast_signed();
     let found = f64::from(z) == x;

@@ -1,7 +1,7 @@
 -- What contracts of inner functions cite. Nothing here need be believed: the call's contract cites document 02's definitions.
 --   triple_of       a triple of the code, as one of the definitions
 --   ranged_point    a point with its figures brought into range: 32 bits hold them, and rows 3 to 5 refuse what they refused,
---                   since an area or a value below 0 is above 2^31 as an unsigned number
+--                   since an area or a value below 0 is 2^31 or more as an unsigned number
 --   ranged          the same, if the point is taken
 --   taken_point     what the code takes of a triple
 --   whole_points    the points before the first that is not taken
