@@ -89,17 +89,17 @@ few_digits s (suc m) e t = le_of_lt (bounds s m e t).digits
 -- two that compare equal have one value, and one sign if it is not 0
 record Alike (t s : Bool) (q m : ℕ) (e : ℤ) : Type 0 where
   pub size : m * up e ≡ q * down e
-  pub sign : T (beq t s || eqb q 0)
+  pub sign : signed s q ≡ signed t q
 
-zero_of : (q k : ℕ) → q * k ≡ 0 → 0 < k → T (eqb q 0)
-zero_of zero k h p = tt
+zero_of : (q k : ℕ) → q * k ≡ 0 → 0 < k → q ≡ 0
+zero_of zero k h p = refl
 zero_of (suc q) k h p = let some = mul-pos (zero-lt-suc q) p in absurd (omega arith)
 
-sign_of : (t s : Bool) (l q k : ℕ) → l ≡ q * k → 0 < k → T (beq t s || eqb l 0) → T (beq t s || eqb q 0)
-sign_of true true l q k h p b = tt
-sign_of false false l q k h p b = tt
-sign_of true false l q k h p b = zero_of q k (sym h ∙ eqb→eq l 0 b) p
-sign_of false true l q k h p b = zero_of q k (sym h ∙ eqb→eq l 0 b) p
+sign_of : (t s : Bool) (l q k : ℕ) → l ≡ q * k → 0 < k → T (beq t s || eqb l 0) → signed s q ≡ signed t q
+sign_of true true l q k h p b = refl
+sign_of false false l q k h p b = refl
+sign_of true false l q k h p b = rw (zero_of q k (sym h ∙ eqb→eq l 0 b) p) refl
+sign_of false true l q k h p b = rw (zero_of q k (sym h ∙ eqb→eq l 0 b) p) refl
 
 alike : (y : Float) (t s : Bool) (q m : ℕ) (e : ℤ) → HasValue y t q 1 → eq y (fin s m e) ≡ true → Alike t s q m e
 unfolding eq
@@ -131,16 +131,10 @@ cut_off s m k t h =
 
 -- ---- what the code finds
 
-signed_alike : (t s : Bool) (q : ℕ) → T (beq t s || eqb q 0) → signed s q ≡ signed t q
-signed_alike true true q k = refl
-signed_alike false false q k = refl
-signed_alike true false q k = rw (eqb→eq q 0 k) refl
-signed_alike false true q k = rw (eqb→eq q 0 k) refl
-
 -- whatever number compares equal to x
 value_is : (y x : Float) (t : Bool) (q : ℕ) → HasValue y t q 1 → eq y x ≡ true → whole_number x ≡ some (signed t q)
 value_is y (fin s m e) t q v h =
-    let k = alike y t s q m e v h in whole_of_value s m e q k.size ∙ ap some (signed_alike t s q k.sign)
+    let k = alike y t s q m e v h in whole_of_value s m e q k.size ∙ ap some k.sign
 value_is (fin u a d) nan t q v h = absurd (unfold eq in true≢false (sym h))
 value_is (fin u a d) (inf s) t q v h = absurd (unfold eq in true≢false (sym h))
 value_is nan nan t q v h = absurd v
