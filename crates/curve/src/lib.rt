@@ -51,7 +51,7 @@ fn factor(
     ensures { answer_of (λ f. f) result
         ≡ on_lists areas.now values.now slopes.now (λ ps. read_answer ps shape area) }
 {
-    let curve = Curve::of_lists(areas, values, slopes, shape)?;
+    let curve = Curve::of_lists(areas, values, slopes, shape)?.as_read();
     Ok(lookup::read(&curve, area)?)
 }
 
@@ -90,7 +90,7 @@ fn fill(
         ≡ sheet_list (points areas.now values.now slopes.now) shape start step
         (answer_of (λ n. n) result) out.old }
 {
-    let curve = Curve::of_lists(areas, values, slopes, shape)?;
+    let curve = Curve::of_lists(areas, values, slopes, shape)?.as_read();
     let steps = Steps { start, step };
     entries::check(&curve.points, steps, out.len())?;
     entries::fill(&curve, steps, out);

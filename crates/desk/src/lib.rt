@@ -40,7 +40,8 @@ fn read(bytes: &[u8], area: u32, scratch: &mut [u8]) -> Result<i32, Refusal>
     let curve = Curve {
         points: file,
         shape,
-    };
+    }
+    .as_read();
     let i = lookup::locate(&curve, area)?;
     copy(&bytes[HEAD_SIZE..], scratch);
     Ok(lookup::factor_at(&curve, i, area))

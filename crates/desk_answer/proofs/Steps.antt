@@ -17,7 +17,7 @@ use Rattle.std.specs.Prelude.{Result, Ok, Err, IsErrAnd}
 use Rattle.model.specs.Answer.{gives, refused, row, ◌then◌, filled}
 use Rattle.model.specs.Points.{Point}
 use Rattle.model.specs.Check.{curve_rows}
-use Rattle.model.specs.Read.{outside, segment_read, reading, read_answer}
+use Rattle.model.specs.Read.{outside, segment_read, reading, used_code, factor, read_answer}
 use Rattle.model.proofs.Rows.{gives_injective, then_first, then_rest, row_passed}
 use Rattle.model.proofs.Answers.{then_refused, refused_first, reading_given}
 use Rattle.refusal.specs.declared.Row.TheVariants.{Room}
@@ -83,14 +83,17 @@ module _ {room : ℕ} {bytes : List ℕ} {area : ℕ} {records found : List ℕ}
             let outside = refused_alike (row (outside (points_of bytes) area) 7 0) _ _ (sym e) in
             refuses d exit (read_is _ _ _ _ enough passed coded ∙ rw own outside)
 
-        pub by_reading : {i : ℕ} {factor : ℤ} {left : List ℕ} →
+        pub by_reading : {i used : ℕ} {read : ℤ} {left : List ℕ} → used ≡ used_code (points_of bytes) given →
             gives i ≡ (row (outside (points_of bytes) area) 7 0 then gives (segment_read (points_of bytes) area)) →
-            factor ≡ reading (points_of bytes) given area → SFits w32 factor → left ≡ records ++ drop (length records) found →
-            Answered room bytes area records found left (Ok (to_z w32 (of_z w32 factor)))
-        unfolding filled
-        by_reading index_is factor_is fits copied =
+            read ≡ reading (points_of bytes) used area → SFits w32 read → left ≡ records ++ drop (length records) found →
+            Answered room bytes area records found left (Ok (to_z w32 (of_z w32 read)))
+        unfolding filled factor
+        by_reading used_is index_is read_is_reading fits copied =
             let own = then_first (curve_rows _ code) _ (sym accepted) in
             let given_is = gives_injective (then_rest (curve_rows _ code) _ (sym accepted)) in
             let given = reading_given _ _ area (record { none_applies = own }) (inside _ _ index_is) in
             let e = read_is _ _ _ _ enough passed coded ∙ given in
-            record { answer = ap gives (to_z-of_z fits ∙ factor_is) ∙ rw (← given_is) (sym e); scratch = rw e copied }
+            record {
+              answer = ap gives (to_z-of_z fits ∙ rw (used_is, given_is) at read_is_reading) ∙ sym e;
+              scratch = rw e copied;
+            }

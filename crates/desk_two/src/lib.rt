@@ -26,7 +26,8 @@ fn read(bytes: &[u8], area: u32, scratch: &mut [u8]) -> Result<i32, Refusal>
     let curve = Curve {
         points: file,
         shape,
-    };
+    }
+    .as_read();
     let i = lookup::locate(&curve, area)?;
     copy_block::<24>(bytes, HEAD_SIZE + RECORD_SIZE * i, scratch, 0);
     Ok(lookup::factor_at(&curve, i, area))

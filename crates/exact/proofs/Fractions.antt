@@ -179,6 +179,10 @@ pub nonneg_of_≤ : {x : Fraction} → whole (pos 0) ≤ℚ x → NonNeg x
 unfolding whole
 nonneg_of_≤ {x} h = record { sign = rw (zero-*ℤ, *_one) at h.cross }
 
+pub ≤_of_nonneg : {x : Fraction} → NonNeg x → whole (pos 0) ≤ℚ x
+unfolding whole
+≤_of_nonneg {x} h = record { cross = rw (zero-*ℤ, *_one) h.sign }
+
 pub ≤_of_≈ : {x y : Fraction} → x ≈ℚ y → x ≤ℚ y
 ≤_of_≈ h = record { cross = Z.≤_of_≡ h.cross }
 

@@ -1,5 +1,5 @@
 -- An accepted curve, as a chain of segments that each have their shape.
---   count_of       2 to 64 points; code_of, a code from 1 to 4; points_pass, segments_pass, rows 3 to 6
+--   count_of       2 to 64 points; code_of, a code from 1 to 4; points_pass, segments_pass, rows 3 to 6; accepted_of, back from these
 --   limits_of      each point keeps its limits
 --   neighbours_of_rows    points that pass rows 1 and 3 to 5 are a chain; good_of_rows, and row 6 too
 --   chained_of     the points of an accepted curve are a chain of good segments
@@ -14,7 +14,7 @@ use mathlib.Core.Option.{Option, none, some}
 use Prim.Native.Nat.{ℕ, zero, suc, ◌≤◌, ◌<◌}
 use native.Mathlib.Nat.{le_trans}
 use native.Mathlib.Omega.{arith}
-use borrow.Author.Tests.{not-false}
+use borrow.Author.Tests.{le-ltb, not-false}
 use lib.Dec.{T}
 use lib.ListN.{length}
 use Rattle.exact.specs.Rounding.{round}
@@ -64,6 +64,15 @@ neighbours_of_rows (p ∷ q ∷ ps) h e =
 pub good_of_rows : (rule : Rule) {ps : List Point} → Chained Neighbours ps → segment_rows 0 rule (segments ps) ≡ gives tt →
     Chained (Good rule) ps
 good_of_rows rule (chained c) e = chained (good_chain rule 0 c e)
+
+pub accepted_of : (ps : List Point) (code : ℕ) → (points_least ≤ length ps) × (length ps ≤ points_most) →
+    (1 ≤ code) × (code ≤ 4) → point_rows 0 none ps ≡ gives tt → segment_rows 0 (rule_of code) (segments ps) ≡ gives tt →
+    Accepted ps code
+unfolding curve_rows bad_count bad_code row ◌then◌
+accepted_of ps code n c p q =
+    record {
+      none_applies = rw (le-ltb _ points_least n.0, le-ltb points_most _ n.1, le-ltb code 1 c.0, le-ltb 4 code c.1, p, q);
+    }
 
 module _ {ps : List Point} {code : ℕ} (k : Accepted ps code) where
   pub count_of : (points_least ≤ length ps) × (length ps ≤ points_most)

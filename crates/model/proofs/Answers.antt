@@ -4,7 +4,7 @@
 --   on_lists_gives     where one gives a result the lists are equally long
 --   on_lists_refused   calls that refuse alike on points do so on lists
 --   Given              what a factor that Read gives says; reading_given
---   given_of_rows      rows 1 to 7 decide: they pass, and Read gives the reading; read_refused, they refuse, and Read does
+--   given_of_rows      rows 1 to 7 decide: they pass, and Read gives the factor; read_refused, they refuse, and Read does
 --   refused_outside    on an accepted curve Read refuses by row 7 only
 --   factor_is_high     no factor that Read gives is below −200,000
 --   then_refused       rows that refuse, before whatever follows; refused_first, from before a result; refused_before; then_assoc
@@ -21,7 +21,8 @@ use Rattle.exact.proofs.Tests.{true_or_false}
 use Rattle.model.specs.Answer.{Answer, gives, refused, row, ◌then◌}
 use Rattle.model.specs.Points.{Point, points}
 use Rattle.model.specs.Check.{lengths_differ, curve_rows, on_lists, on_lists_of}
-use Rattle.model.specs.Read.{outside, reading, read_answer}
+use Rattle.model.specs.Read as R
+use Rattle.model.specs.Read.{outside, read_answer}
 use Rattle.model.specs.Laws.{Curve}
 use Rattle.model.specs.Inner.{read_rows, Accepted, Alike}
 use Rattle.model.proofs.Laws.{factors_are_bounded}
@@ -89,7 +90,7 @@ then_assoc (refused n i) y z = refl
 pub record Given (ps : List Point) (code x : ℕ) (f : ℤ) : Type 0 where
   pub accepted : Accepted ps code
   pub within : outside ps x ≡ false
-  pub factor : reading ps code x ≡ f
+  pub factor : R.factor ps code x ≡ f
 
 module _ (ps : List Point) (code x : ℕ) where
   pub given : {f : ℤ} → read_answer ps code x ≡ gives f → Given ps code x f
@@ -102,15 +103,15 @@ module _ (ps : List Point) (code x : ℕ) where
         factor = gives_injective (then_rest (row (outside ps x) 7 0) _ later);
       }
 
-  pub reading_given : Accepted ps code → outside ps x ≡ false → read_answer ps code x ≡ gives (reading ps code x)
+  pub reading_given : Accepted ps code → outside ps x ≡ false → read_answer ps code x ≡ gives (R.factor ps code x)
   unfolding read_answer row ◌then◌
   reading_given k e = rw (k.none_applies, e)
 
-  by_rows : (read_rows ps code x then gives (reading ps code x)) ≡ read_answer ps code x
+  by_rows : (read_rows ps code x then gives (R.factor ps code x)) ≡ read_answer ps code x
   unfolding read_answer
   by_rows = then_assoc (curve_rows ps code) (row (outside ps x) 7 0) _
 
-  pub given_of_rows : read_rows ps code x ≡ gives tt → Given ps code x (reading ps code x)
+  pub given_of_rows : read_rows ps code x ≡ gives tt → Given ps code x (R.factor ps code x)
   unfolding ◌then◌
   given_of_rows e = given (sym by_rows ∙ rw e)
 

@@ -1,5 +1,5 @@
 -- What the curve of a segment does, from the test of its shape, so that nothing above looks at a formula again.
---   Rise, rise_kind       the test of a rising segment, as facts: it climbs or is flat
+--   Rise, rise_kind       the test of a rising segment, as facts: it climbs or is flat; left_slope_of_rise
 --   Bend, bend_kind       the test of a convex segment, as facts: it is bent or straight
 --   rising_rises          the rising curve joins its ends and rises
 --   convex_curve_slope    the slope of the convex curve, by the cases of the curve
@@ -28,7 +28,7 @@ use Rattle.model.proofs.Inside.{flat_rises, climbing_rises, straight_bends, bend
 
 pub data Rise (left right : ℤ) (d₀ d₁ : Fraction) : Type 0 where
   climbs : pos 0 <ℤ (right -ℤ left) → NonNeg d₀ → NonNeg d₁ → Rise left right d₀ d₁
-  flat : right ≡ left → Rise left right d₀ d₁
+  flat : right ≡ left → NonNeg d₀ → Rise left right d₀ d₁
 
 pub data Bend (c d₀ d₁ : Fraction) : Type 0 where
   bent : d₀ <ℚ c → c <ℚ d₁ → Bend c d₀ d₁
@@ -48,7 +48,12 @@ rise_kind h left right {d₀} {d₁} t =
           let (v, k₁) = and_yes (eqℚ F 0ℚ && eqℚ d₀ 0ℚ) (eqℚ d₁ 0ℚ) u in
           let (f, k₀) = and_yes (eqℚ F 0ℚ) (eqℚ d₀ 0ℚ) v in
           flat (≡_of_difference right left (Z.≡_cancel (Z.positive_lit tt) (Q.≈_of_eqℚ f).cross))
+          (Q.nonneg_of_≤ (Q.≤_of_≈ (Q.≈_sym (Q.≈_of_eqℚ k₀))))
     ]
+
+pub left_slope_of_rise : {left right : ℤ} {d₀ d₁ : Fraction} → Rise left right d₀ d₁ → NonNeg d₀
+left_slope_of_rise (climbs f k₀ k₁) = k₀
+left_slope_of_rise (flat e k₀) = k₀
 
 pub bend_kind : (h F : ℤ) {d₀ d₁ : Fraction} → T (bends h F d₀ d₁) → Bend (F over h) d₀ d₁
 unfolding bends
@@ -108,7 +113,7 @@ convex_curve_slope h left right d₀ d₁ S a g b t =
 
 module _ {h left right : ℤ} {d₀ d₁ : Fraction} {S e₀ g e₁ : ℤ} (n : Normal h left right d₀ d₁ S e₀ g e₁) where
   pub rising_rises : Rise left right d₀ d₁ → Rises h left right (λ t. I.rising_curve h left right t d₀ d₁)
-  rising_rises (flat e) = rises_of_closed (λ t i. flat_value n t e) (flat_rises n.h_positive e)
+  rising_rises (flat e k₀) = rises_of_closed (λ t i. flat_value n t e) (flat_rises n.h_positive e)
   rising_rises (climbs F_positive k₀ k₁) =
       let c = climbing_of_normal n F_positive k₀ k₁ in
       rises_of_closed (λ t i. rising_value c i) (climbing_rises c)

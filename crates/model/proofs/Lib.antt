@@ -13,6 +13,7 @@ pub mod Rows
 pub mod Lists
 pub mod Indexed
 pub mod Accepted
+pub mod AsRead
 pub mod MirrorCurve
 pub mod Outside
 pub mod Search

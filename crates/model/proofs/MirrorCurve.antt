@@ -20,7 +20,7 @@ use Rattle.model.specs.Points.{value_most, Point, Segment, segments, Shape}
 use Rattle.model.specs.Points.{mirror, mirror_segment, plain, mirrored}
 use Rattle.model.specs.Interpolant.{exact_curve}
 use Rattle.model.specs.Shape.{segment_test}
-use Rattle.model.specs.Check.{bad_count, bad_code, bad_value, bad_slope, point_rows, segment_rows, curve_rows}
+use Rattle.model.specs.Check.{bad_value, bad_slope, point_rows, segment_rows}
 use Rattle.model.specs.Read.{last_from, segment_read, exact_value, last_area, outside}
 use Rattle.model.specs.Laws.{Curve, Area, MirrorAccepted}
 use Rattle.model.specs.Inner.{Accepted, point_at, segment_at, Limits}
@@ -28,7 +28,8 @@ use Rattle.model.proofs.Codes.{plain_of, mirrored_of}
 use Rattle.model.proofs.Mirror.{mirror_limits}
 use Rattle.model.proofs.Rows.{passed}
 use Rattle.model.proofs.Indexed.{read_inner}
-use Rattle.model.proofs.Accepted.{count_of, code_of, points_pass, segments_pass}
+use Rattle.model.proofs.Accepted.{count_of, code_of, points_pass, segments_pass, accepted_of}
+use Rattle.model.proofs.AsRead.{used_own}
 
 -- ---- rows 3 to 6
 
@@ -100,18 +101,23 @@ module _ (c : Curve) where
   accepted : Accepted c.points c.code
   accepted = record { none_applies = c.accepted }
 
-  pub mirror_accepted : MirrorAccepted c
-  unfolding curve_rows bad_count bad_code exact_value row ◌then◌
-  mirror_accepted h =
-      let n = count_of accepted in
+  mirror_rows : 2 < c.code → Accepted (map mirror c.points) (c.code - 2)
+  mirror_rows h =
       let m = code_of accepted in
-      let least : 1 ≤ c.code - 2 = omega arith in
       let most : c.code - 2 ≤ 2 = omega arith in
-      let segments_too = rw (mirrored_of h) at (segments_pass accepted) in (
-        rw (length-map c.points mirror, le-ltb _ 2 n.0, le-ltb 64 _ n.1, le-ltb _ 1 least)
-            (rw (le-ltb 4 (c.code - 2) (omega arith), points_mirror 0 none _ (points_pass accepted), plain_of most)
-            (rw (segments_mirror c.points, rows_mirror) segments_too)),
-        λ x. rw (mirrored_of h, plain_of most) (value_mirror _ x c.points n.0),
+      accepted_of (map mirror c.points) (c.code - 2) (rw (length-map c.points mirror) (count_of accepted))
+      (omega arith, omega arith) (points_mirror 0 none _ (points_pass accepted))
+      (rw (plain_of most, segments_mirror c.points, rows_mirror) (rw (mirrored_of h) at (segments_pass accepted)))
+
+  pub mirror_accepted : MirrorAccepted c
+  unfolding exact_value
+  mirror_accepted h =
+      let m = code_of accepted in
+      let most : c.code - 2 ≤ 2 = omega arith in (
+        (mirror_rows h).none_applies,
+        λ x.
+            rw (used_own c.points c.code (λ e. omega arith), mirrored_of h, plain_of most)
+            (value_mirror _ x c.points (count_of accepted).0),
       )
 
   module _ (h : 2 < c.code) where

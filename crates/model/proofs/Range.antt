@@ -1,7 +1,8 @@
 -- The exact values of a segment are between least_factor and most_factor of its rule. A rising curve is between its ends, at most
 -- value_most. A convex curve is not above its larger end, and not below its left tangent: that falls by at most slope_most / 100
 -- for each of at most gap_most tenths. Their mirrors are 200,000 less that.
---   Between, value_range       a fraction between two whole numbers; the exact value
+--   Between, value_range       a fraction between two whole numbers; the exact value; rising_convex_range, on a convex segment
+--                              that rises too
 --   Within, reading_range      a whole number, so; its rounding, by any rounding that keeps order and whole numbers
 --   least_of_all, most_of_all  from −200,000 to 400,000, whichever rule
 -- Assumes nothing.
@@ -26,7 +27,8 @@ use Rattle.model.specs.Laws.{least_factor, most_factor}
 use Rattle.model.specs.Inner.{Neighbours, Good, Inside}
 use Rattle.model.proofs.ClosedForm.{In}
 use Rattle.model.proofs.Inside.{Rises, Bends, end_left, end_right}
-use Rattle.model.proofs.Segments.{gap, segment_rises, segment_bends, distance_in, interpolant_proper}
+use Rattle.model.proofs.Segments.{gap, proper_gradient, segment_rises, segment_bends, left_slope_rises, distance_in}
+use Rattle.model.proofs.Segments.{interpolant_proper}
 use Rattle.model.proofs.Mirror.{mirror_inside}
 
 pub record Between (least most : ℤ) (v : Fraction) : Type 0 where
@@ -47,7 +49,7 @@ module _ {v w : Fraction} {e k : ℤ} (p : Proper v) (q : Proper w) (is : v ≈�
       Q.≤_trans (search propers) p q
       (Q.≤_trans (search propers) (search propers) p (Q.whole_≤_of_≤ _ _ l) (Q.≤_of_≈ (Q.≈_sym is))) h
 
-≤_of_sum : {v w v' : Fraction} → Proper v → Proper w → Proper v' → v +ℚ w ≤ℚ v' → NonNeg w → v ≤ℚ v'
+pub ≤_of_sum : {v w v' : Fraction} → Proper v → Proper w → Proper v' → v +ℚ w ≤ℚ v' → NonNeg w → v ≤ℚ v'
 ≤_of_sum {v} {w} {v'} p q p' h n =
     Q.≤_by p p' ((v' -ℚ (v +ℚ w)) +ℚ w) (search propers)
     (field (v ∷ℚ w ∷ℚ v' ∷ℚ []) (search ratios depth 20 fits 9999) tt)
@@ -139,6 +141,22 @@ plain_range {shape = convex} {s = s} r =
           (tangent_low (Z.nonneg_pos _) k.left.slope_low (gap_high s k) i)
           (not_below_tangent bends i (search positivity));
       high = convex_high bends i (Z.pos_≤_of_≤ k.left.value) (Z.pos_≤_of_≤ k.right.value);
+    }
+
+-- a convex segment that rises too is not below 0: its left tangent is not
+pub rising_convex_range : {s : Segment} {x : ℕ} → Inside (Good (plain convex)) s x → Good (plain rising) s →
+    Between (pos 0) (pos value_most) (interpolant convex s x)
+unfolding interpolant
+rising_convex_range {s} {x} r g =
+    let i = distance_in r in
+    let bends = segment_bends s r.good in
+    let p = proper_gradient s.left in
+    let up = left_slope_rises s g in
+    let right_of_0 = Z.nonneg_difference i.low in
+    record {
+      low = Q.≤_trans (search propers) (search propers) (bends.joins.proper i)
+          (Q.≤_of_nonneg (search (positivity, Z.nonneg_pos))) (not_below_tangent bends i p);
+      high = (plain_range r).high;
     }
 
 -- ---- and their mirrors

@@ -3,6 +3,7 @@
 --   Line, l under m      a line through a value at an area; the line l is not above the value of m
 --   chord_of l m         the slope of their chord, between theirs (slope_≤_chord, chord_≤_slope)
 --   curve_slope s x      the slope of a convex segment's curve at an area; line, its tangent there
+--   no_tangent_falls     on a segment that rises too
 --   Supports s x s' y    x is not after y, the tangent at each is not above the curve at the other, and the slopes do not fall
 --   convex_spreads       on a convex curve all areas are so
 -- Assumes nothing.
@@ -10,7 +11,7 @@ use mathlib.Core.Path.{◌≡◌}
 use mathlib.Core.List.{List, [], ◌∷◌}
 use mathlib.Core.Logic.{inl, inr}
 use Prim.Native.Nat.{ℕ, ◌≤◌}
-use native.Mathlib.Nat.{le_refl, le_trans, le_antisymm}
+use native.Mathlib.Nat.{le_refl, le_trans, le_antisymm, le_of_lt}
 use lib.IntN.{ℤ, pos, ◌-ℤ◌, +ℤ_invr}
 use lib.Signed.{◌<ℤ◌}
 use Rattle.exact.specs.Fraction.{Fraction, Proper, whole, ◌+ℚ◌, ◌-ℚ◌, ◌*ℚ◌, ◌/ℚ◌, ◌≈ℚ◌, ◌≤ℚ◌}
@@ -20,10 +21,10 @@ use Rattle.exact.proofs.Field.{field, ratios, ◌∷ℚ◌}
 use Rattle.exact.proofs.Tests.{compare}
 use Rattle.exact.proofs.Fractions as Q
 use Rattle.exact.proofs.Fractions.{NonNeg, propers, positivity}
-use Rattle.model.specs.Points.{Point, Segment, Shape, rising, convex, plain}
+use Rattle.model.specs.Points.{Point, gradient, Segment, Shape, rising, convex, plain}
 use Rattle.model.specs.Interpolant.{interpolant}
 use Rattle.model.specs.Inner.{between, Good, Inside}
-use Rattle.model.proofs.Segments.{distance, slope_at, segment_rises, segment_bends, distance_in, proper_gradient}
+use Rattle.model.proofs.Segments.{distance, slope_at, segment_rises, segment_bends, distance_in, proper_gradient, left_slope_rises}
 use Rattle.model.proofs.Segments.{interpolant_proper, interpolant_left, interpolant_right}
 use Rattle.model.proofs.Walk.{Spreads}
 
@@ -143,6 +144,25 @@ slopes_meet {p} {q} {r} k k' =
     Q.≈_trans (proper_gradient q) (segment_bends (between p q) k).at_right
     (Q.≈_sym (rw +ℤ_invr (segment_bends (between q r) k').at_left))
 
+slopes_in : {s : Segment} {x y : ℕ} → Inside (Good (plain convex)) s x → Inside (Good (plain convex)) s y → x ≤ y →
+    curve_slope s x ≤ℚ curve_slope s y
+slopes_in {s} {x} {y} r r' h = elim (compare y x) [
+  | inl (k, e) ↦ rw (le_antisymm h k) (Q.≤_of_≈ (Q.≈_refl (curve_slope s y)))
+  | inr (k, e) ↦ slopes_rise (line r) (line r') (Z.pos_<_of_< k) (under_inside r r') (under_inside r' r)
+]
+
+-- Section 3.3 of the report (TR/10/83): a convex curve through rising data rises. Its slopes grow from the left one, which a rising
+-- segment has at 0 or more.
+pub no_tangent_falls : {s : Segment} {x : ℕ} → Inside (Good (plain convex)) s x → Good (plain rising) s →
+    NonNeg (curve_slope s x)
+no_tangent_falls {s} {x} r g =
+    let end : Inside (Good (plain convex)) s s.left.area =
+    record { good = r.good; low = le_refl _; high = le_of_lt r.good.ends.ordered } in
+    let p = curve_slope_proper end in
+    let at_left : curve_slope s s.left.area ≈ℚ gradient s.left = rw +ℤ_invr (segment_bends s r.good).at_left in
+    let up = Q.nonneg_≈ p (proper_gradient s.left) at_left (left_slope_rises s g) in
+    Q.nonneg_of_≤ (Q.≤_trans (search propers) p (curve_slope_proper r) (Q.≤_of_nonneg up) (slopes_in end r r.low))
+
 pub convex_spreads : Spreads (Good (plain convex)) Supports
 convex_spreads =
     record {
@@ -151,10 +171,7 @@ convex_spreads =
             order = h;
             rightwards = under_inside r r';
             leftwards = under_inside r' r;
-            slopes = elim (compare y x) [
-              | inl (k, e) ↦ rw (le_antisymm h k) (Q.≤_of_≈ (Q.≈_refl (curve_slope s y)))
-              | inr (k, e) ↦ slopes_rise (line r) (line r') (Z.pos_<_of_< k) (under_inside r r') (under_inside r' r)
-            ];
+            slopes = slopes_in r r' h;
           };
       join = λ {q = q} r r'.
           let e = values_meet r.good r'.good in

@@ -1,5 +1,5 @@
 -- What rows that refuse nothing say.
---   gives_injective           a result is one; refused≢gives, and no refusal
+--   gives_injective           a result is one; refused≢gives, and no refusal; gives_tt, rows that refuse nothing
 --   then_first, then_rest     the parts of `first then rest` that gives a result
 --   row_passed                a row before a result does not apply; row_left, nor one that refuses nothing
 --   row_refused               where it refuses, it does so by its own number
@@ -21,7 +21,7 @@ use lib.Signed.{lt_z}
 use Rattle.model.specs.Answer.{Answer, gives, refused, row, ◌then◌}
 use Rattle.model.specs.Points.{points_least, points_most, area_most, gap_most, value_most, slope_most, Point}
 use Rattle.model.specs.Check.{lengths_differ, bad_count, bad_code, bad_area, bad_value, bad_slope, point_rows}
-use Rattle.model.specs.Inner.{Alike, between, Limits, Neighbours}
+use Rattle.model.specs.Inner.{gives_nothing, Alike, between, Limits, Neighbours}
 use Rattle.exact.proofs.Tests.{or_left, or_right, ≤_of_lt_z_false}
 
 -- ---- answers
@@ -31,6 +31,10 @@ gives_injective e = cc
 
 pub refused≢gives : {A : Type 0} {n i : ℕ} {x : A} → refused n i ≡ gives x → ⊥
 refused≢gives e = let z : ◌≡◌ {A = ℕ} 0 1 = cc in omega arith
+
+pub gives_tt : (a : Answer (Unit {0})) → gives_nothing a ≡ true → a ≡ gives tt
+gives_tt (gives u) e = refl
+gives_tt (refused n i) e = cc
 
 pub then_first : {A : Type 0} {x : A} (first : Answer (Unit {0})) (rest : Answer A) → (first then rest) ≡ gives x →
     first ≡ gives tt

@@ -3,7 +3,7 @@
 --   v₀, v₁, d₀, d₁                   the values and the slopes of the ends
 --   S, e₀, g, e₁, a, b               as in ClosedForm: S = 100 h, e₀ = h D₀, g = 100 F, e₁ = h D₁, a = e₁ − g, b = g − e₀
 --   curve_at, slope_at               the curve, and the slope of the convex curve, at a distance from the left end
---   segment_rises, segment_bends     what they do between the ends
+--   segment_rises, segment_bends     what they do between the ends; left_slope_rises, a rising segment's left slope is 0 or more
 --   distance_in                      an area inside the segment is at a distance from 0 to h
 --   interpolant_proper, -left, -right    the exact value has a denominator above 0, and is the point's value at both ends
 -- Assumes nothing.
@@ -17,14 +17,14 @@ use Rattle.exact.proofs.Ring.{ring, terms}
 use Rattle.exact.proofs.Order as Z
 use Rattle.exact.proofs.Order.{signs}
 use Rattle.exact.proofs.Field.{field, ratios}
-use Rattle.exact.proofs.Fractions.{positivity}
+use Rattle.exact.proofs.Fractions.{NonNeg, positivity}
 use Rattle.model.specs.Points.{Point, gradient, Segment, Shape, rising, convex, plain}
 use Rattle.model.specs.Interpolant.{curve, interpolant}
 use Rattle.model.specs.Shape.{fits, has_shape, segment_test}
 use Rattle.model.specs.Inner.{Good, Inside}
 use Rattle.model.proofs.ClosedForm.{Closed, In, Normal}
 use Rattle.model.proofs.Inside.{Joins, Rises, Bends, end_left, end_right}
-use Rattle.model.proofs.Curves.{rise_kind, bend_kind, rising_rises, convex_bends, convex_curve_slope}
+use Rattle.model.proofs.Curves.{rise_kind, left_slope_of_rise, bend_kind, rising_rises, convex_bends, convex_curve_slope}
 
 pub proper_gradient : (p : Point) → Proper (gradient p)
 unfolding gradient
@@ -96,6 +96,10 @@ module _ (s : Segment) where
   pub segment_rises : Good (plain rising) s → Rises gap v₀ v₁ (curve_at rising)
   unfolding curve segment_test has_shape fits
   segment_rises k = rising_rises (segment_normal k.ends.ordered) (rise_kind gap v₀ v₁ k.shaped)
+
+  pub left_slope_rises : Good (plain rising) s → NonNeg d₀
+  unfolding segment_test has_shape fits
+  left_slope_rises k = left_slope_of_rise (rise_kind gap v₀ v₁ k.shaped)
 
   pub segment_bends : Good (plain convex) s → Bends gap v₀ v₁ d₀ d₁ (curve_at convex) slope_at
   unfolding curve segment_test has_shape fits

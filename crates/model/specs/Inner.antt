@@ -1,5 +1,5 @@
 -- What contracts of inner functions cite. Nothing here need be believed: the calls' contracts cite document 01's definitions.
---   first_answer       a row that refuses at a place, or not at all
+--   first_answer       a row that refuses at a place, or not at all; gives_nothing, whether rows refuse nothing
 --   read_rows          rows 1 to 7; Accepted, rows 1 to 6 refuse nothing
 --   Alike              three lists are equally long
 --   point_at           the point at an index; segment_at, the segment that begins there
@@ -9,9 +9,9 @@
 --   Strides, LastOf    a search for that index in steps, and what it finds
 --   Filling            a list that is filled from the front
 -- Assumes nothing.
-use Rattle.std.specs.Prelude.{◌≡◌, false, List, map, ◌++◌, ◌⊎◌, ℕ, suc, ◌+◌}
+use Rattle.std.specs.Prelude.{◌≡◌, Bool, true, false, List, map, ◌++◌, ◌⊎◌, ℕ, suc, ◌+◌}
 use Rattle.std.specs.Prelude.{◌≤◌, ◌<◌, T, ltb, pos, neg_ℤ, length, get_or, drop, ◌≤ℤ◌}
-use Rattle.model.specs.Answer.{Answer, gives, row, ◌then◌}
+use Rattle.model.specs.Answer.{Answer, gives, refused, row, ◌then◌}
 use Rattle.model.specs.Points.{points_most, area_most, gap_most, value_most, slope_most, Point, Segment, Rule}
 pub use Rattle.model.specs.Points.{between, origin, point_at, segment_at}
 use Rattle.model.specs.Shape.{segment_test}
@@ -22,6 +22,10 @@ use Rattle.model.specs.Sheet.{tabulate}
 -- a row at each of n places, by the first place where its condition holds
 abbrev pub first_answer : ℕ → ℕ → ℕ → Answer (Unit {0})
 first_answer number place n = row (ltb place n) number place
+
+abbrev pub gives_nothing : Answer (Unit {0}) → Bool
+gives_nothing (gives u) = true
+gives_nothing (refused number place) = false
 
 -- rows 1 to 7 of one area
 abbrev pub read_rows : List Point → ℕ → ℕ → Answer (Unit {0})

@@ -1,11 +1,13 @@
 -- Document 01, "Readings to prove": K1 to K10, as answers of Read and of Check; and the sheet that is printed there. Of document
--- 02: item 4, K1 to K10 mirrored, and three points under each new code; item 6, where K6 and K7 changed, exact halves.
+-- 02: item 4, K1 to K10 mirrored, and three points under each new code; item 6, where K6 and K7 changed, exact halves; item 8,
+-- where K1 and K2 changed, which curve code 1 gives.
 -- Assumes nothing.
 use Rattle.std.specs.Prelude.{ℕ, ◌≡◌, cond, List, [], ◌∷◌, map, ℤ, pos, neg_ℤ, ◌-ℤ◌}
 use Rattle.exact.specs.Fraction.{Fraction, ◌over◌, whole, ◌+ℚ◌, ◌-ℚ◌, ltℚ}
 use Rattle.exact.specs.Rounding.{floor, half, round}
 use Rattle.model.specs.Answer.{Answer, gives, refused}
 use Rattle.model.specs.Points.{Point}
+use Rattle.model.specs.Interpolant.{rational}
 use Rattle.model.specs.Check.{check_answer, on_lists_of}
 use Rattle.model.specs.Read.{exact_value, read_answer}
 use Rattle.model.specs.Sheet.{sheet_answer, sheet_list}
@@ -24,10 +26,11 @@ unfoldable pub bow : List Point
 bow = 500 / 10000 / pos 0 ∷ 600 / 14000 / pos 10000 ∷ []
 
 -- K1 to K10, each with what it is to answer; K9 and K10 name no area. K6 and K7 as document 02, item 6, has them: 0.5 and -1.5.
+-- K1 and K2 as item 8 has them.
 unfoldable pub ten : ℕ → List (Answer ℤ × Answer ℤ)
 ten area =
-    (read bow 1 550, gives (pos 10889))
-    ∷ (read bow 1 525, gives (pos 10229))
+    (read bow 1 550, gives (pos 10800))
+    ∷ (read bow 1 525, gives (pos 10182))
     ∷ (read bow 2 550, gives (pos 10800))
     ∷ (read bow 2 525, gives (pos 10182))
     ∷ (read (500 / 10000 / pos 2000 ∷ 600 / 14000 / pos 6000 ∷ []) 1 501, gives (pos 10020))
@@ -61,7 +64,8 @@ FurtherReadings =
 unfoldable pub mirrored_bow : List Point
 mirrored_bow = 500 / 190000 / pos 0 ∷ 600 / 186000 / neg_ℤ (pos 10000) ∷ []
 
--- K1 to K10 mirrored: 200,000 less each reading, of the exact halves K6 and K7 too
+-- K1 to K10 mirrored: 200,000 less each reading, of the exact halves K6 and K7 too; of K1 and K2, that of the rising curve, which
+-- item 8 leaves to the mirror
 unfoldable pub ten_mirrored : ℕ → List (Answer ℤ × Answer ℤ)
 ten_mirrored area =
     (read mirrored_bow 3 550, gives (pos 189111))
@@ -136,3 +140,33 @@ Traps =
     × (away_from_zero (exact_value (0 / 0 / neg_ℤ (pos 300) ∷ 2 / 0 / pos 300 ∷ []) 2 1) ≡ neg_ℤ (pos 2))
     × (apart (pos 1 over pos 2) (exact_value (0 / 0 / pos 0 ∷ 2 / 1 / pos 100 ∷ []) 2 1) ≡ pos 0)
     × (apart (pos 3 over pos 2) (exact_value sagging 2 1) ≡ pos 2)
+
+-- the points of K1, turned round
+unfoldable pub turned : List Point
+turned = 500 / 10000 / pos 10000 ∷ 600 / 14000 / pos 0 ∷ []
+
+-- K1's segment, and one that fails the convex test after it or before it
+unfoldable pub bow_first : List Point
+bow_first = 500 / 10000 / pos 0 ∷ 600 / 14000 / pos 10000 ∷ 700 / 20000 / pos 10000 ∷ []
+
+unfoldable pub bow_last : List Point
+bow_last = 400 / 9000 / pos 2000 ∷ 500 / 10000 / pos 0 ∷ 600 / 14000 / pos 10000 ∷ []
+
+unfoldable pub level : List Point
+level = 0 / 5 / pos 0 ∷ 10 / 5 / pos 0 ∷ []
+
+-- Document 02, item 8
+abbrev pub ConvexFirstReadings : Type 0
+ConvexFirstReadings =
+    -- a curve under 1 that is not convex
+    (read turned 1 550 ≡ gives (pos 13111)) × (read turned 1 575 ≡ gives (pos 13771)) × (read turned 2 550 ≡ refused 6 0)
+    -- there r = 3 would give 13,250, and the rule of 4 gives 13,200
+    × (round (rational (pos 100) (pos 10000) (pos 14000) (pos 50) (whole (pos 100)) (whole (pos 0)) (whole (pos 3))) ≡ pos 13250)
+    × (read turned 4 550 ≡ gives (pos 13200))
+    -- not convex in one segment alone: K1's segment reads by the rising curve too
+    × (read bow_first 1 550 ≡ gives (pos 10889)) × (read bow_first 1 525 ≡ gives (pos 10229))
+    × (read bow_first 1 650 ≡ gives (pos 17000)) × (read bow_last 1 550 ≡ gives (pos 10889))
+    -- a straight rise and a constant, under 1 and 2
+    × (read slow_line 1 3 ≡ read slow_line 2 3) × (read level 1 4 ≡ gives (pos 5)) × (read level 2 4 ≡ gives (pos 5))
+    -- K5 under 2
+    × (read (500 / 10000 / pos 2000 ∷ 600 / 14000 / pos 6000 ∷ []) 2 501 ≡ gives (pos 10020))

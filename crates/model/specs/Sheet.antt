@@ -4,7 +4,7 @@ use Rattle.std.specs.Prelude.{ℕ, zero, suc, ◌+◌, ◌*◌, Bool, ◌||◌, 
 use Rattle.model.specs.Answer.{Answer, gives, refused, row, ◌then◌, row_at_each}
 use Rattle.model.specs.Points.{Point}
 use Rattle.model.specs.Check.{curve_rows}
-use Rattle.model.specs.Read.{outside, reading}
+use Rattle.model.specs.Read.{outside, factor}
 
 abbrev pub entries_most : ℕ
 entries_most = 1024
@@ -34,5 +34,5 @@ sheet_answer ps code start step entries =
 
 -- the list after the call, by its answer: into every entry the factor at its area, or what it held
 unfoldable pub sheet_list : List Point → ℕ → ℕ → ℕ → Answer ℕ → List ℤ → List ℤ
-sheet_list ps code start step (gives n) out = tabulate (λ index. reading ps code (entry_area start step index)) 0 n
+sheet_list ps code start step (gives n) out = tabulate (λ index. factor ps code (entry_area start step index)) 0 n
 sheet_list ps code start step (refused number place) out = out

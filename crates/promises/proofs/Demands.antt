@@ -17,7 +17,7 @@ use Rattle.model.specs.Answer.{Answer, gives, refused, row, ◌then◌}
 use Rattle.model.specs.Points.{Point, points}
 use Rattle.model.specs.Check.{curve_rows, check_answer, on_lists_of}
 use Rattle.model.specs.Laws.{Curve, Area, exact}
-use Rattle.model.specs.Read.{outside, reading, read_answer}
+use Rattle.model.specs.Read.{outside, read_answer}
 use Rattle.model.specs.Sheet.{bad_sheet, entry_area, entry_rows, sheet_answer, sheet_list}
 use Rattle.model.proofs.Rows.{gives_injective, then_first, then_rest, row_passed, row_refused}
 use Rattle.model.proofs.Answers.{on_lists_of_is, on_lists_gives, given, reading_given}
@@ -25,6 +25,7 @@ use Rattle.model.proofs.Lists.{fields_of}
 use Rattle.model.proofs.Laws.{curve_accepted, factor, values_are_proper, factors_are_near, segments_meet, rated_points_read}
 use Rattle.model.proofs.Laws.{factors_are_ranged, rising_factors, convex_chords, convex_steps}
 use Rattle.model.proofs.Laws.{falling_factors, concave_chords, concave_steps}
+use Rattle.model.proofs.AsRead.{convex_first}
 use Rattle.model.proofs.MirrorCurve.{mirror_accepted}
 use Rattle.model.proofs.Filling.{tabulate_at}
 use Rattle.model.proofs.Places.{each_fails, each_passes}
@@ -95,7 +96,7 @@ reads_of_entry c start step out entries index e h =
     let rows = entry_rows c.points start step n in
     let after_8 = then_rest (row (bad_sheet step n) 8 0) _ (then_rest (curve_rows c.points c.code) _ e) in
     let count = gives_injective (then_rest rows (gives n) after_8) in
-    let f : ℕ → ℤ = λ j. reading c.points c.code (entry_area start step j) in
+    let f : ℕ → ℤ = λ j. factor c (entry_area start step j) in
     record {
       area = record {
         within = each_fails _ 7 n index (then_first rows (gives n) after_8) (omega (arith, count));
@@ -184,6 +185,7 @@ third_demand c =
           rw (← (reads r₀).same, ← (reads r₁).same, ← (reads r₂).same)
           (convex_steps c e x k (reads r₀).area (reads r₁).area (reads r₂).area);
       convex_chords = convex_chords c;
+      convex_first = convex_first c;
       falling = λ e x y f g r s h.
           rw (← (reads r).same, ← (reads s).same) (falling_factors c e x y (reads r).area (reads s).area h);
       concave_steps = λ e x k f₀ f₁ f₂ h r₀ r₁ r₂.

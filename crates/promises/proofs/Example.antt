@@ -13,7 +13,7 @@ use Rattle.model.specs.Interpolant.{rising_curve, convex_curve, curve, interpola
 use Rattle.model.specs.Shape.{rises, bends, fits, has_shape, segment_test}
 use Rattle.model.specs.Check.{lengths_differ, bad_count, bad_code, bad_area, bad_value, bad_slope}
 use Rattle.model.specs.Check.{point_rows, segment_rows, curve_rows, on_lists}
-use Rattle.model.specs.Read.{last_from, segment_read, outside, exact_value, reading, read_answer}
+use Rattle.model.specs.Read.{last_from, segment_read, outside, exact_value, reading, used_code, factor, read_answer}
 use Rattle.model.specs.Sheet.{bad_sheet, tabulate, sheet_answer, sheet_list}
 use Rattle.model.specs.Laws.{Curve}
 use Rattle.layout.specs.Layout.{twos_complement, little_endian, record_at, points_of}
@@ -43,7 +43,7 @@ unfolding ◌over◌ whole ◌+ℚ◌ ◌-ℚ◌ ◌*ℚ◌ ◌/ℚ◌ leℚ lt�
     gradient points segments shape_of rule_of chord p q P Q rational r_rising r_convex rising_curve convex_curve curve
     interpolant exact_curve rises bends fits has_shape segment_test
     lengths_differ bad_count bad_code bad_area bad_value bad_slope point_rows segment_rows curve_rows on_lists
-    last_from segment_read outside exact_value reading read_answer bad_sheet tabulate sheet_answer sheet_list
+    last_from segment_read outside exact_value reading used_code factor read_answer bad_sheet tabulate sheet_answer sheet_list
     twos_complement little_endian record_at wrong_mark bad_head bad_size head_rows factors pair_answer
     short_list open_answer filled answer_with desk_number point_records segment_records
     records file one_point third three later

@@ -2,5 +2,6 @@
 pub mod Demands
 pub mod Filed
 pub mod Imported
+pub mod FiledTwice
 pub mod Example
 pub mod Steps

@@ -1,4 +1,4 @@
--- The third demand, and what document 02, items 4, 5 and 6, add to it. Proofs: proofs/Demands.antt, proofs/Steps.antt.
+-- The third demand, and what document 02, items 4, 5, 6 and 8, add to it. Proofs: proofs/Demands.antt, proofs/Steps.antt.
 -- Assumes nothing.
 use Rattle.std.specs.Prelude.{ℕ, ◌+◌, ◌*◌, ◌≤◌, ◌<◌, ◌≡◌, ◌⊎◌, List, ◌∷◌, ◌++◌, map, T, ℤ, pos, ◌+ℤ◌, ◌-ℤ◌, ◌≤ℤ◌}
 use Rattle.exact.specs.Fraction.{Proper, whole, ◌+ℚ◌, ◌-ℚ◌, ◌≈ℚ◌, ◌≤ℚ◌}
@@ -6,8 +6,8 @@ use Rattle.exact.specs.Rounding.{half, even}
 use Rattle.model.specs.Answer.{gives, refused}
 use Rattle.model.specs.Points.{Point, rule_of}
 use Rattle.model.specs.Check.{check_answer, on_lists}
-use Rattle.model.specs.Laws.{least_factor, most_factor, Curve, Area, exact}
-use Rattle.model.specs.Laws.{SegmentsMeet, ConvexChords, ConcaveChords, MirrorAccepted}
+use Rattle.model.specs.Laws.{least_factor, most_factor, Curve, Area, read_code, exact}
+use Rattle.model.specs.Laws.{SegmentsMeet, ConvexChords, ConcaveChords, MirrorAccepted, ConvexFirst}
 use Rattle.model.specs.Sheet.{entry_area}
 use Rattle.desk_answer.specs.Desk.{desk_answer, desk_answer_two}
 use Rattle.pair.specs.Pair.{Factors}
@@ -33,6 +33,10 @@ module _ (units : ℕ) (c : Curve) where
   ConcaveSteps =
       (x k : ℕ) (f₀ f₁ f₂ : ℤ) → 0 < k → FactorRead c x f₀ → FactorRead c (x + k) f₁ → FactorRead c (x + 2 * k) f₂ →
       (f₂ -ℤ f₁) ≤ℤ (f₁ -ℤ f₀ +ℤ pos units)
+
+-- a larger area never reads a smaller factor
+abbrev pub Rises : Curve → Type 0
+Rises c = (x y : ℕ) (f g : ℤ) → FactorRead c x f → FactorRead c y g → x ≤ y → f ≤ℤ g
 
 -- item 6: one unit would not do
 pub record OneUnitIsTooFew : Type 0 where
@@ -61,12 +65,15 @@ pub record ThirdDemand (c : Curve) : Type 0 where
       (whole f ≈ℚ exact c x -ℚ half) ⊎ (whole f ≈ℚ exact c x +ℚ half) → T (even f)
   -- the same area reads the same factor whichever call reads it
   pub same_factor : (x : ℕ) (f g : ℤ) → FactorRead c x f → FactorRead c x g → f ≡ g
-  -- a rising curve never reads a smaller factor at a larger area
-  pub rising : c.code ≡ 1 → (x y : ℕ) (f g : ℤ) → FactorRead c x f → FactorRead c y g → x ≤ y → f ≤ℤ g
-  -- of three areas equally far apart on a convex curve, the second step is at most two units smaller than the first (item 6)
-  pub convex_steps : c.code ≡ 2 → ConvexSteps 2 c
-  -- of two chords of a convex curve, the one to the right is at least as steep
+  -- a rising curve never reads a smaller factor at a larger area, whichever curve it is read by (item 8)
+  pub rising : c.code ≡ 1 → Rises c
+  -- of three areas equally far apart on a curve read as convex, the second step is at most two units smaller than the first
+  -- (items 6 and 8)
+  pub convex_steps : read_code c ≡ 2 → ConvexSteps 2 c
+  -- of two chords of a curve read as convex, the one to the right is at least as steep
   pub convex_chords : ConvexChords c
+  -- item 8: which curves those are
+  pub convex_first : ConvexFirst c
   -- document 02, item 4: a falling curve never reads a larger factor at a larger area
   pub falling : c.code ≡ 3 → (x y : ℕ) (f g : ℤ) → FactorRead c x f → FactorRead c y g → x ≤ y → g ≤ℤ f
   -- of three areas equally far apart on a concave curve, the second step is at most two units larger than the first (item 6)
@@ -81,3 +88,7 @@ pub record ThirdDemand (c : Curve) : Type 0 where
   -- and a factor read at a rated point is the point's value
   pub rated_factors : (before after : List Point) (p : Point) (f : ℤ) → c.points ≡ before ++ p ∷ after →
       FactorRead c p.area f → f ≡ pos p.value
+
+-- item 8: the rising rule is for curves that are read as convex too
+abbrev pub RisesAsConvex : Type 0
+RisesAsConvex = (c : Curve) × (c.code ≡ 1) × (read_code c ≡ 2) × Rises c

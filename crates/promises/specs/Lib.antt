@@ -3,4 +3,5 @@ pub mod FactorRead
 pub mod Demands
 pub mod Filed
 pub mod Imported
+pub mod FiledTwice
 pub mod Example

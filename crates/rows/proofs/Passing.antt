@@ -22,12 +22,13 @@ use Rattle.model.specs.Answer.{Answer, gives, refused, row, ◌then◌}
 use Rattle.model.specs.Points.{points_least, points_most, Point, segments, rule_of}
 use Rattle.model.specs.Check.{bad_count, bad_code, point_rows, segment_rows, curve_rows}
 use Rattle.model.specs.Inner.{Accepted, Limits, point_at}
-use Rattle.model.proofs.Rows.{count_of_row_1, row_passed, row_refused, then_first, then_rest, gives_injective, passed}
+use Rattle.model.proofs.Accepted as A
+use Rattle.model.proofs.Rows.{gives_tt, count_of_row_1, code_of_row_2, row_passed, row_refused, then_first, then_rest, gives_injective, passed}
 use Rattle.refusal.specs.declared.Refusal.{Refusal}
 use Rattle.refusal.specs.Refusal.{answer_of}
 use Rattle.shape.specs.declared.Shape.{Shape}
 use Rattle.shape.specs.Codes.{code_of}
-use Rattle.rows.specs.Inner.{Count, Follows, gives_nothing, accepts}
+use Rattle.rows.specs.Inner.{Count, Follows, accepts}
 use Rattle.rows.proofs.Faults.{then_gives, limits_passed}
 use Rattle.rows.proofs.Faults.{points_from, point_turn, point_end, segments_from, segment_turn, segment_end}
 
@@ -42,11 +43,7 @@ pub accepts_of : (ps : List Point) (code : ℕ) → curve_rows ps code ≡ gives
 accepts_of ps code e = rw e
 
 pub accepted : (ps : List Point) (code : ℕ) → accepts ps code ≡ true → Accepted ps code
-accepted ps code e = record { none_applies = gives_it _ e }
-  where
-    gives_it : (a : Answer (Unit {0})) → gives_nothing a ≡ true → a ≡ gives tt
-    gives_it (gives u) e = refl
-    gives_it (refused number place) e = cc
+accepted ps code e = record { none_applies = gives_tt _ e }
 
 pub accepted_result : (r : Result Shape Refusal) (ps : List Point) (code : ℕ) →
     answer_of code_of r ≡ (curve_rows ps code then gives code) →
@@ -73,8 +70,9 @@ module _ (ps : List Point) (code : ℕ) where
   pub curve_of_rows : Count (length ps) → bad_code code ≡ false → point_rows 0 none ps ≡ gives tt →
       segment_rows 0 (rule_of code) (segments ps) ≡ gives tt →
       curve_rows ps code ≡ gives tt
-  unfolding curve_rows bad_count row ◌then◌
-  curve_of_rows n c p q = rw (le-ltb _ points_least n.least, le-ltb points_most _ n.most, c, p, q)
+  curve_of_rows n c p q =
+      let k = code_of_row_2 code c in
+      (A.accepted_of ps code (n.least, n.most) k p q).none_applies
 
   -- what refuses first
   module _ {A : Type 0} (rest : Answer A) (n : bad_count (length ps) ≡ false) where

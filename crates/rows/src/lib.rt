@@ -6,6 +6,7 @@ ghost use Rattle.std.proofs.Math.Option.{none};
 ghost use Rattle.model.specs.Answer.{gives, ◌then◌};
 ghost use Rattle.model.specs.Points.{points as points_of_lists, points_most, segments, rule_of};
 ghost use Rattle.model.specs.Check.{bad_count, point_rows, segment_rows, curve_rows, on_lists};
+ghost use Rattle.model.specs.Read.{used_code};
 ghost use Rattle.model.specs.Inner.{Limits};
 ghost use Rattle.refusal.specs.Refusal.{answer_of, checked};
 ghost use Rattle.point.specs.Inner.{point_of};
@@ -165,6 +166,18 @@ impl<P: Points> Curve<P> {
     {
         let shape = check(&points, code)?;
         Ok(Curve { points, shape })
+    }
+
+    // Document 02, item 8: the curve as it is read. A rising curve whose segments pass the convex test too is read as convex.
+    pub fn as_read(self) -> Self
+        ensures points { result.points ≡ self.points }
+        ensures shape { code_of result.shape ≡ used_code (P.points self.points) (code_of self.shape) }
+    {
+        let mut shape = self.shape;
+        if shape == Shape::Rising && check_segments(&self.points, Shape::Convex).is_ok() {
+            shape = Shape::Convex;
+        }
+        Curve { points: self.points, shape }
     }
 }
 

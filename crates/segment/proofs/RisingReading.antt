@@ -113,7 +113,7 @@ unfolding segment_test has_shape fits
 rises_inside {s} i differ =
     elim (rise_kind (gap s) (v₀ s) (v₁ s) i.good.shaped) [
       | climbs f k₀ k₁ ↦ rises_of i f k₀ k₁
-      | flat e ↦ absurd (differ (Z.pos_injective e))
+      | flat e _ ↦ absurd (differ (Z.pos_injective e))
     ]
 
 flat_inside : {s : Segment} {x : ℕ} → Inside (Good (plain rising)) s x → s.right.value ≡ s.left.value →

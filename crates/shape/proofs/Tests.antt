@@ -92,7 +92,7 @@ module _ (s : Segment) where
       falls t =
           elim (rise_kind (gap s) (pos s.left.value) (pos s.right.value) t) [
             | climbs up k₀ k₁ ↦ let k : s.left.value < s.right.value = Z.<_of_pos_< (Z.<_by (rise s) refl up) in omega arith
-            | flat e ↦ let k : s.right.value ≡ s.left.value = Z.pos_injective e in omega arith
+            | flat e _ ↦ let k : s.right.value ≡ s.left.value = Z.pos_injective e in omega arith
           ]
 
 -- ---- as tests of machine numbers

@@ -10,7 +10,8 @@ use Rattle.std.proofs.Common.{true, false, List, [], ◌∷◌, ◌++◌, length
 use lib.Signed.{mag}
 use borrow.Author.Tests.{le-ltb}
 use Rattle.model.specs.Points.{area_most, Point, Rule}
-use Rattle.model.specs.Read.{outside, reading}
+use Rattle.model.specs.Read as R
+use Rattle.model.specs.Read.{outside}
 use Rattle.model.specs.Inner.{point_at, Good}
 use Rattle.model.proofs.Walk.{chain_ordered, good_ordered}
 use Rattle.model.proofs.Indexed.{last_area_at, Chained, chained}
@@ -39,7 +40,7 @@ module _ (ps : List Point) (code : ℕ) where
   lines_left area end = entry_lines ps code area (so_many area end)
 
   lines_next : (area end : ℕ) → area ≤ end →
-      entry_line area (reading ps code area) ++ lines_left (area + step) end ≡ lines_left area end
+      entry_line area (R.factor ps code area) ++ lines_left (area + step) end ≡ lines_left area end
   unfolding entry_lines
   lines_next area end h =
       let e : so_many area end ≡ suc (so_many (area + step) end) = omega arith in
@@ -50,7 +51,7 @@ module _ (ps : List Point) (code : ℕ) where
       text ++ lines_left area end ≡ whole →
       area ≤ end →
       mag factor < 2147483648 →
-      factor ≡ reading ps code area →
+      factor ≡ R.factor ps code area →
       line ≡ entry_line area (to_z w32 (of_z w32 factor)) →
       (text ++ line) ++ lines_left (area + step) end ≡ whole
   one_more text {area = area} {end = end} lines h small e k =

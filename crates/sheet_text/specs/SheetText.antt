@@ -3,7 +3,7 @@
 use Rattle.std.specs.Prelude.{ℕ, zero, suc, ◌+◌, ◌-◌, ◌/◌, List, [], ◌∷◌, ◌++◌, ltb, ℤ, length}
 use Rattle.model.specs.Answer.{Answer, gives, refused, row, ◌then◌}
 use Rattle.model.specs.Points.{points_most, Point}
-use Rattle.model.specs.Read.{reading, last_area}
+use Rattle.model.specs.Read.{factor, last_area}
 use Rattle.layout.specs.Layout.{point_offset, points_of}
 use Rattle.layout.specs.Head.{bad_head}
 use Rattle.file.specs.Open.{ShapeAndCount, open_answer}
@@ -31,7 +31,7 @@ step = 25
 -- n lines, from an area on
 unfoldable pub entry_lines : List Point → ℕ → ℕ → ℕ → List ℕ
 entry_lines ps code area zero = []
-entry_lines ps code area (suc n) = entry_line area (reading ps code area) ++ entry_lines ps code (area + step) n
+entry_lines ps code area (suc n) = entry_line area (factor ps code area) ++ entry_lines ps code (area + step) n
 
 -- a line for each area from the first point's on, in steps, up to the last point's
 unfoldable pub sheet_lines : List Point → ℕ → List ℕ

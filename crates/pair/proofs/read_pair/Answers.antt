@@ -16,7 +16,7 @@ use Rattle.exact.proofs.Magnitude.{size_between, size--, sfits_of_size}
 use Rattle.model.specs.Answer.{Answer, gives, refused, row, ◌then◌}
 use Rattle.model.specs.Points.{Point, points}
 use Rattle.model.specs.Check.{lengths_differ, curve_rows, on_lists}
-use Rattle.model.specs.Read.{outside, reading, read_answer}
+use Rattle.model.specs.Read.{outside, read_answer}
 use Rattle.model.proofs.Answers.{Given, given, on_lists_is, on_lists_gives, on_lists_refused, refused_outside, refused_before}
 use Rattle.curve.specs.Calls.{reading_answer, InRange}
 use Rattle.pair.specs.Pair.{pair_answer, factors}
@@ -67,7 +67,7 @@ read_factor areas values slopes code x e range is =
 form_refused : (ps : List Point) (code form plan : ℕ) {n i : ℕ} → read_answer ps code form ≡ refused n i →
     pair_answer ps code form plan ≡ refused n i
 unfolding read_answer pair_answer
-form_refused ps code form plan e = refused_before (curve_rows ps code) (outside ps form) 7 (reading ps code form) _ e
+form_refused ps code form plan e = refused_before (curve_rows ps code) (outside ps form) 7 _ _ e
 
 pub returns-in-Refused : goal.returns-in-Refused
 returns-in-Refused c =
