@@ -2,7 +2,7 @@
 --   convex_rows      row 6 under 2 refuses nothing exactly where every segment passes the convex test
 --   Used, used       a curve under 1 whose segments are convex too is read by the rule of 2, every other by that of its own code
 --   used_own         so is each under a code other than 1
---   used_accepted    an accepted curve is accepted under that code too
+--   used_accepted    an accepted curve is accepted under that code too; under_2, under 2, where every segment is convex
 --   convex_first     under 1 that code is 2 exactly where the same points are accepted under 2
 -- Assumes nothing.
 use mathlib.Core.Path.{◌≡◌, refl, sym, ◌∙◌}
@@ -57,7 +57,7 @@ used_own ps code n = rw (ne_eqb code 1 n) refl
 
 module _ {ps : List Point} {code : ℕ} (k : Accepted ps code) where
   -- accepted under 2, for what the segments' test decides
-  under_2 : all_convex (segments ps) ≡ true → Accepted ps 2
+  pub under_2 : all_convex (segments ps) ≡ true → Accepted ps 2
   under_2 e = accepted_of ps 2 (count_of k) (omega arith, omega arith) (points_pass k) (gives_tt _ (convex_rows ps ∙ e))
 
   pub used_accepted : Accepted ps (used_code ps code)

@@ -6,7 +6,7 @@
 --   refused_by_code, refused_by_points, refused_by_segments    which row refuses
 --   count_passed       row 1 is passed
 --   code_passed        row 2 is passed by the code of a shape
---   accepts_of, accepted    which is what `accepts` says
+--   accepts_of, accepted    which is what `accepts` says; limited_of, rows 1 and 3 to 5 are passed
 --   accepted_result    so does a result that is the answer of rows 1 to 6
 --   ok_is              what a result that some rows answer says of a part of its value
 -- Assumes nothing.
@@ -28,7 +28,7 @@ use Rattle.refusal.specs.declared.Refusal.{Refusal}
 use Rattle.refusal.specs.Refusal.{answer_of}
 use Rattle.shape.specs.declared.Shape.{Shape}
 use Rattle.shape.specs.Codes.{code_of}
-use Rattle.rows.specs.Inner.{Count, Follows, accepts}
+use Rattle.rows.specs.Inner.{Count, Limited, Follows, accepts}
 use Rattle.rows.proofs.Faults.{then_gives, limits_passed}
 use Rattle.rows.proofs.Faults.{points_from, point_turn, point_end, segments_from, segment_turn, segment_end}
 
@@ -44,6 +44,12 @@ accepts_of ps code e = rw e
 
 pub accepted : (ps : List Point) (code : ℕ) → accepts ps code ≡ true → Accepted ps code
 accepted ps code e = record { none_applies = gives_tt _ e }
+
+pub limited_of : (ps : List Point) (code : ℕ) → accepts ps code ≡ true → Limited ps
+limited_of ps code e =
+    let k = accepted ps code e in
+    let n = A.count_of k in
+    record { count = record { least = n.0; most = n.1 }; points_pass = A.points_pass k }
 
 pub accepted_result : (r : Result Shape Refusal) (ps : List Point) (code : ℕ) →
     answer_of code_of r ≡ (curve_rows ps code then gives code) →

@@ -6,7 +6,7 @@ ghost use Rattle.std.proofs.Math.Option.{none};
 ghost use Rattle.model.specs.Answer.{gives, ◌then◌};
 ghost use Rattle.model.specs.Points.{points as points_of_lists, points_most, segments, rule_of};
 ghost use Rattle.model.specs.Check.{bad_count, point_rows, segment_rows, curve_rows, on_lists};
-ghost use Rattle.model.specs.Read.{used_code};
+ghost use Rattle.model.specs.Read.{all_convex, used_code};
 ghost use Rattle.model.specs.Inner.{Limits};
 ghost use Rattle.refusal.specs.Refusal.{answer_of, checked};
 ghost use Rattle.point.specs.Inner.{point_of};
@@ -109,6 +109,14 @@ fn check_segments<P: Points>(points: &P, shape: Shape) -> Result<(), Refusal>
     Ok(())
 }
 
+// Document 02, item 8: whether every segment passes the convex test.
+fn all_convex<P: Points>(points: &P) -> bool
+    requires { Limited (P.points points.now) }
+    ensures { result ≡ all_convex (segments (P.points points.now)) }
+{
+    check_segments(points, Shape::Convex).is_ok()
+}
+
 // Rows 1 to 6, one after the other. Apart from the pass and not inlined, since the loops of the pass would hold what it needs.
 #[inline(never)]
 fn first_refusal<P: Points>(points: &P, code: u32) -> Result<Shape, Refusal>
@@ -173,11 +181,17 @@ impl<P: Points> Curve<P> {
         ensures points { result.points ≡ self.points }
         ensures shape { code_of result.shape ≡ used_code (P.points self.points) (code_of self.shape) }
     {
-        let mut shape = self.shape;
-        if shape == Shape::Rising && check_segments(&self.points, Shape::Convex).is_ok() {
-            shape = Shape::Convex;
+        let convex_first = match self.shape {
+            Shape::Rising => all_convex(&self.points),
+            Shape::Convex | Shape::Falling | Shape::Concave => false,
+        };
+        if convex_first {
+            return Curve {
+                points: self.points,
+                shape: Shape::Convex,
+            };
         }
-        Curve { points: self.points, shape }
+        self
     }
 }
 
