@@ -51,8 +51,9 @@ fn factor(
     ensures { answer_of (λ f. f) result
         ≡ on_lists areas.now values.now slopes.now (λ ps. read_answer ps shape area) }
 {
-    let curve = Curve::of_lists(areas, values, slopes, shape)?.as_read();
-    Ok(lookup::read(&curve, area)?)
+    let curve = Curve::of_lists(areas, values, slopes, shape)?;
+    let read = curve.as_read();
+    Ok(lookup::read(&read, area)?)
 }
 
 pub fn read(areas: &[u32], values: &[u32], slopes: &[i32], shape: u32, area: u32) -> Reading
@@ -90,10 +91,11 @@ fn fill(
         ≡ sheet_list (points areas.now values.now slopes.now) shape start step
         (answer_of (λ n. n) result) out.old }
 {
-    let curve = Curve::of_lists(areas, values, slopes, shape)?.as_read();
+    let curve = Curve::of_lists(areas, values, slopes, shape)?;
     let steps = Steps { start, step };
     entries::check(&curve.points, steps, out.len())?;
-    entries::fill(&curve, steps, out);
+    let read = curve.as_read();
+    entries::fill(&read, steps, out);
     Ok(out.len() as u32)
 }
 

@@ -94,6 +94,6 @@ module _ {room : ℕ} {bytes : List ℕ} {area : ℕ} {records found : List ℕ}
             let given = reading_given _ _ area (record { none_applies = own }) (inside _ _ index_is) in
             let e = read_is _ _ _ _ enough passed coded ∙ given in
             record {
-              answer = ap gives (to_z-of_z fits ∙ rw (used_is, given_is) at read_is_reading) ∙ sym e;
+              answer = ap gives (to_z-of_z fits ∙ rw (used_is, ← given_is) at read_is_reading) ∙ sym e;
               scratch = rw e copied;
             }

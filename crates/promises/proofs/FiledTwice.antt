@@ -1,11 +1,12 @@
 -- The same points under 1 and under 2: both are read by the rule of 2.
 -- Assumes nothing.
 use Prim.Native.Nat.{ℕ}
-use mathlib.Core.Path.{◌≡◌, sym, ◌∙◌}
+use mathlib.Core.Path.{◌≡◌, refl, sym, ◌∙◌}
 use mathlib.Core.List.{List}
 use native.Mathlib.Omega.{arith}
 use lib.IntN.{ℤ}
-use Rattle.model.specs.Answer.{Answer, ◌then◌}
+use lib.ListN.{length}
+use Rattle.model.specs.Answer.{Answer, gives, refused, ◌then◌}
 use Rattle.model.specs.Points.{Point}
 use Rattle.model.specs.Check.{on_lists_of}
 use Rattle.model.specs.Laws.{Curve, read_code, exact}
@@ -37,18 +38,25 @@ module _ (c d : Curve) (same : c.points ≡ d.points) (rising : c.code ≡ 1) (c
       on_lists_of c.points (λ ps. f ps c.code) ≡ on_lists_of d.points (λ ps. f ps d.code)
   alike f e = on_lists_of_is c.points _ ∙ e ∙ sym (on_lists_of_is d.points _)
 
+  entries_alike : (start step : ℕ) (a : Answer ℕ) (out : List ℤ) →
+      sheet_list c.points c.code start step a out ≡ sheet_list d.points d.code start step a out
+  unfolding sheet_list factor
+  entries_alike start step (gives n) out = rw (left_code, right_code, same)
+  entries_alike start step (refused number place) out = refl
+
   quoted_alike : QuotedAlike c d
-  unfolding read_answer pair_answer sheet_answer sheet_list ◌then◌
+  unfolding read_answer pair_answer sheet_answer ◌then◌
   quoted_alike =
       let f = factor_alike in
-      let rows = (c.accepted, d.accepted, same) in
+      let sheets = λ start step n.
+          alike (λ ps code. sheet_answer ps code start step n) (rw (c.accepted, d.accepted, same)) in
       record {
         same_exact = exact_alike;
         read_alike = λ x. alike (λ ps code. read_answer ps code x) (rw (c.accepted, d.accepted, f x, same));
         pair_alike = λ form plan.
             alike (λ ps code. pair_answer ps code form plan) (rw (c.accepted, d.accepted, f form, f plan, same));
-        sheet_alike = λ start step n. alike (λ ps code. sheet_answer ps code start step n) (rw (c.accepted, d.accepted, same));
-        list_alike = λ start step out. {};
+        sheet_alike = sheets;
+        list_alike = λ start step out. rw (sheets start step (length out)) (entries_alike start step _ out);
         same_factor = λ x g g' r r'. sym (reads r).same ∙ f x ∙ (reads r').same;
       }
 

@@ -4,7 +4,7 @@
 use mathlib.Core.Path.{refl}
 use lib.Dec.{lit<}
 use lib.IntN.{pos}
-use Rattle.exact.specs.Fraction.{◌over◌, leℚ, ltℚ, eqℚ}
+use Rattle.exact.specs.Fraction.{◌over◌, whole, leℚ, ltℚ, eqℚ}
 use Rattle.model.specs.Answer.{row, ◌then◌}
 use Rattle.model.specs.Points.{gradient, segments, shape_of, mirror, rule_of}
 use Rattle.model.specs.Shape.{rises, bends, fits, has_shape, segment_test}
@@ -14,7 +14,7 @@ use Rattle.model.specs.Laws.{Curve}
 use Rattle.model.specs.Readings.{bow, slow_line, mirrored_line}
 use Rattle.model.proofs.Readings.{half_readings}
 use Rattle.promises.specs.FactorRead.{by_read}
-use Rattle.promises.specs.Demands.{rising, OneUnitIsTooFew, RisesAsConvex}
+use Rattle.promises.specs.Demands.{OneUnitIsTooFew, RisesAsConvex}
 use Rattle.promises.proofs.Demands.{third_demand}
 
 -- the factors at 1, 3 and 5 are 0, 2 and 2, or 200,000, 199,998 and 199,998
@@ -43,7 +43,7 @@ one_unit_is_too_few =
 
 -- the points of K1
 pub rises_as_convex : RisesAsConvex
-unfolding ◌over◌ leℚ ltℚ eqℚ row ◌then◌ gradient segments shape_of rule_of rises bends fits has_shape segment_test
+unfolding ◌over◌ whole leℚ ltℚ eqℚ row ◌then◌ gradient segments shape_of rule_of rises bends fits has_shape segment_test
     bad_count bad_code bad_area bad_value bad_slope point_rows segment_rows curve_rows all_convex used_code bow
 rises_as_convex =
     let c : Curve = record { points = bow; code = 1; accepted = refl } in

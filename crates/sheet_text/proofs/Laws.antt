@@ -19,7 +19,7 @@ use Rattle.model.specs.Interpolant.{rising_curve, convex_curve, curve, interpola
 use Rattle.model.specs.Shape.{rises, bends, fits, has_shape, segment_test}
 use Rattle.model.specs.Check.{bad_count, bad_code, bad_area, bad_value, bad_slope}
 use Rattle.model.specs.Check.{point_rows, segment_rows, curve_rows}
-use Rattle.model.specs.Read.{last_from, segment_read, exact_value, reading}
+use Rattle.model.specs.Read.{last_from, segment_read, exact_value, reading, used_code, factor}
 use Rattle.model.specs.Sheet.{tabulate}
 use Rattle.layout.specs.Layout.{twos_complement, little_endian, record_at}
 use Rattle.layout.specs.Head.{wrong_mark, bad_head, bad_size, head_rows}
@@ -34,7 +34,7 @@ unfolding ◌over◌ whole ◌+ℚ◌ ◌-ℚ◌ ◌*ℚ◌ ◌/ℚ◌ leℚ lt�
     gradient segments shape_of rule_of chord p q P Q rational r_rising r_convex rising_curve convex_curve curve
     interpolant exact_curve rises bends fits has_shape segment_test
     bad_count bad_code bad_area bad_value bad_slope point_rows segment_rows curve_rows
-    last_from segment_read exact_value reading tabulate
+    last_from segment_read exact_value reading used_code factor tabulate
     twos_complement little_endian record_at wrong_mark bad_head bad_size head_rows short_list open_answer
     ascii digits_within decimal signed words_line entry_line entry_lines sheet_lines file_answer answer_text sheet_text file dips
 text_examples = (refl, refl, refl, refl)

@@ -57,16 +57,16 @@ fn entry_line(area: u32, factor: i32) -> ArrayString<23>
 }
 
 // The sheet of an accepted curve: a line for each area from the first point's on, in steps, up to the last point's.
-fn sheet(curve: Curve<CurveFile<'_>>) -> Text
-    ensures { result.bytes ≡ head_line (code_of curve.shape) (count curve.points.bytes.now)
-        ++ sheet_lines (points_of curve.points.bytes.now) (code_of curve.shape) }
+fn sheet(curve: &Curve<CurveFile<'_>>) -> Text
+    ensures { result.bytes ≡ head_line (code_of curve.now.shape) (count curve.now.points.bytes.now)
+        ++ sheet_lines (points_of curve.now.points.bytes.now) (code_of curve.now.shape) }
 {
-    let points = curve.points;
+    let Curve { points, shape } = *curve;
     let n = points.count();
     let first = points.area(0);
     let last = points.area(n - 1);
-    let mut text = words_line("shape ", curve.shape.code(), " points ", n as u32);
-    let read = curve.as_read();
+    let mut text = words_line("shape ", shape.code(), " points ", n as u32);
+    let read = Curve { points, shape }.as_read();
     for area in (first..=last).step_by(STEP as usize) {
         text.push_str(&entry_line(area, lookup::factor(&read, area)));
     }
@@ -91,7 +91,7 @@ pub fn sheet_text(bytes: &[u8]) -> Text
     ensures { result.bytes ≡ sheet_text bytes.now }
 {
     match accept(bytes) {
-        Ok(curve) => sheet(curve),
+        Ok(curve) => sheet(&curve),
         Err(Refusal { row, place }) => words_line("refused ", row.number(), " at ", place),
     }
 }

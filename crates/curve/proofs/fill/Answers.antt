@@ -1,6 +1,7 @@
 -- A refusal is that of the lists, row 8's or row 7's, and leaves the list as it was.
 use Rattle.std.proofs.Common.{◌≡◌, ℕ, length, ◌∙◌, ap, arith, rules}
 use Rattle.model.specs.Answer.{gives}
+use Rattle.model.specs.Read.{factor}
 use Rattle.model.specs.Sheet.{sheet_answer, sheet_list}
 use Rattle.refusal.proofs.Results.{refused_exit}
 use Rattle.rows.proofs.Lists.{code_is, refused_listed}
@@ -32,7 +33,7 @@ returns-in_err-check-clause-list c = let e = refused_exit (λ (n : ℕ). n) _ _ 
 
 pub fill-requires : goal.fill-requires
 fill-requires c =
-    rw c.in_ok-curve.ensures.points
+    rw (c.as_read-read.ensures.points, c.in_ok-curve.ensures.points)
     (all_pass _ _ _ _ c.in_ok-curve.ensures.answer _ _ _ (rw c.in_ok-curve.ensures.points at c.in_ok-check.ensures)).inside
 
 pub overflow_cast-result : goal.overflow_cast-result
@@ -47,9 +48,11 @@ returns-clause-answer c =
     ap gives (search rules) ∙ (all_pass _ _ _ _ c.in_ok-curve.ensures.answer _ _ _ p).answer
 
 pub returns-clause-list : goal.returns-clause-list
-unfolding sheet_list
+unfolding sheet_list factor
 returns-clause-list c =
     let k = c.args in
+    let r = c.as_read-read.ensures in
     let n = length k.out.now in
     let same : length c.fill.new.out ≡ n = search rules in
-    rw same (rw (c.in_ok-curve.ensures.points, ← code_is _ _ _ _ c.in_ok-curve.ensures.answer) at c.fill.ensures)
+    rw same
+    (rw (r.shape, r.points, c.in_ok-curve.ensures.points, ← code_is _ _ _ _ c.in_ok-curve.ensures.answer) at c.fill.ensures)

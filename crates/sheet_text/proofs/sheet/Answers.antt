@@ -1,5 +1,6 @@
 -- The first line, then a line for each area from the first to the last.
 use Rattle.std.proofs.Common.{◌∙◌, arith}
+use Rattle.model.specs.Read.{factor}
 use Rattle.text.specs.Text.{ascii}
 use Rattle.layout.proofs.Points.{size_of_points}
 use Rattle.lookup.proofs.Areas.{least, most}
@@ -40,26 +41,33 @@ loop-area-init c =
 pub factor-requires : goal.factor-requires
 factor-requires c =
     let end = rw c.count-n.ensures at c.area-last.ensures in
-    inside _ _ c.args.curve.now.accepted _ (omega (arith, c.area-first.ensures)) (omega (arith, end))
+    rw c.as_read-read.ensures.points
+    (inside _ _ c.args.curve.now.accepted _ (omega (arith, c.area-first.ensures)) (omega (arith, end)))
 
 pub push_str-requires : goal.push_str-requires
 push_str-requires c = omega (arith, c.loop-area.invariant.room)
 
 pub loop-area-preserved : goal.loop-area-preserved
+unfolding factor
 loop-area-preserved c =
     let k = c.loop-area.invariant in
+    let r = c.as_read-read.ensures in
+    let read = rw (r.shape, r.points) at c.factor.ensures in
     let line = c.deref.ensures.0 ∙ c.entry_line.ensures in
     record {
       room = omega (arith, c.push_str.ensures.len, k.room);
-      lines = rw c.push_str.ensures.bytes (one_more _ _ _ k.lines (omega arith) c.factor.type_inv c.factor.ensures line);
+      lines = rw c.push_str.ensures.bytes (one_more _ _ _ k.lines (omega arith) c.factor.type_inv read line);
     }
 
 pub returns : goal.returns
 returns c = all_lines _ _ _ c.loop-area.invariant.lines (omega arith)
 
 pub returns-2 : goal.returns-2
+unfolding factor
 returns-2 c =
     let k = c.loop-area.invariant in
+    let r = c.as_read-read.ensures in
+    let read = rw (r.shape, r.points) at c.factor.ensures in
     let line = c.deref.ensures.0 ∙ c.entry_line.ensures in
-    let all = all_lines _ _ _ (one_more _ _ _ k.lines (omega arith) c.factor.type_inv c.factor.ensures line) (omega arith) in
+    let all = all_lines _ _ _ (one_more _ _ _ k.lines (omega arith) c.factor.type_inv read line) (omega arith) in
     rw c.push_str.ensures.bytes all
