@@ -40,7 +40,7 @@ use Rattle.promises.specs.FactorRead.{by_desk, by_desk_two}
 use Rattle.promises.specs.Demands.{CheckAccepts, ThirdDemand}
 
 -- f is the reading at the area x of the curve
-record Reads (c : Curve) (x : ℕ) (f : ℤ) : Type 0 where
+pub record Reads (c : Curve) (x : ℕ) (f : ℤ) : Type 0 where
   pub area : Area c x
   pub same : factor c x ≡ f
 
@@ -125,7 +125,7 @@ reads_of_desk c room bytes x scratch f k e h =
     reads_of_read c x f
     (sym (file_reads c bytes x k) ∙ then_rest (row (ltb scratch room) 11 0) _ (then_rest (head_rows bytes) _ is))
 
-reads : {c : Curve} {x : ℕ} {f : ℤ} → FactorRead c x f → Reads c x f
+pub reads : {c : Curve} {x : ℕ} {f : ℤ} → FactorRead c x f → Reads c x f
 reads {c} (by_read x f e) = reads_of_read c x f (sym (on_curve c _) ∙ e)
 reads {c} (by_pair_form form plan r e) = (reads_of_pair c form plan r (sym (on_curve c _) ∙ e)).at_form
 reads {c} (by_pair_plan form plan r e) = (reads_of_pair c form plan r (sym (on_curve c _) ∙ e)).at_plan

@@ -15,7 +15,7 @@ use Rattle.model.specs.Sheet.{sheet_answer, sheet_list}
 use Rattle.model.proofs.Answers.{on_lists_of_is}
 use Rattle.model.proofs.AsRead.{used_own, convex_first}
 use Rattle.pair.specs.Pair.{pair_answer}
-use Rattle.promises.specs.FactorRead.{FactorRead}
+use Rattle.promises.specs.FactorRead.{FactorRead, sheet_of}
 use Rattle.promises.specs.FiledTwice.{QuotedAlike, FiledTwice}
 use Rattle.promises.proofs.Demands.{reads}
 
@@ -44,19 +44,22 @@ module _ (c d : Curve) (same : c.points ≡ d.points) (rising : c.code ≡ 1) (c
   entries_alike start step (gives n) out = rw (left_code, right_code, same)
   entries_alike start step (refused number place) out = refl
 
+  sheet_alike : (start step n : ℕ) → sheet_of c start step n ≡ sheet_of d start step n
+  unfolding sheet_answer ◌then◌
+  sheet_alike start step n =
+      alike (λ ps code. sheet_answer ps code start step n) (rw (c.accepted, d.accepted, same))
+
   quoted_alike : QuotedAlike c d
-  unfolding read_answer pair_answer sheet_answer ◌then◌
+  unfolding read_answer pair_answer ◌then◌
   quoted_alike =
       let f = factor_alike in
-      let sheets = λ start step n.
-          alike (λ ps code. sheet_answer ps code start step n) (rw (c.accepted, d.accepted, same)) in
       record {
         same_exact = exact_alike;
         read_alike = λ x. alike (λ ps code. read_answer ps code x) (rw (c.accepted, d.accepted, f x, same));
         pair_alike = λ form plan.
             alike (λ ps code. pair_answer ps code form plan) (rw (c.accepted, d.accepted, f form, f plan, same));
-        sheet_alike = sheets;
-        list_alike = λ start step out. rw (sheets start step (length out)) (entries_alike start step _ out);
+        sheet_alike = sheet_alike;
+        list_alike = λ start step out. rw (sheet_alike start step (length out)) (entries_alike start step _ out);
         same_factor = λ x g g' r r'. sym (reads r).same ∙ f x ∙ (reads r').same;
       }
 
