@@ -1,16 +1,13 @@
 -- Signed numbers in machine words: tests by their bits.
 --   lt_bits, eq_bits    a test of two words is the test of the numbers
---   to_z_of_z_get_or        an element of a list of slopes, read back; zero_fits
+--   zero_fits           0 fits every word
 -- Assumes nothing.
 use mathlib.Core.Path.{◌≡◌, sym, ◌∙◌, ap}
-use mathlib.Core.List.{List}
-use Prim.Native.Nat.{ℕ, ◌^◌, ◌<◌}
 use lib.Dec.{T, eqb, eqb→eq, eqb_refl}
 use lib.IntN.{ℤ, pos}
-use lib.ListN.{get_or}
 use lib.Pow.{pow_pos}
-use lib.Signed.{mag, le_z, lt_z, ≤ℤ_refl, le_z_yes}
-use mir.Syntax.{Width, w32}
+use lib.Signed.{le_z, lt_z, ≤ℤ_refl, le_z_yes}
+use mir.Syntax.{Width}
 use mir.Val.{SFits, hbits, to_z, of_z}
 use mir.Facts.{to_z-of_z, and_yes, yes_and}
 use Rattle.exact.specs.Inner.{eqZ}
@@ -36,8 +33,3 @@ module _ {w : Width} {a b : ℤ} (fa : SFits w a) (fb : SFits w b) where
   eq_bits = same_test (eqb (of_z w a) (of_z w b)) (eqZ a b)
       (λ t. eq_z_of_≡ (sym (to_z-of_z fa) ∙ ap (to_z w) (eqb→eq (of_z w a) (of_z w b) t) ∙ to_z-of_z fb))
       (λ t. rw (≡_of_eq_z {a = a} {b = b} t) (eqb_refl (of_z w b)))
-
-pub to_z_of_z_get_or : (l : List ℤ) (i : ℕ) →
-    mag (get_or l i (pos 0)) < 2 ^ hbits w32 →
-    to_z w32 (of_z w32 (get_or l i (pos 0))) ≡ get_or l i (pos 0)
-to_z_of_z_get_or l i h = to_z-of_z {w = w32} (record { sfits = h })

@@ -1,17 +1,17 @@
 -- Tables of a function, and lists filled from the front or copied, one entry a turn.
 --   tabulate_length, tabulate_at, map_tabulate    of a table
---   field_length, field_first, field_count        a list that begins with a field of each of a table's first entries
+--   field_length, field_first                     a list that begins with a field of each of a table's first entries
 --   filling_starts, filling_goes_on, filled_up    a list before the first turn, after one more, after the last
---   Copied, copying_starts, copying_goes_on, copied_up    a list whose first entries are those of another
+--   Copied, copying_goes_on                       a list whose first entries are those of another
 -- Assumes nothing.
 use mathlib.Core.Path.{◌≡◌, refl, sym, ◌∙◌, ap}
-use mathlib.Core.List.{List, ◌∷◌, ◌++◌, append-nil, map}
+use mathlib.Core.List.{List, ◌∷◌, ◌++◌, map}
 use Prim.Native.Nat.{ℕ, zero, suc, ◌+◌, ◌<◌}
 use native.Mathlib.Nat.{add-zero, zero-add}
 use native.Mathlib.Numerals.{add-one}
 use native.Mathlib.Omega.{arith}
 use lib.ListN.{length, get_or, set, take, drop, length-set, length-map}
-use lib.Seq.{take_at, paste-suc, drop-cons, drop-length}
+use lib.Seq.{take_at, paste-suc, drop-cons}
 use Rattle.model.specs.Sheet.{tabulate}
 pub use Rattle.model.specs.Inner.{Filling}
 
@@ -45,9 +45,6 @@ module _ {A : Type 0} (f : ℕ → A) where
     pub field_first : (rest : List B) {l : List B} → l ≡ map g (tabulate f 0 n) ++ rest → take n l ≡ map g (tabulate f 0 n)
     field_first rest e = ap (take n) e ∙ take_at _ rest n field_length
 
-    pub field_count : {l : List B} → l ≡ map g (tabulate f 0 n) → n ≡ length l
-    field_count e = sym (ap length e ∙ field_length)
-
   -- ---- filling
 
   -- one entry more, written over the first that was left
@@ -73,9 +70,6 @@ module _ {A : Type 0} (f : ℕ → A) where
       filled ≡ tabulate f 0 n ++ drop n found
   filled_up k e = rw e at k.is
 
-  pub fill_all : (found : List A) → tabulate f 0 (length found) ++ drop (length found) found ≡ tabulate f 0 (length found)
-  fill_all found = rw drop-length (append-nil (tabulate f 0 (length found)))
-
 -- ---- copying
 
 -- the first i entries of a list in the first entries of another
@@ -84,9 +78,6 @@ pub record Copied {A : Type 0} (from to₀ to : List A) (i : ℕ) : Type 0 where
   pub is : to ≡ take i from ++ drop i to₀
 
 module _ {A : Type 0} (from to₀ : List A) where
-  pub copying_starts : Copied from to₀ to₀ 0
-  copying_starts = record { size = refl; is = refl }
-
   pub copying_goes_on : {to : List A} {i : ℕ} (d v : A) → Copied from to₀ to i → i < length from → i < length to₀ →
       v ≡ get_or from i d →
       Copied from to₀ (set to i v) (i + 1)
@@ -95,6 +86,3 @@ module _ {A : Type 0} (from to₀ : List A) where
         size = length-set to i v ∙ k.size;
         is = rw (k.is, e, add-one i) (rw (zero-add i, zero-add (suc i)) at (paste-suc to₀ 0 from i d (omega arith) h));
       }
-
-  pub copied_up : {to : List A} {i n : ℕ} → Copied from to₀ to i → i ≡ n → to ≡ take n from ++ drop n to₀
-  copied_up k e = rw e at k.is

@@ -1,10 +1,10 @@
 -- The search for the segment that an area takes: among every eighth area, then among those from there on.
 --   Looking                        the last so far, and the next to be looked at
---   looking_starts, looking_takes, looking_passes, looked    a loop that looks at one in each turn
+--   looked                         a loop that looked at one in each turn
 --   Near, near_next, near_last     where the second search ends
 --   taken_of                       what it finds; taken_of_two, of two areas the first
 -- Assumes nothing.
-use mathlib.Core.Path.{◌≡◌, refl}
+use mathlib.Core.Path.{◌≡◌}
 use mathlib.Core.List.{List}
 use mathlib.Core.Logic.{◌⊎◌, inl, inr}
 use Prim.Native.Nat.{ℕ, suc, ◌+◌, ◌-◌, ◌≤◌, ◌<◌}
@@ -20,19 +20,6 @@ pub record Looking (areas : List ℕ) (step end x last i : ℕ) : Type 0 where
   pub high : (x < get_or areas (last + step) 0) ⊎ (last + step ≡ i)
 
 module _ {areas : List ℕ} {step end x : ℕ} where
-  pub looking_starts : {from : ℕ} → Reached areas from x → from < end → Looking areas step end x from (from + step)
-  looking_starts r h = record { reached = r; before = h; high = inr refl }
-
-  -- an area that is not above the area read is the last so far
-  pub looking_takes : {i : ℕ} → end < length areas → i < end → get_or areas i 0 ≤ x → Looking areas step end x i (i + step)
-  looking_takes k h l = record { reached = record { inner = omega arith; low = l }; before = h; high = inr refl }
-
-  -- after one that is above it, the last so far stays
-  pub looking_passes : {last i : ℕ} → Looking areas step end x last i → x < get_or areas i 0 →
-      Looking areas step end x last (i + step)
-  looking_passes k h =
-      record { reached = k.reached; before = k.before; high = inl (elim k.high [ inl l ↦ l | inr e ↦ rw e h ]) }
-
   pub looked : {last i : ℕ} → Looking areas step end x last i → end ≤ i → LastOf areas last step end x
   looked k h =
       record { reached = k.reached; before = k.before; high = elim k.high [ inl l ↦ inl l | inr e ↦ inr (omega arith) ] }
