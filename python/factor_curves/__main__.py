@@ -38,7 +38,7 @@ mistake in a text, or a file or the library that cannot be read; 3 output that c
 '''
 RULE = '''
 A rising curve, shape 1, that is also convex in every segment is read by the convex rule, any other
-by the rising rule. The line says which.
+by the rising rule. What is printed says which.
 '''
 TEXT_FORMAT = '''
 The text has a line `shape N` (1 is rising, 2 convex, 3 falling, 4 concave), then a line with area,
