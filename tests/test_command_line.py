@@ -112,16 +112,12 @@ def sample_files():
 
 
 def about(areas, values, slopes, shape):
-    """How many points and segments, and the rule of a rising curve, in words.
-
-    Document 02, item 8: the convex rule, if every segment passes the convex test.
-    """
+    """How many points and segments, and the rule of a rising curve, in words."""
     last = len(areas) - 1
     words = '%d points, %s' % (last + 1, '1 segment' if last == 1 else '%d segments' % last)
     if shape != 1:
         return words
-    convex = all(ref.has_shape(areas, values, slopes, 2, segment) for segment in range(last))
-    return words + ', read by the %s rule' % ('convex' if convex else 'rising')
+    return words + ', read by the %s rule' % NAMES[ref.rule_used(areas, values, slopes, shape)]
 
 
 def accepted_samples():

@@ -575,8 +575,8 @@ class FallingAndConcave(unittest.TestCase):
             points = curves.some_curve(rng, shape)
             curve = fc.Curve(mirrored(points), shape + 2)
             self.assertEqual(curve.points, tuple(mirrored(points)))
-            if shape == 1 and convex_everywhere(points):
-                continue                    # not read by the rising rule: see ConvexFirst
+            if ref.rule_used(*lists(points), shape) != shape:
+                continue                    # the mirror is not read by it: see ConvexFirst
             for _ in range(8):
                 area = curves.inner_area(rng, points)
                 exact = 200000 - ref.exact_value(*lists(points), shape, area)
@@ -604,17 +604,9 @@ class FallingAndConcave(unittest.TestCase):
         self.assertEqual(answer(fc.Curve.rising, [0, 10, 20], [1, 5, 4]), ('refused', 6, 1))
 
 
-def convex_everywhere(points):
-    """Whether every segment passes the convex test."""
-    return all(ref.has_shape(*lists(points), 2, segment) for segment in range(len(points) - 1))
-
-
 def rising_and_convex(rng):
-    """A convex curve from the first point on where it does not fall: it passes both tests."""
-    points = []
-    while len(points) < 2:
-        points = [point for point in curves.some_curve(rng, 2) if point[2] >= 0]
-    return points
+    """Points that pass both tests."""
+    return curves.rising_convex_curve(rng, curves.some_count(rng))
 
 
 class ConvexFirst(unittest.TestCase):
@@ -710,7 +702,7 @@ class ConvexFirst(unittest.TestCase):
 
     def test_rules(self):
         for points, rule in self.RULES:
-            self.assertEqual(convex_everywhere(points), rule == 2, points)
+            self.assertEqual(ref.rule_used(*lists(points), 1), rule, points)
             self.assert_rule(fc.Curve(points, 1), rule)
 
     def test_other_codes(self):
