@@ -81,8 +81,8 @@ extern "C" {
  * Returns the factor in ten-thousandths (10889 is 1.0889), from -200,000 to
  * 400,000; a convex curve may dip below zero, a concave one may pass 200,000.
  * It is rounded once, to the nearest ten-thousandth, an exact half to the even
- * one. Or returns -1,000,000 less the refusal number: use DESK_IS_REFUSED and
- * DESK_REFUSAL.
+ * one. Which curve a shape code gives stands in factor_curves.h. Or returns
+ * -1,000,000 less the refusal number: use DESK_IS_REFUSED and DESK_REFUSAL.
  *
  * With a factor, the first 12 * count bytes of the scratch are the file's
  * point records, in file order; its other bytes keep what they held. With a

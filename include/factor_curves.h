@@ -29,7 +29,7 @@
 extern "C" {
 #endif
 
-#define FACTOR_CURVES_VERSION "0.7.0"
+#define FACTOR_CURVES_VERSION "0.8.0"
 
 /*
  * A curve is three lists of one length, 2 to 64, and a shape code. Point i is
@@ -44,6 +44,11 @@ extern "C" {
  * the straight line between them. On a rising curve a larger area never reads
  * a smaller factor, on a falling one never a larger. A convex curve bends up,
  * a concave one down.
+ *
+ * Each code gives a curve of its own, but lists that curve_check accepts under
+ * CURVE_RISING and under CURVE_CONVEX give the convex curve under both, and
+ * read alike. Where a single segment is not convex, CURVE_RISING gives the
+ * rising curve, from the first point to the last.
  */
 #define CURVE_RISING 1  /* the value rises and both slopes are 0 or more, or
                            the value stays and both slopes are 0 */

@@ -40,6 +40,7 @@ TEXT = os.path.join(SAMPLES, 'document-01.txt')
 WITHOUT_SLOPES = os.path.join(SAMPLES, 'without-slopes.txt')
 FILLED = 'factor-curves: %s has no slopes; they were filled by the harmonic rule\n'
 TWO = [os.path.join(SAMPLES, 'same-points-%s.trf' % shape) for shape in ('rising', 'convex')]
+PICTURE = [os.path.join(SAMPLES, 'steep-start-%s.trf' % shape) for shape in ('rising', 'concave')]
 TRIPLES = os.path.join(SAMPLES, 'rising.f64')
 RISING = os.path.join(SAMPLES, 'rising.trf')
 DISCOUNT = os.path.join(SAMPLES, 'large-home-discount.trf')
@@ -108,6 +109,15 @@ def open_bytes(path):
 def sample_files():
     for path in sorted(glob.glob(os.path.join(SAMPLES, '*.trf'))):
         yield path, open_bytes(path)
+
+
+def about(areas, values, slopes, shape):
+    """How many points and segments, and the rule of a rising curve, in words."""
+    last = len(areas) - 1
+    words = '%d points, %s' % (last + 1, '1 segment' if last == 1 else '%d segments' % last)
+    if shape != 1:
+        return words
+    return words + ', read by the %s rule' % NAMES[ref.rule_used(areas, values, slopes, shape)]
 
 
 def accepted_samples():
@@ -196,11 +206,9 @@ class Commands(Case):
                                     number, place, ' (%s)' % path)
 
     def test_check(self):
-        for path, areas, _, _, shape in accepted_samples():
-            count = len(areas)
-            segments = '1 segment' if count == 2 else '%d segments' % (count - 1)
-            self.assertEqual(inside('check', path).out, 'accepted: shape %d (%s), %d points, %s\n'
-                             % (shape, NAMES[shape], count, segments))
+        for path, *curve in accepted_samples():
+            self.assertEqual(inside('check', path).out, 'accepted: shape %d (%s), %s\n'
+                             % (curve[3], NAMES[curve[3]], about(*curve)))
 
     def test_read(self):
         rng = random.Random('read')
@@ -220,17 +228,15 @@ class Commands(Case):
     def test_show(self):
         for path, areas, values, slopes, shape in accepted_samples():
             first, header, *lines = inside('show', path).out.splitlines()
-            count = len(areas)
-            segments = '1 segment' if count == 2 else '%d segments' % (count - 1)
-            self.assertEqual(first, 'shape %d  # %s, %d points, %s'
-                             % (shape, NAMES[shape], count, segments))
+            self.assertEqual(first, 'shape %d  # %s, %s'
+                             % (shape, NAMES[shape], about(areas, values, slopes, shape)))
             self.assertEqual(header.split(), ['#', 'area', 'value', 'slope', '#', 'point', 'm2',
                                               'factor', 'factor/m2'])
             table = [line.split() for line in lines]
             self.assertEqual([[int(word) for word in row[:3]] for row in table],
                              [list(row) for row in zip(areas, values, slopes)])
             self.assertEqual([row[3:5] for row in table],
-                             [['#', str(index)] for index in range(count)])
+                             [['#', str(index)] for index in range(len(areas))])
             for row in table:               # the same figures, in other units
                 self.assertEqual([Fraction(row[5]) * 10, Fraction(row[6]) * 10000,
                                   Fraction(row[7]) * 100000], [int(word) for word in row[:3]])
@@ -283,6 +289,83 @@ class FallingAndConcave(Case):
         for code, number in [(0, 2), (3, 6), (4, 6), (5, 2), (255, 2)]:
             self.assert_refused(inside('check', '-', data=rising[:5] + bytes([code]) + rising[6:]),
                                 number, 0)
+
+
+class ConvexFirst(Case):
+    """Document 02, item 8: what the commands print of rising curves; factors are worked out by
+    hand."""
+
+    STEEP = [(500, 10000, 0), (600, 14000, 10000)]
+    TURNED = [(500, 10000, 10000), (600, 14000, 0)]
+    BOTH = [(500, 10000, 0), (600, 11000, 2500), (700, 14000, 3001)]
+    ONE_FAILS = BOTH[:2] + [(700, 14000, 3000)]         # of two segments
+
+    # Points, the rule under code 1, an area and its factor there.
+    READ = [(STEEP, 'convex', 550, 10800), (STEEP, 'convex', 525, 10182),
+            ([(500, 10000, 2000), (600, 14000, 6000)], 'convex', 501, 10020),
+            (BOTH, 'convex', 550, 10200), (BOTH, 'convex', 650, 12500),
+            (ONE_FAILS, 'rising', 550, 10222), (ONE_FAILS, 'rising', 650, 12435),
+            (TURNED, 'rising', 550, 13111), (TURNED, 'rising', 575, 13771)]
+
+    def test_check(self):
+        for points, rule, _, _ in self.READ:
+            done = inside('check', '-', data=curve_file(points, 1))
+            last = len(points) - 1
+            self.assertEqual(done.out, 'accepted: shape 1 (rising), %d points, %d segment%s, read by'
+                             ' the %s rule\n' % (last + 1, last, 's' if last > 1 else '', rule))
+
+    def test_other_shapes(self):
+        """Of them no rule is named, since it is their own."""
+        down = [(500, 14000, 0), (600, 10000, -10000)]  # its mirror is rising and convex
+        for points, shape in [(self.STEEP, 2), (self.TURNED, 4), (down, 3), (down, 4)]:
+            data = curve_file(points, shape)
+            self.assertEqual(inside('check', '-', data=data).out,
+                             'accepted: shape %d (%s), 2 points, 1 segment\n'
+                             % (shape, NAMES[shape]))
+            self.assertEqual(inside('show', '-', data=data).out.splitlines()[0],
+                             'shape %d  # %s, 2 points, 1 segment' % (shape, NAMES[shape]))
+        for shape, factor in [(3, 13111), (4, 13200)]:
+            self.assertEqual(inside('read', '-', '550', data=curve_file(down, shape)).out,
+                             '550 %d\n' % factor)
+
+    def test_show(self):
+        """The rule is a comment: from what is printed the same file is made, with code 1."""
+        for points, rule, _, _ in self.READ:
+            data = curve_file(points, 1)
+            shown = inside('show', '-', data=data)
+            code, comment = shown.out.splitlines()[0].split('#')
+            self.assertEqual(code.split(), ['shape', '1'])
+            self.assertTrue(comment.endswith(', read by the %s rule' % rule))
+            done = inside('make', '-', '-o', '-', data=shown.data)
+            self.assertEqual((done.status, done.data, done.err), (0, data, ''))
+
+    def test_read(self):
+        for points, _, area, factor in self.READ:
+            for words in (['read', '-', str(area)],
+                          ['sheet', '-', '--start', str(area), '--count', '1']):
+                done = inside(*words, data=curve_file(points, 1))
+                self.assertEqual(done.out.splitlines()[-1], '%d %d' % (area, factor))
+
+    def test_same_points(self):
+        """Filed under 1 and under 2 they have one sheet, whose first line has the code."""
+        for path, code in zip(TWO, (1, 2)):
+            self.assertEqual(inside('sheet', path).out.splitlines()[0], 'shape %d points 4' % code)
+        rising, convex = (inside('sheet', path, '--step', '1').out.splitlines() for path in TWO)
+        self.assertEqual(len(rising), 1702)
+        self.assertEqual(rising[1:], convex[1:])
+
+    def test_filled_slopes(self):
+        """The rule of a curve whose text had no slopes."""
+        for text, rule in [('0 0\n10 10\n40 100', 'convex'), ('0 0\n30 90\n40 100', 'rising')]:
+            made = inside('make', '-', '-o', '-', data=('shape 1\n' + text).encode())
+            self.assertEqual(inside('check', '-', data=made.data).out, 'accepted: shape 1 (rising),'
+                             ' 3 points, 2 segments, read by the %s rule\n' % rule)
+
+    def test_help(self):
+        for command in ('check', 'show'):
+            text = ' '.join(run(command, '--help').out.decode().split())
+            self.assertIn('A rising curve, shape 1, that is also convex in every segment is read by'
+                          ' the convex rule, any other by the rising rule.', text)
 
 
 class Sheets(Case):
@@ -1430,9 +1513,11 @@ class Pictures(Case):
 
     def test_of_the_documentation(self):
         with open(os.path.join(ROOT, 'docs', 'curve.svg'), encoding='utf-8') as file:
-            self.assert_drawn(file.read(), TWO)
-        rising, convex = (ref.file_lists(open_bytes(path)) for path in TWO)
-        self.assertEqual(rising, convex)
+            self.assert_drawn(file.read(), PICTURE)
+        rising, concave = map(open_bytes, PICTURE)
+        self.assertEqual((rising[5], concave[5]), (1, 4))
+        self.assertEqual(ref.file_lists(rising), ref.file_lists(concave))
+        self.assertIn('by the rising rule', inside('check', PICTURE[0]).out)
 
     def test_without_matplotlib(self):
         folder = self.folder()
@@ -1450,18 +1535,19 @@ class Pictures(Case):
     @unittest.skipUnless(MATPLOTLIB, 'matplotlib is not installed')
     def test_picture(self):
         picture = os.path.join(self.folder(), 'x.svg')
-        done = run('plot', *TWO, '-o', picture)
-        self.assertEqual((done.status, done.out, done.err), (0, b'', ''))
-        data = open_bytes(picture)
-        self.assert_drawn(data.decode(), TWO)
-        again = run('plot', *TWO, '-o', '-')
-        self.assertEqual((again.status, again.out), (0, data))
+        for paths in (PICTURE, TWO):
+            done = run('plot', *paths, '-o', picture)
+            self.assertEqual((done.status, done.out, done.err), (0, b'', ''))
+            data = open_bytes(picture)
+            self.assert_drawn(data.decode(), paths)
+            again = run('plot', *paths, '-o', '-')
+            self.assertEqual((again.status, again.out), (0, data))
 
     @unittest.skipUnless(MATPLOTLIB, 'matplotlib is not installed')
     def test_figure(self):
         from factor_curves import Curve, _plot
         named = []
-        for path in [GOOD] + TWO + [DISCOUNT, FLATTENING]:
+        for path in [GOOD] + TWO + [DISCOUNT, FLATTENING, RISING]:
             curve = Curve.from_file(path)
             factors = [curve.read(area) for area in range(curve.first_area, curve.last_area + 1)]
             named.append((path, curve, factors))
@@ -1475,13 +1561,14 @@ class Pictures(Case):
                 for area in areas])
         points = sorted({(point.area, point.value) for _, curve, _ in named
                          for point in curve.points})
-        self.assertEqual(len(points), 2 + 4 + 7 + 6)
+        self.assertEqual(len(points), 2 + 4 + 7 + 6 + 7)
         self.assertEqual(list(zip(marks.get_xdata(), marks.get_ydata())),
                          [(area / 10, value / 10000) for area, value in points])
         self.assertEqual([text.get_text() for text in axes.get_legend().get_texts()],
-                         ['convex (document-01)', 'rising (same-points-rising)',
+                         ['convex (document-01)',
+                          'rising, read by the convex rule (same-points-rising)',
                           'convex (same-points-convex)', 'falling (large-home-discount)',
-                          'concave (flattening)', 'rated points'])
+                          'concave (flattening)', 'rising (rising)', 'rated points'])
         self.assertEqual((axes.get_xlabel(), axes.get_ylabel()),
                          ('floor area (m\u00b2)', 'factor'))
 

@@ -106,7 +106,7 @@ class Lists(unittest.TestCase):
 
     def test_readings_of_document_01(self):
         for points, shape, area, factor in [
-                (STEEP, 1, 550, 10889), (STEEP, 1, 525, 10229), (STEEP, 2, 550, 10800),
+                (STEEP, 1, 550, 10800), (STEEP, 1, 525, 10182), (STEEP, 2, 550, 10800),
                 (STEEP, 2, 525, 10182), ([(500, 10000, 2000), (600, 14000, 6000)], 1, 501, 10020),
                 ([(0, 0, 50), (2, 1, 50)], 2, 1, 0), ([(0, 0, -300), (2, 0, 300)], 2, 1, -2),
                 ([(0, 0, 0), (2, 1, 100)], 2, 1, 0), ([(0, 1, 0), (2, 2, 100)], 2, 1, 1)]:
@@ -280,7 +280,7 @@ class Files(unittest.TestCase):
         """Document 02, item 5: three points, of which the scratch gets two."""
         data = curve_file([(400, 10000, 0)] + STEEP, 1)
         for area, factor, first in [(400, 10000, 0), (499, 10000, 0), (500, 10000, 1),
-                                    (550, 10889, 1), (600, 14000, 1)]:
+                                    (550, 10800, 1), (600, 14000, 1)]:
             scratch = bytearray(b'\xee' * 36)
             self.assertEqual(fc.desk_reading_two(data, area, scratch), factor)
             self.assertEqual(bytes(scratch), data[7 + 12 * first:31 + 12 * first] + b'\xee' * 12)
@@ -499,7 +499,7 @@ class Halves(unittest.TestCase):
                     halves += Fraction(ref.exact_value(*words[0], *words[1:])).denominator == 2
                     self.assertEqual(fc.read(*words[0], *words[1:]),
                                      ref.factor(*words[0], *words[1:]))
-        self.assertEqual(halves, 100)
+        self.assertGreaterEqual(halves, 100)
 
 
 def mirrored(points):
@@ -575,6 +575,8 @@ class FallingAndConcave(unittest.TestCase):
             points = curves.some_curve(rng, shape)
             curve = fc.Curve(mirrored(points), shape + 2)
             self.assertEqual(curve.points, tuple(mirrored(points)))
+            if ref.rule_used(*lists(points), shape) != shape:
+                continue                    # the mirror is not read by it: see ConvexFirst
             for _ in range(8):
                 area = curves.inner_area(rng, points)
                 exact = 200000 - ref.exact_value(*lists(points), shape, area)
@@ -600,6 +602,218 @@ class FallingAndConcave(unittest.TestCase):
     def test_slopes_are_filled_for_rising_curves_only(self):
         self.assertEqual(answer(fc.fill_slopes, [0, 10, 20], [9, 5, 1]), ('refused', 6, 0))
         self.assertEqual(answer(fc.Curve.rising, [0, 10, 20], [1, 5, 4]), ('refused', 6, 1))
+
+
+def rising_and_convex(rng):
+    """Points that pass both tests."""
+    return curves.rising_convex_curve(rng, curves.some_count(rng))
+
+
+class ConvexFirst(unittest.TestCase):
+    """Document 02, item 8: a curve under code 1 that passes both tests is read by the convex rule.
+
+    Of such a curve the reference has the factors under 2, which the item does not change; of one
+    that fails the convex test anywhere, those under 1.
+    """
+
+    TURNED = [(500, 10000, 10000), (600, 14000, 0)]
+    DOWN = [(500, 14000, 0), (600, 10000, -10000)]      # its mirror passes both tests
+    BOTH = [(500, 10000, 0), (600, 11000, 2500), (700, 14000, 3001)]
+    ONE_FAILS = BOTH[:2] + [(700, 14000, 3000)]
+    # Points, shape, area and factor; the exact value, worked out by hand, beside it.
+    READINGS = [
+        (STEEP, 1, 550, 10800), (STEEP, 1, 525, 10182),                 # K1, K2: 112000/11
+        ([(500, 10000, 2000), (600, 14000, 6000)], 1, 501, 10020),      # K5: 50101/5
+        (BOTH, 1, 550, 10200), (BOTH, 1, 650, 12500),                   # 6262250/501
+        (BOTH, 2, 550, 10200), (BOTH, 2, 650, 12500),
+        (ONE_FAILS, 1, 550, 10222), (ONE_FAILS, 1, 650, 12435),         # 92000/9, 286000/23
+        (TURNED, 1, 550, 13111), (TURNED, 1, 575, 13771),               # 118000/9, 96400/7
+        (TURNED, 4, 550, 13200), (DOWN, 4, 550, 13200),
+        (DOWN, 3, 550, 13111),                                          # 118000/9
+        ([(400, 10000, 0)] + STEEP, 1, 550, 10800),                     # level, then convex
+        ([(400, 9000, 0)] + STEEP, 1, 550, 10889),                      # 98000/9
+        (STEEP + [(700, 20000, 5000)], 1, 550, 10889),
+        (STEEP + [(700, 20000, 5000)], 1, 525, 10229),                  # 71600/7
+    ]
+    # Points, and the shape whose rule reads them under code 1.
+    RULES = [
+        (STEEP, 2), (TURNED, 1), (BOTH, 2), (ONE_FAILS, 1),
+        ([(0, 5, 0), (9, 5, 0)], 2), ([(0, 0, 50), (6, 3, 50), (8, 4, 50)], 2),
+        ([(0, 0, 50), (2, 1, 50), (4, 3, 200)], 2), ([(0, 0, 0), (2, 1, 50), (4, 2, 50)], 1),
+        ([(0, 0, 99), (100, 100, 101)], 2), ([(0, 0, 101), (100, 100, 99)], 1),
+        ([(0, 0, 100), (100, 100, 101)], 1), ([(0, 0, 99), (100, 100, 100)], 1),
+        ([(0, 0, 100), (100, 100, 100)], 2),
+        ([(500, 10000, 999)] + BOTH[1:], 2), ([(500, 10000, 1000)] + BOTH[1:], 1),
+        (BOTH + [(800, 18000, 5000)], 2), (ONE_FAILS + [(800, 18000, 5000)], 1),
+        (BOTH + [(800, 18000, 4000)], 1),
+    ]
+
+    def assert_factors(self, curve, shape):
+        """By every call the factors that the reference has of these points under this code."""
+        rng, columns = random.Random(repr(curve)), lists(curve.points)
+        first, last, data = curve.first_area, curve.last_area, curve.to_bytes()
+        step = max(1, (last - first) // 40)
+        count = (last - first) // step + 1
+        self.assertEqual(curve.sheet(first, step, count),
+                         ref.sheet(*columns, shape, first, step, count)[2], curve)
+        for _ in range(4):
+            area, other = (curves.inner_area(rng, curve.points) for _ in range(2))
+            factor = ref.factor(*columns, shape, area)
+            self.assertEqual(curve.read(area), factor)
+            self.assertEqual(fc.read(*columns, curve.shape, area), factor)
+            self.assertEqual(curve.pair(area, other)[:2],
+                             (factor, ref.factor(*columns, shape, other)))
+            for desk, _ in DESKS:
+                self.assertEqual(desk(data, area), factor)
+
+    def assert_rule(self, curve, rule):
+        """Under code 1, and that the library accepts the same points under 2 if it is 2."""
+        self.assertEqual((curve.shape, curve.rule), (1, rule), curve)
+        self.assertIs(type(curve.rule), int)
+        given = answer(fc.check, *lists(curve.points), 2)
+        self.assertEqual(given[0], 'ok' if rule == 2 else 'refused')
+        self.assert_factors(curve, rule)
+
+    def differ(self, one, two, points):
+        """Whether two curves read two factors in the middle of any segment of these points."""
+        middles = [(left[0] + right[0]) // 2 for left, right in zip(points, points[1:])]
+        return [one.read(area) for area in middles] != [two.read(area) for area in middles]
+
+    def test_readings(self):
+        for points, shape, area, factor in self.READINGS:
+            curve, data = fc.Curve(points, shape), curve_file(points, shape)
+            self.assertEqual(fc.read(*lists(points), shape, area), factor, (points, shape, area))
+            self.assertEqual(curve.read(area), factor)
+            self.assertEqual(curve.sheet(area, 1, 1), [factor])
+            self.assertEqual(curve.pair(area, area), (factor, factor, 0))
+            for desk, _ in DESKS:
+                self.assertEqual(desk(data, area), factor)
+            self.assertEqual([curve.read(point[0]) for point in points],
+                             [point[1] for point in points])
+
+    def test_accepted(self):
+        """Check asks of code 1 what it asked, and of code 2."""
+        self.assertEqual(answer(fc.check, *lists(self.ONE_FAILS), 1), ('ok', 2))
+        self.assertEqual(answer(fc.check, *lists(self.ONE_FAILS), 2), ('refused', 6, 1))
+        dips = [(0, 5, -100), (10, 5, 100)]
+        self.assertEqual(answer(fc.check, *lists(dips), 1), ('refused', 6, 0))
+        self.assertEqual(answer(fc.check, *lists(dips), 2), ('ok', 1))
+        self.assertEqual(answer(fc.Curve, [(0, 5, 0), (10, 5, 1)], 1), ('refused', 6, 0))
+
+    def test_rules(self):
+        for points, rule in self.RULES:
+            self.assertEqual(ref.rule_used(*lists(points), 1), rule, points)
+            self.assert_rule(fc.Curve(points, 1), rule)
+
+    def test_other_codes(self):
+        """Their rule is their own, also where the points or their mirror pass both tests."""
+        level, line = [(0, 5, 0), (9, 5, 0)], [(0, 0, 50), (6, 3, 50)]
+        for points, shape in [(STEEP, 2), (self.DOWN, 3), (self.DOWN, 4), (self.TURNED, 4),
+                              (level, 2), (level, 3), (level, 4), (line, 2), (line, 4),
+                              (mirrored(line), 3), *curves.random_curves('other codes', 40)]:
+            if shape != 1:
+                curve = fc.Curve(points, shape)
+                self.assertEqual((curve.shape, curve.rule), (shape, shape))
+                self.assert_factors(curve, shape)
+
+    def test_same_points(self):
+        """Accepted under 1 and under 2 they read alike, and stay two curves with two files."""
+        rng, longer = random.Random('same points'), 0
+        for _ in range(150):
+            points = rising_and_convex(rng)
+            rising, convex = fc.Curve(points, 1), fc.Curve(points, 2)
+            self.assert_rule(rising, 2)
+            self.assert_factors(convex, 2)
+            self.assertNotEqual(rising, convex)
+            longer += len(points) > 2
+        self.assertGreater(longer, 30)
+
+    def test_one_figure(self):
+        """Points that pass both tests, with one figure changed."""
+        rng, seen = random.Random('one figure'), set()
+        for _ in range(400):
+            points = curves.shapeless_points(rng, rising_and_convex(rng))
+            given = ref.check(*lists(points), 1)
+            convex = ref.check(*lists(points), 2)[0] == 'ok'
+            seen.add((given[0], convex))
+            self.assertEqual(answer(fc.check, *lists(points), 1), given)
+            if given[0] == 'ok':
+                self.assert_rule(fc.Curve(points, 1), 2 if convex else 1)
+        self.assertEqual(len(seen), 4)
+
+    def test_one_segment(self):
+        """One more point, before or after; its segment rises and is not convex."""
+        rng, changed = random.Random('one segment'), 0
+        for _ in range(200):
+            points = rising_and_convex(rng)[:63]
+            (left, low, _), (right, high, _) = points[0], points[-1]
+            before, after = (left - 1, low - 1, 101), (right + 1, high + 1, 0)
+            for more in ([before] + points, points + [after]):
+                if ref.check(*lists(more), 1)[0] == 'ok':
+                    curve = fc.Curve(more, 1)
+                    self.assert_rule(curve, 1)
+                    changed += self.differ(curve, fc.Curve(points, 1), points)
+        self.assertGreater(changed, 50)
+
+    def test_never_falls(self):
+        """A larger area never reads a smaller factor, by either rule."""
+        rng = random.Random('never falls')
+        for index in range(60):
+            points = rising_and_convex(rng) if index % 2 else curves.some_curve(rng, 1)
+            curve = fc.Curve(points, 1)
+            start = rng.randint(curve.first_area, curve.last_area)
+            factors = curve.sheet(start, 1, min(1024, curve.last_area - start + 1))
+            self.assertEqual(factors, sorted(factors))
+
+    def test_mirror(self):
+        """Under code 3 it is read by the falling rule, whatever its mirror passes."""
+        rng, differ = random.Random('mirror of both'), 0
+        for _ in range(100):
+            down = mirrored(rising_and_convex(rng))
+            falling, concave = fc.Curve(down, 3), fc.Curve(down, 4)
+            self.assertEqual((falling.rule, concave.rule), (3, 4))
+            for curve in (falling, concave):
+                self.assert_factors(curve, curve.shape)
+            differ += self.differ(falling, concave, down)
+        self.assertGreater(differ, 50)
+
+    def test_files(self):
+        """The code that was filed is given back."""
+        for points, code in [(self.BOTH, 1), (self.BOTH, 2), (self.ONE_FAILS, 1)]:
+            data, curve = curve_file(points, code), fc.Curve(points, code)
+            self.assertEqual(curve.to_bytes(), data)
+            self.assertEqual(fc.Curve.from_bytes(data), curve)
+            self.assertEqual(fc.open_bytes(data).shape, code)
+            self.assertEqual(fc.Curve.from_triples(triples(points), code), curve)
+            for same in (fc.Curve.from_bytes(data), fc.Curve.from_triples(triples(points), code),
+                         copy.copy(curve), pickle.loads(pickle.dumps(curve))):
+                self.assertEqual((same.shape, same.rule), (code, curve.rule))
+
+    def test_filled_slopes(self):
+        """By the harmonic rule, of values that bend up and of values that do not."""
+        for areas, values, slopes, rule in [
+                ([0, 10, 40], [0, 10, 100], (83, 120, 750), 2),
+                ([0, 30, 40], [0, 90, 100], (750, 120, 83), 1),
+                ([0, 10, 30, 35], [0, 10, 10, 40], (200, 0, 0, 1200), 1),
+                ([5, 8], [7, 7], (0, 0), 2)]:
+            curve = fc.Curve.rising(areas, values)
+            self.assertEqual(curve.slopes, slopes)
+            self.assert_rule(curve, rule)
+
+    def test_samples(self):
+        named = {os.path.basename(path)[:-4]: opened(data)[1] for path, data in sample_files()
+                 if opened(data)[0] == 'ok'}
+        self.assertEqual([name for name, curve in named.items() if curve.rule != curve.shape],
+                         ['same-points-rising'])
+        for one, two, codes, alike in [
+                ('same-points-rising', 'same-points-convex', (1, 2), True),
+                ('steep-start-rising', 'steep-start-concave', (1, 4), False)]:
+            pair = named[one], named[two]
+            self.assertEqual((pair[0].shape, pair[1].shape), codes)
+            self.assertEqual(pair[0].points, pair[1].points)
+            areas = range(pair[0].first_area, pair[0].last_area + 1)
+            differ = [area for area in areas if pair[0].read(area) != pair[1].read(area)]
+            self.assertEqual(not differ, alike)
 
 
 def filling(areas, values):
@@ -1245,8 +1459,8 @@ class TheCurve(unittest.TestCase):
 
     def test_never_changed(self):
         curve = fc.Curve(STEEP, 2)
-        for name in ('points', 'shape', 'areas', 'values', 'slopes', 'first_area', 'last_area',
-                     'other'):
+        for name in ('points', 'shape', 'rule', 'areas', 'values', 'slopes', 'first_area',
+                     'last_area', 'other'):
             with self.assertRaises(AttributeError):
                 setattr(curve, name, 1)
         with self.assertRaises(TypeError):

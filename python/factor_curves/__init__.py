@@ -1,6 +1,6 @@
 """Price factors between a tariff's rated points, by the proved library libfactor_curves.
 
-    >>> from factor_curves import CONVEX, FALLING, Curve
+    >>> from factor_curves import CONVEX, FALLING, RISING, Curve
     >>> curve = Curve([(500, 10000, 0), (600, 14000, 10000)], CONVEX)
     >>> curve.read(550)
     10800
@@ -22,6 +22,13 @@ The shape is RISING, CONVEX, FALLING or CONCAVE:
 
     >>> Curve([(1200, 10000, 0), (2000, 9000, -100)], FALLING).read(1600)
     9643
+
+A rising curve that is also convex in every segment is read by the convex rule, any other by the
+rising rule; `rule` says which:
+
+    >>> rising = Curve(curve.points, RISING)
+    >>> rising.shape, rising.rule, rising.read(550)
+    (1, 2, 10800)
 
 The slopes of a rising curve can be filled by the harmonic rule:
 
@@ -57,7 +64,7 @@ from ._calls import (CONCAVE, CONVEX, COUNT_MAX, ENTRIES_MAX, FALLING, FILE_MAX,
 from ._curve import Curve, Point
 from ._library import LibraryNotFound
 
-__version__ = "0.7.0"
+__version__ = "0.8.0"
 
 __all__ = [
     'CONCAVE', 'CONVEX', 'COUNT_MAX', 'ENTRIES_MAX', 'FALLING', 'FILE_MAX', 'POINTS_MAX',

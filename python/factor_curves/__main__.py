@@ -7,8 +7,8 @@ import struct
 import sys
 from typing import Any, List, NoReturn, Optional
 
-from . import (ENTRIES_MAX, FILE_MAX, SHAPE_NAMES, TRIPLE_SIZE, Curve, LibraryNotFound, Lists,
-               Refusal, Refused, __version__, fill_slopes, import_triples, write)
+from . import (ENTRIES_MAX, FILE_MAX, RISING, SHAPE_NAMES, TRIPLE_SIZE, Curve, LibraryNotFound,
+               Lists, Refusal, Refused, __version__, fill_slopes, import_triples, write)
 from ._text import NAMES, Mistake, Text, read_text
 
 PROGRAM = 'factor-curves'
@@ -35,6 +35,10 @@ examples:
 
 exit status: 0 done; 1 the curve, the triples, an area or the sheet is refused; 2 wrong usage, a
 mistake in a text, or a file or the library that cannot be read; 3 output that cannot be written
+'''
+RULE = '''
+A rising curve, shape 1, that is also convex in every segment is read by the convex rule, any other
+by the rising rule. What is printed says which.
 '''
 TEXT_FORMAT = '''
 The text has a line `shape N` (1 is rising, 2 convex, 3 falling, 4 concave), then a line with area,
@@ -167,9 +171,13 @@ def number_of(count: int, name: str) -> str:
     return '%d %s%s' % (count, name, '' if count == 1 else 's')
 
 
-def counts(curve: Curve) -> str:
+def about(curve: Curve) -> str:
+    """Points and segments, and the rule of a rising curve, which may be the convex one."""
     points = len(curve.points)
-    return '%s, %s' % (number_of(points, 'point'), number_of(points - 1, 'segment'))
+    words = '%s, %s' % (number_of(points, 'point'), number_of(points - 1, 'segment'))
+    if curve.shape == RISING:
+        words += ', read by the %s rule' % SHAPE_NAMES[curve.rule]
+    return words
 
 
 def outside(refusal: Refused, curve: Curve, area: int) -> Failure:
@@ -181,7 +189,7 @@ def outside(refusal: Refused, curve: Curve, area: int) -> Failure:
 def check(options: argparse.Namespace) -> None:
     curve = curve_of(options.file)
     put_lines(['accepted: shape %d (%s), %s'
-               % (curve.shape, SHAPE_NAMES[curve.shape], counts(curve))])
+               % (curve.shape, SHAPE_NAMES[curve.shape], about(curve))])
 
 
 def read(options: argparse.Namespace) -> None:
@@ -228,7 +236,7 @@ def sheet(options: argparse.Namespace) -> None:
 
 def show(options: argparse.Namespace) -> None:
     curve = curve_of(options.file)
-    lines = ['shape %d  # %s, %s' % (curve.shape, SHAPE_NAMES[curve.shape], counts(curve)),
+    lines = ['shape %d  # %s, %s' % (curve.shape, SHAPE_NAMES[curve.shape], about(curve)),
              '# area   value   slope  # point      m2   factor  factor/m2']
     for index, (area, value, slope) in enumerate(curve.points):
         lines.append('%6d  %6d  %6d  # %5d  %6.1f  %7.4f  %9.5f'
@@ -370,7 +378,7 @@ def parser() -> Parser:
     made.add_argument('--version', action=Version, nargs=0, help='print the version and exit')
     commands = made.add_subparsers(dest='command', metavar='COMMAND', required=True)
     file = {'metavar': 'FILE', 'help': 'a curve file, or - for standard input'}
-    add_command(commands, check, 'say whether a curve file is accepted').add_argument(
+    add_command(commands, check, 'say whether a curve file is accepted', RULE).add_argument(
         'file', **file)
     command = add_command(commands, read, 'print the factors at some areas')
     command.add_argument('file', **file)
@@ -384,7 +392,7 @@ def parser() -> Parser:
                          help='from an area to the next (default: 25)')
     command.add_argument('--count', metavar='N', type=whole_number,
                          help='how many (default: all up to the last area of the curve)')
-    add_command(commands, show, 'print a curve file as text').add_argument('file', **file)
+    add_command(commands, show, 'print a curve file as text', RULE).add_argument('file', **file)
     command = add_command(commands, make, 'write the curve file of a text', TEXT_FORMAT)
     command.add_argument('text', metavar='TEXT', help='a text or CSV file, or - for standard input')
     command.add_argument('-o', '--output', metavar='FILE', required=True,

@@ -4,7 +4,7 @@ import os
 from typing import TYPE_CHECKING, Any, Iterable, List, NamedTuple, Tuple, Type, TypeVar, Union
 
 from . import _calls
-from ._calls import BytesLike, Pair, Triples
+from ._calls import BytesLike, Pair, Refused, Triples
 
 # One byte more than the longest file that a head can state, so that a longer one shows.
 _FILE_ROOM = 7 + 12 * _calls.COUNT_MAX + 1
@@ -117,8 +117,30 @@ class Curve:
 
     @property
     def shape(self) -> int:
-        """The shape code: RISING, CONVEX, FALLING or CONCAVE."""
+        """The shape code, as filed: RISING, CONVEX, FALLING or CONCAVE."""
         return self._shape
+
+    @property
+    def rule(self) -> int:
+        """The code of the shape whose rule reads the curve.
+
+        CONVEX for a RISING curve that is convex in every segment too, so that its points are also
+        accepted as CONVEX; otherwise the curve's own shape. It is one rule for the whole curve.
+
+        >>> points = [(500, 10000, 0), (600, 11000, 2500), (700, 14000, 3001)]
+        >>> Curve(points, RISING).rule == Curve(points, CONVEX).rule == CONVEX
+        True
+        >>> points[2] = (700, 14000, 3000)      # the second segment is not convex
+        >>> Curve(points, RISING).rule == RISING
+        True
+        """
+        if self._shape != _calls.RISING:
+            return self._shape
+        try:
+            _calls.check_at(self._arguments[:6] + (_calls.CONVEX,))
+        except Refused:                     # by 6: a segment is not convex
+            return _calls.RISING
+        return _calls.CONVEX
 
     @property
     def areas(self) -> Tuple[int, ...]:

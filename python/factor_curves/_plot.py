@@ -25,10 +25,16 @@ Named = Tuple[str, Curve, Sequence[int]]
 
 
 def label(path: str, curve: Curve) -> str:
-    """Shape and file name for the legend, as plain text and not as a formula."""
+    """Shape and file name for the legend, as plain text and not as a formula.
+
+    A rule that is not the shape's own is named too.
+    """
     name = os.fsencode(os.path.splitext(os.path.basename(path))[0]).decode('utf-8', 'replace')
     name = 'standard input' if path == '-' else name
-    return '%s (%s)' % (SHAPE_NAMES[curve.shape], name.replace('$', r'\$'))
+    shape = SHAPE_NAMES[curve.shape]
+    if curve.rule != curve.shape:
+        shape += ', read by the %s rule' % SHAPE_NAMES[curve.rule]
+    return '%s (%s)' % (shape, name.replace('$', r'\$'))
 
 
 def figure(named: Sequence[Named]) -> Figure:
