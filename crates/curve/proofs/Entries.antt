@@ -23,13 +23,13 @@ most_of_row_8 : (step n : ℕ) → bad_sheet step n ≡ false → n ≤ entries_
 unfolding bad_sheet
 most_of_row_8 step n e = ltb-false entries_most n (or_right (eqb step 0 || eqb n 0) _ e)
 
-module _ (areas values : List ℕ) (slopes : List ℤ) (code : ℕ) {shape : ℕ}
-    (e : gives shape ≡ on_lists areas values slopes (with_code code)) (start step n : ℕ) where
+module _ (areas values : List ℕ) (slopes : List ℤ) (code : ℕ) (used : List Point → ℕ) {shape : ℕ}
+    (e : gives shape ≡ on_lists areas values slopes (with_code code used)) (start step n : ℕ) where
   after_6 : on_lists areas values slopes (λ qs. sheet_answer qs code start step n)
       ≡ (rows_8_and_7 start step n (points areas values slopes) then gives n)
   unfolding sheet_answer
   after_6 =
-      after_rows areas values slopes code e (λ qs. row (bad_sheet step n) 8 0 then entry_rows qs start step n then gives n)
+      after_rows areas values slopes code used e (λ qs. row (bad_sheet step n) 8 0 then entry_rows qs start step n then gives n)
       ∙ sym (then_assoc (row (bad_sheet step n) 8 0) _ (gives n))
 
   pub refused_sheet : {number place : ℕ} → refused number place ≡ rows_8_and_7 start step n (points areas values slopes) →

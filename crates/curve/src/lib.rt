@@ -51,9 +51,8 @@ fn factor(
     ensures { answer_of (λ f. f) result
         ≡ on_lists areas.now values.now slopes.now (λ ps. read_answer ps shape area) }
 {
-    let curve = Curve::of_lists(areas, values, slopes, shape)?;
-    let read = curve.as_read();
-    Ok(lookup::read(&read, area)?)
+    let curve = Curve::lists_to_read(areas, values, slopes, shape)?;
+    Ok(lookup::read(&curve, area)?)
 }
 
 pub fn read(areas: &[u32], values: &[u32], slopes: &[i32], shape: u32, area: u32) -> Reading
@@ -91,11 +90,10 @@ fn fill(
         ≡ sheet_list (points areas.now values.now slopes.now) shape start step
         (answer_of (λ n. n) result) out.old }
 {
-    let curve = Curve::of_lists(areas, values, slopes, shape)?;
+    let curve = Curve::lists_to_read(areas, values, slopes, shape)?;
     let steps = Steps { start, step };
     entries::check(&curve.points, steps, out.len())?;
-    let read = curve.as_read();
-    entries::fill(&read, steps, out);
+    entries::fill(&curve, steps, out);
     Ok(out.len() as u32)
 }
 

@@ -36,12 +36,11 @@ fn read(bytes: &[u8], area: u32, scratch: &mut [u8]) -> Result<i32, Refusal>
     if scratch.len() < RECORD_SIZE * file.count() {
         return Err(Row::Room.at(0));
     }
-    let shape = rows::check(&file, file.code())?;
+    let shape = rows::check_to_read(&file, file.code())?;
     let curve = Curve {
         points: file,
         shape,
-    }
-    .as_read();
+    };
     let i = lookup::locate(&curve, area)?;
     copy(&bytes[HEAD_SIZE..], scratch);
     Ok(lookup::factor_at(&curve, i, area))

@@ -22,12 +22,11 @@ fn read(bytes: &[u8], area: u32, scratch: &mut [u8]) -> Result<i32, Refusal>
     if scratch.len() < 2 * RECORD_SIZE {
         return Err(Row::Room.at(0));
     }
-    let shape = rows::check(&file, file.code())?;
+    let shape = rows::check_to_read(&file, file.code())?;
     let curve = Curve {
         points: file,
         shape,
-    }
-    .as_read();
+    };
     let i = lookup::locate(&curve, area)?;
     copy_block::<24>(bytes, HEAD_SIZE + RECORD_SIZE * i, scratch, 0);
     Ok(lookup::factor_at(&curve, i, area))

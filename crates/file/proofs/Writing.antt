@@ -18,14 +18,14 @@ use Rattle.file.proofs.Filled.{after_refusal}
 
 -- points that row 1 of the lists and rows 1 to 6 do not refuse, and their code
 module _ (areas values : List ℕ) (slopes : List ℤ) (code : ℕ) {shape : ℕ}
-    (e : gives shape ≡ on_lists areas values slopes (with_code code)) where
+    (e : gives shape ≡ on_lists areas values slopes (with_code code (λ _. code))) where
   after_6 : (room : ℕ) →
       on_lists areas values slopes (λ qs. write_answer qs code room)
       ≡ (row (short_buffer (length areas) room) 12 0 then gives (point_offset (length areas)))
   unfolding write_answer
   after_6 room =
-      after_rows areas values slopes code e (λ qs. row (short_buffer (length qs) room) 12 0 then gives (point_offset (length qs)))
-      ∙ (rw (size_listed areas values slopes code e))
+      after_rows areas values slopes code _ e (λ qs. row (short_buffer (length qs) room) 12 0 then gives (point_offset (length qs)))
+      ∙ (rw (size_listed areas values slopes code _ e))
 
   pub file_in_buffer : {out : List ℕ} (buffer : List ℕ) (n : ℕ) →
       out ≡ put 0 (file_bytes (points areas values slopes) shape) buffer →
@@ -34,7 +34,7 @@ module _ (areas values : List ℕ) (slopes : List ℤ) (code : ℕ) {shape : ℕ
   file_in_buffer buffer n k =
       let ps = points areas values slopes in
       k ∙ ap (λ (n : ℕ). file_bytes ps shape ++ drop n buffer) (zero-add (length (file_bytes ps shape)))
-      ∙ ap (λ (c : ℕ). file_bytes ps c ++ drop (length (file_bytes ps c)) buffer) (sym (code_is areas values slopes code e))
+      ∙ ap (λ (c : ℕ). file_bytes ps c ++ drop (length (file_bytes ps c)) buffer) (sym (code_is areas values slopes code _ e))
 
 module _ (areas values : List ℕ) (slopes : List ℤ) (code : ℕ) (buffer : List ℕ) where
   abbrev answer : Answer ℕ
@@ -44,11 +44,11 @@ module _ (areas values : List ℕ) (slopes : List ℤ) (code : ℕ) (buffer : Li
       record { answer : a ≡ answer; out : buffer ≡ filled a (file_bytes (points areas values slopes) code) buffer }
   buffer_left e k = record { answer = e ∙ k; out = after_refusal _ e }
 
-  pub refused_by_curve : {n i : ℕ} → refused n i ≡ on_lists areas values slopes (with_code code) → refused n i ≡ answer
+  pub refused_by_curve : {n i : ℕ} → refused n i ≡ on_lists areas values slopes (with_code code (λ _. code)) → refused n i ≡ answer
   unfolding write_answer
-  refused_by_curve = refused_listed areas values slopes code _
+  refused_by_curve = refused_listed areas values slopes code _ _
 
-  module _ {shape : ℕ} (e : gives shape ≡ on_lists areas values slopes (with_code code)) where
+  module _ {shape : ℕ} (e : gives shape ≡ on_lists areas values slopes (with_code code (λ _. code))) where
     pub refused_by_buffer : length buffer < point_offset (length areas) → refused 12 0 ≡ answer
     unfolding short_buffer row ◌then◌
     refused_by_buffer h = rw (after_6 areas values slopes code e (length buffer), lt-ltb _ _ h)

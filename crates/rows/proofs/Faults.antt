@@ -2,9 +2,10 @@
 --   then_gives, then_refused    what comes after a result decides; after a refusal nothing does
 --   limits_passed               a point that passes rows 3 to 5 keeps its limits
 --   points_from, segments_from  the rows from an index on; point_turn, segment_turn, one turn of a loop over them
+--   convex_from                 whether the segments from an index on pass the convex test; convex_turn
 -- Assumes nothing.
 use mathlib.Core.Path.{◌≡◌, refl, sym}
-use mathlib.Core.Bool.{Bool, not}
+use mathlib.Core.Bool.{Bool, true, not, ◌&&◌}
 use mathlib.Core.List.{List, [], ◌∷◌}
 use mathlib.Core.Option.{Option, some}
 use Prim.Native.Nat.{ℕ, suc, ◌+◌, ◌<◌}
@@ -13,9 +14,10 @@ use native.Mathlib.Omega.{arith}
 use lib.ListN.{length, drop}
 use lib.Seq.{drop-cons, drop-length}
 use Rattle.model.specs.Answer.{Answer, gives, refused, row, ◌then◌}
-use Rattle.model.specs.Points.{Point, segments, Rule}
-use Rattle.model.specs.Shape.{segment_test}
+use Rattle.model.specs.Points.{Point, segments, convex, Rule}
+use Rattle.model.specs.Shape.{has_shape, segment_test}
 use Rattle.model.specs.Check.{point_rows, segment_rows}
+use Rattle.model.specs.Read.{all_convex}
 use Rattle.model.specs.Inner.{between, origin, point_at, Limits}
 use Rattle.model.proofs.Rows.{passed}
 
@@ -72,5 +74,23 @@ module _ (ps : List Point) where
   pub segment_end : (rule : Rule) (i : ℕ) → i + 1 ≡ length ps → segments_from rule i ≡ gives tt
   unfolding segments segment_rows
   segment_end rule i e =
+      let here : i < length ps = omega arith in
+      rw (drop-cons ps i origin here, ← add-one i, e, drop-length ps)
+
+  -- item 8: the convex test of the segments from an index on
+  abbrev pub convex_from : ℕ → Bool
+  convex_from i = all_convex (segments (drop i ps))
+
+  pub convex_turn : (i : ℕ) → i + 1 < length ps →
+      convex_from i ≡ (has_shape convex (between (point_at ps i) (point_at ps (i + 1))) && convex_from (i + 1))
+  unfolding segments all_convex
+  convex_turn i h =
+      let here : i < length ps = omega arith in
+      let next : suc i < length ps = omega arith in
+      rw (add-one i, drop-cons ps i origin here, drop-cons ps (suc i) origin next)
+
+  pub convex_end : (i : ℕ) → i + 1 ≡ length ps → convex_from i ≡ true
+  unfolding segments all_convex
+  convex_end i e =
       let here : i < length ps = omega arith in
       rw (drop-cons ps i origin here, ← add-one i, e, drop-length ps)

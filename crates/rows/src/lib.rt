@@ -4,10 +4,11 @@
 ghost use Rattle.std.specs.Prelude.{◌≡◌, true, ℕ, length, ◌≤◌, IfSome, IfOk, OnOk};
 ghost use Rattle.std.proofs.Math.Option.{none};
 ghost use Rattle.model.specs.Answer.{gives, ◌then◌};
-ghost use Rattle.model.specs.Points.{points as points_of_lists, points_most, segments, rule_of};
+ghost use Rattle.model.specs.Points.{points as points_of_lists, points_most, segments, between, convex, rule_of};
+ghost use Rattle.model.specs.Shape.{has_shape};
 ghost use Rattle.model.specs.Check.{bad_count, point_rows, segment_rows, curve_rows, on_lists};
 ghost use Rattle.model.specs.Read.{all_convex, used_code};
-ghost use Rattle.model.specs.Inner.{Limits};
+ghost use Rattle.model.specs.Inner.{Limits, Neighbours};
 ghost use Rattle.refusal.specs.Refusal.{answer_of, checked};
 ghost use Rattle.point.specs.Inner.{point_of};
 ghost use Rattle.shape.specs.Codes.{code_of};
@@ -40,6 +41,14 @@ pub fn follows(shape: Shape, p: Point, q: Point) -> bool
         return false;
     }
     Segment { left: p, right: q }.has_shape(shape)
+}
+
+// The convex test of the segment of two neighbouring points.
+fn bends(p: Point, q: Point) -> bool
+    requires { Neighbours (between (point_of p) (point_of q)) }
+    ensures { result ≡ has_shape convex (between (point_of p) (point_of q)) }
+{
+    Segment { left: p, right: q }.has_shape(Shape::Convex)
 }
 
 // Rows 3 to 6 in one pass. Where it finds a fault it does not say which.
@@ -109,14 +118,6 @@ fn check_segments<P: Points>(points: &P, shape: Shape) -> Result<(), Refusal>
     Ok(())
 }
 
-// Document 02, item 8: whether every segment passes the convex test.
-fn all_convex<P: Points>(points: &P) -> bool
-    requires { Limited (P.points points.now) }
-    ensures { result ≡ all_convex (segments (P.points points.now)) }
-{
-    check_segments(points, Shape::Convex).is_ok()
-}
-
 // Rows 1 to 6, one after the other. Apart from the pass and not inlined, since the loops of the pass would hold what it needs.
 #[inline(never)]
 fn first_refusal<P: Points>(points: &P, code: u32) -> Result<Shape, Refusal>
@@ -158,6 +159,74 @@ pub fn check<P: Points>(points: &P, code: u32) -> Result<Shape, Refusal>
     }
 }
 
+// ---- the rule used (document 02, item 8)
+
+// Whether every segment passes the convex test.
+fn all_convex<P: Points>(points: &P) -> bool
+    requires { Limited (P.points points.now) }
+    ensures { result ≡ all_convex (segments (P.points points.now)) }
+{
+    check_segments(points, Shape::Convex).is_ok()
+}
+
+// The shape by which an accepted curve is read.
+pub fn used_shape<P: Points>(points: &P, shape: Shape) -> Shape
+    requires { accepts (P.points points.now) (code_of shape) ≡ true }
+    ensures code { code_of result ≡ used_code (P.points points.now) (code_of shape) }
+    ensures accepted { accepts (P.points points.now) (code_of result) ≡ true }
+{
+    let convex_first = match shape {
+        Shape::Rising => all_convex(points),
+        Shape::Convex | Shape::Falling | Shape::Concave => false,
+    };
+    if convex_first {
+        return Shape::Convex;
+    }
+    shape
+}
+
+// Rows 3 to 6 of a rising curve and the convex test in one pass: the shape by which it is read. Where it finds a fault it says none.
+#[inline(always)]
+fn rising_pass<P: Points>(points: &P) -> Option<Shape>
+    requires { Count (length (P.points points.now)) }
+    ensures { IfSome result (λ shape. (accepts (P.points points.now) 1 ≡ true)
+        × (code_of shape ≡ used_code (P.points points.now) 1)) }
+{
+    if points.point(0).check(None).is_err() {
+        return None;
+    }
+    let mut convex = true;
+    for i in 0..points.count() - 1 {
+        let p = points.point(i);
+        let q = points.point(i + 1);
+        if !follows(Shape::Rising, p, q) {
+            return None;
+        }
+        convex = convex && bends(p, q);
+    }
+    if convex {
+        return Some(Shape::Convex);
+    }
+    Some(Shape::Rising)
+}
+
+// Rows 1 to 6, and the shape by which an accepted curve is read.
+pub fn check_to_read<P: Points>(points: &P, code: u32) -> Result<Shape, Refusal>
+    ensures answer { answer_of code_of result
+        ≡ (curve_rows (P.points points.now) code then gives (used_code (P.points points.now) code)) }
+    ensures accepted { IfOk result (λ shape. accepts (P.points points.now) (code_of shape) ≡ true) }
+{
+    if code == Shape::Rising.code() && !bad_count(points.count()) {
+        if let Some(shape) = rising_pass(points) {
+            return Ok(shape);
+        }
+    }
+    let shape = check(points, code)?;
+    Ok(used_shape(points, shape))
+}
+
+// ---- curves
+
 // Points that rows 1 to 6 do not refuse, and their shape. The desk readings make it of a shape that `check` gives: a result that
 // holds the points of a file goes through memory.
 #[derive(Drop)]
@@ -175,24 +244,6 @@ impl<P: Points> Curve<P> {
         let shape = check(&points, code)?;
         Ok(Curve { points, shape })
     }
-
-    // Document 02, item 8: the curve as it is read. A rising curve whose segments pass the convex test too is read as convex.
-    pub fn as_read(self) -> Self
-        ensures points { result.points ≡ self.points }
-        ensures shape { code_of result.shape ≡ used_code (P.points self.points) (code_of self.shape) }
-    {
-        let convex_first = match self.shape {
-            Shape::Rising => all_convex(&self.points),
-            Shape::Convex | Shape::Falling | Shape::Concave => false,
-        };
-        if convex_first {
-            return Curve {
-                points: self.points,
-                shape: Shape::Convex,
-            };
-        }
-        self
-    }
 }
 
 impl<'a> Curve<Lists<'a>> {
@@ -209,5 +260,22 @@ impl<'a> Curve<Lists<'a>> {
             ≡ points_of_lists areas.now values.now slopes.now) }
     {
         Curve::new(Lists::new(areas, values, slopes)?, code)
+    }
+
+    // The same, under the code by whose rule it is read.
+    pub fn lists_to_read(
+        areas: &'a [u32],
+        values: &'a [u32],
+        slopes: &'a [i32],
+        code: u32,
+    ) -> Result<Self, Refusal>
+        ensures answer { answer_of (λ c. code_of c.shape) result
+            ≡ on_lists areas.now values.now slopes.now (λ ps. curve_rows ps code then gives (used_code ps code)) }
+        ensures points { IfOk result (λ c. points_of_lists c.points.areas.now c.points.values.now c.points.slopes.now
+            ≡ points_of_lists areas.now values.now slopes.now) }
+    {
+        let points = Lists::new(areas, values, slopes)?;
+        let shape = check_to_read(&points, code)?;
+        Ok(Curve { points, shape })
     }
 }

@@ -66,7 +66,10 @@ fn sheet(curve: &Curve<CurveFile<'_>>) -> Text
     let first = points.area(0);
     let last = points.area(n - 1);
     let mut text = words_line("shape ", shape.code(), " points ", n as u32);
-    let read = Curve { points, shape }.as_read();
+    let read = Curve {
+        points,
+        shape: rows::used_shape(&points, shape),
+    };
     for area in (first..=last).step_by(STEP as usize) {
         text.push_str(&entry_line(area, lookup::factor(&read, area)));
     }

@@ -7,24 +7,20 @@ use Rattle.rows.proofs.Lists.{code_is, after_rows, refused_listed}
 use Rattle.curve.proofs.factor.Goals as goal
 
 pub returns-in_err-curve : goal.returns-in_err-curve
-unfolding read_answer
+unfolding read_answer factor
 returns-in_err-curve c =
-    refused_exit _ _ _ c.from_residual.ensures.1 ∙ refused_listed _ _ _ _ _ c.in_err-curve.ensures.answer
+    refused_exit _ _ _ c.from_residual.ensures.1 ∙ refused_listed _ _ _ _ _ _ c.in_err-curve.ensures.answer
 
 pub returns-in_err-read : goal.returns-in_err-read
 unfolding read_answer factor
 returns-in_err-read c =
     let e = c.in_ok-curve.ensures.answer in
-    let r = c.as_read-read.ensures in
     refused_exit _ _ _ c.from_residual-in_err-read.ensures.1
-    ∙ (rw (r.shape, r.points, c.in_ok-curve.ensures.points, ← code_is _ _ _ _ e) at c.in_err-read.ensures)
-    ∙ sym (after_rows _ _ _ _ e _)
+    ∙ (rw (c.in_ok-curve.ensures.points, ← code_is _ _ _ _ _ e) at c.in_err-read.ensures) ∙ sym (after_rows _ _ _ _ _ e _)
 
 pub returns : goal.returns
 unfolding read_answer factor
 returns c =
     let e = c.in_ok-curve.ensures.answer in
-    let r = c.as_read-read.ensures in
     ap gives (to_z-of_z {w = w32} {z = c.in_ok-read.field-0} (search rules))
-    ∙ (rw (r.shape, r.points, c.in_ok-curve.ensures.points, ← code_is _ _ _ _ e) at c.in_ok-read.ensures)
-    ∙ sym (after_rows _ _ _ _ e _)
+    ∙ (rw (c.in_ok-curve.ensures.points, ← code_is _ _ _ _ _ e) at c.in_ok-read.ensures) ∙ sym (after_rows _ _ _ _ _ e _)

@@ -12,7 +12,7 @@ use Rattle.curve.proofs.fill.Goals as goal
 pub returns-in_err-curve-clause-answer : goal.returns-in_err-curve-clause-answer
 unfolding sheet_answer
 returns-in_err-curve-clause-answer c =
-    refused_exit _ _ _ c.from_residual.ensures.1 ∙ refused_listed _ _ _ _ _ c.in_err-curve.ensures.answer
+    refused_exit _ _ _ c.from_residual.ensures.1 ∙ refused_listed _ _ _ _ _ _ c.in_err-curve.ensures.answer
 
 pub returns-in_err-curve-clause-list : goal.returns-in_err-curve-clause-list
 unfolding sheet_list
@@ -25,7 +25,7 @@ pub returns-in_err-check-clause-answer : goal.returns-in_err-check-clause-answer
 unfolding sheet_answer
 returns-in_err-check-clause-answer c =
     refused_exit _ _ _ c.from_residual-in_err-check.ensures.1
-    ∙ refused_sheet _ _ _ _ c.in_ok-curve.ensures.answer _ _ _ (rw c.in_ok-curve.ensures.points at c.in_err-check.ensures)
+    ∙ refused_sheet _ _ _ _ _ c.in_ok-curve.ensures.answer _ _ _ (rw c.in_ok-curve.ensures.points at c.in_err-check.ensures)
 
 pub returns-in_err-check-clause-list : goal.returns-in_err-check-clause-list
 unfolding sheet_list
@@ -33,26 +33,24 @@ returns-in_err-check-clause-list c = let e = refused_exit (λ (n : ℕ). n) _ _ 
 
 pub fill-requires : goal.fill-requires
 fill-requires c =
-    rw (c.as_read-read.ensures.points, c.in_ok-curve.ensures.points)
-    (all_pass _ _ _ _ c.in_ok-curve.ensures.answer _ _ _ (rw c.in_ok-curve.ensures.points at c.in_ok-check.ensures)).inside
+    rw c.in_ok-curve.ensures.points
+    (all_pass _ _ _ _ _ c.in_ok-curve.ensures.answer _ _ _ (rw c.in_ok-curve.ensures.points at c.in_ok-check.ensures)).inside
 
 pub overflow_cast-result : goal.overflow_cast-result
 overflow_cast-result c =
     let p = rw c.in_ok-curve.ensures.points at c.in_ok-check.ensures in
-    record { fits = omega (arith, (all_pass _ _ _ _ c.in_ok-curve.ensures.answer _ _ _ p).most) }
+    record { fits = omega (arith, (all_pass _ _ _ _ _ c.in_ok-curve.ensures.answer _ _ _ p).most) }
 
 pub returns-clause-answer : goal.returns-clause-answer
 unfolding sheet_answer
 returns-clause-answer c =
     let p = rw c.in_ok-curve.ensures.points at c.in_ok-check.ensures in
-    ap gives (search rules) ∙ (all_pass _ _ _ _ c.in_ok-curve.ensures.answer _ _ _ p).answer
+    ap gives (search rules) ∙ (all_pass _ _ _ _ _ c.in_ok-curve.ensures.answer _ _ _ p).answer
 
 pub returns-clause-list : goal.returns-clause-list
 unfolding sheet_list factor
 returns-clause-list c =
     let k = c.args in
-    let r = c.as_read-read.ensures in
     let n = length k.out.now in
     let same : length c.fill.new.out ≡ n = search rules in
-    rw same
-    (rw (r.shape, r.points, c.in_ok-curve.ensures.points, ← code_is _ _ _ _ c.in_ok-curve.ensures.answer) at c.fill.ensures)
+    rw same (rw (c.in_ok-curve.ensures.points, ← code_is _ _ _ _ _ c.in_ok-curve.ensures.answer) at c.fill.ensures)

@@ -19,12 +19,10 @@ returns-in_err-shape c =
 pub returns-in_err-i : goal.returns-in_err-i
 returns-in_err-i c =
     by_area c.in_ok-check.ensures.answer (omega (arith, size_of_points)) c.code.ensures c.in_ok-shape.ensures.answer
-    _ c.from_residual-in_err-i.ensures.1 (rw c.as_read-curve.ensures.points at c.in_err-i.ensures)
+    _ c.from_residual-in_err-i.ensures.1 c.in_err-i.ensures
 
 pub returns : goal.returns
 returns c =
     let p = c.in_ok-check.ensures in
-    let r = c.as_read-curve.ensures in
-    by_reading p.answer (omega (arith, size_of_points)) c.code.ensures c.in_ok-shape.ensures.answer
-    r.shape (rw r.points at c.in_ok-i.ensures) (rw r.points at c.factor_at.ensures) (record { sfits = c.factor_at.type_inv })
-    (c.copy.ensures ∙ written _ p.size _)
+    by_reading p.answer (omega (arith, size_of_points)) c.code.ensures c.in_ok-shape.ensures.answer c.in_ok-i.ensures
+    c.factor_at.ensures (record { sfits = c.factor_at.type_inv }) (c.copy.ensures ∙ written _ p.size _)

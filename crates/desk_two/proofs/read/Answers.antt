@@ -19,13 +19,11 @@ returns-in_err-shape c =
 pub returns-in_err-i : goal.returns-in_err-i
 returns-in_err-i c =
     by_area c.in_ok-check.ensures.answer c.if-scratch.false c.code.ensures c.in_ok-shape.ensures.answer
-    _ c.from_residual-in_err-i.ensures.1 (rw c.as_read-curve.ensures.points at c.in_err-i.ensures)
+    _ c.from_residual-in_err-i.ensures.1 c.in_err-i.ensures
 
 pub returns : goal.returns
 returns c =
     let p = c.in_ok-check.ensures in
-    let r = c.as_read-curve.ensures in
-    let i = rw r.points at c.in_ok-i.ensures in
-    let copy = c.copy_block.ensures ∙ written _ _ _ p.size c.in_ok-shape.ensures.accepted _ (index _ _ i) in
-    by_reading p.answer c.if-scratch.false c.code.ensures c.in_ok-shape.ensures.answer r.shape i
-    (rw r.points at c.factor_at.ensures) (record { sfits = c.factor_at.type_inv }) copy
+    let copy = c.copy_block.ensures ∙ written _ _ _ p.size c.in_ok-shape.ensures.accepted _ (index _ _ c.in_ok-i.ensures) in
+    by_reading p.answer c.if-scratch.false c.code.ensures c.in_ok-shape.ensures.answer c.in_ok-i.ensures c.factor_at.ensures
+    (record { sfits = c.factor_at.type_inv }) copy

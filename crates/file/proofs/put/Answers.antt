@@ -11,10 +11,10 @@ returns-in_err-curve c =
     (refused_by_curve _ _ _ _ _ c.in_err-curve.ensures.answer)
 
 pub overflow_mul-size : goal.overflow_mul-size
-overflow_mul-size c = record { fits = omega (arith, count_most _ _ _ _ c.in_ok-curve.ensures.answer) }
+overflow_mul-size c = record { fits = omega (arith, count_most _ _ _ _ _ c.in_ok-curve.ensures.answer) }
 
 pub overflow_add-size : goal.overflow_add-size
-overflow_add-size c = record { fits = omega (arith, count_most _ _ _ _ c.in_ok-curve.ensures.answer) }
+overflow_add-size c = record { fits = omega (arith, count_most _ _ _ _ _ c.in_ok-curve.ensures.answer) }
 
 pub returns-then-out-size : goal.returns-then-out-size
 returns-then-out-size c =
@@ -22,12 +22,12 @@ returns-then-out-size c =
 
 pub encode-requires : goal.encode-requires
 encode-requires c =
-    let most = count_most _ _ _ _ c.in_ok-curve.ensures.answer in
-    let size = size_listed _ _ _ _ c.in_ok-curve.ensures.answer in
+    let most = count_most _ _ _ _ _ c.in_ok-curve.ensures.answer in
+    let size = size_listed _ _ _ _ _ c.in_ok-curve.ensures.answer in
     rw c.in_ok-curve.ensures.points (record { count = omega arith; room = omega arith })
 
 pub overflow_cast-result : goal.overflow_cast-result
-overflow_cast-result c = record { fits = omega (arith, count_most _ _ _ _ c.in_ok-curve.ensures.answer) }
+overflow_cast-result c = record { fits = omega (arith, count_most _ _ _ _ _ c.in_ok-curve.ensures.answer) }
 
 pub returns : goal.returns
 returns c =

@@ -41,8 +41,7 @@ loop-area-init c =
 pub factor-requires : goal.factor-requires
 factor-requires c =
     let end = rw c.count-n.ensures at c.area-last.ensures in
-    rw c.as_read-read.ensures.points
-    (inside _ _ c.args.curve.now.accepted _ (omega (arith, c.area-first.ensures)) (omega (arith, end)))
+    inside _ _ c.args.curve.now.accepted _ (omega (arith, c.area-first.ensures)) (omega (arith, end))
 
 pub push_str-requires : goal.push_str-requires
 push_str-requires c = omega (arith, c.loop-area.invariant.room)
@@ -51,8 +50,7 @@ pub loop-area-preserved : goal.loop-area-preserved
 unfolding factor
 loop-area-preserved c =
     let k = c.loop-area.invariant in
-    let r = c.as_read-read.ensures in
-    let read = rw (r.shape, r.points) at c.factor.ensures in
+    let read = rw c.used_shape.ensures.code at c.factor.ensures in
     let line = c.deref.ensures.0 ∙ c.entry_line.ensures in
     record {
       room = omega (arith, c.push_str.ensures.len, k.room);
@@ -66,8 +64,7 @@ pub returns-2 : goal.returns-2
 unfolding factor
 returns-2 c =
     let k = c.loop-area.invariant in
-    let r = c.as_read-read.ensures in
-    let read = rw (r.shape, r.points) at c.factor.ensures in
+    let read = rw c.used_shape.ensures.code at c.factor.ensures in
     let line = c.deref.ensures.0 ∙ c.entry_line.ensures in
     let all = all_lines _ _ _ (one_more _ _ _ k.lines (omega arith) c.factor.type_inv read line) (omega arith) in
     rw c.push_str.ensures.bytes all
