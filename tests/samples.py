@@ -172,6 +172,16 @@ def test_files():
     expect('a rise', (stored['flattening.trf'][5], sorted(values)),
            (4, list(values)))
     expect('that flattens', sorted(set(slopes))[::-1], list(slopes))
+    rising, convex = (stored['same-points-%s.trf' % shape]
+                      for shape in ('rising', 'convex'))
+    expect('same points', (rising[5], convex[5], rising[6:]),
+           (1, 2, convex[6:]))
+    expect('read alike', ref.ratesheet(rising).split('\n')[1:],
+           ref.ratesheet(convex).split('\n')[1:])
+    rules = {ref.rule_used(*ref.file_lists(data), 1)
+             for name, data in stored.items()
+             if name not in REFUSED and data[5] == 1}
+    expect('rules of code 1', rules, {1, 2})
     filled_slopes = ref.file_lists(stored['without-slopes.trf'])[2]
     expect('without slopes', filled_slopes, (577, 376, 269, 0, 0, 208, 165))
     expect('document 01', stored['document-01.trf'].hex(),
