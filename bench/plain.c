@@ -212,14 +212,14 @@ static inline size_t convex_run(const uint8_t *records, size_t count)
 
 /*
  * Rows 3 to 6 under code 1: a refusal, or 0. The convex rule comes first: a
- * curve that is convex too is read by it. In one pass, the convex test as far
- * as it goes and the rising test from there on, which takes less time than to
- * test the accepted curve again.
+ * curve that is convex too is read by it. If that is asked for, one pass makes
+ * the convex test as far as it goes and the rising test from there on, which
+ * takes less time than to test an accepted curve again.
  */
 static inline int64_t scan_rising(const uint8_t *records, size_t count,
                                   uint32_t *rule)
 {
-    size_t run = convex_run(records, count);
+    size_t run = rule ? convex_run(records, count) : 0;
     if (run < count - 1)
         return scan(records, count, RISING, run);
     *rule = CONVEX;
@@ -247,8 +247,7 @@ static inline int64_t file_fault(const uint8_t *bytes, uint32_t *rule)
     if (count < 2 || count > 64)
         return refused(1, 0);
     if (shape == RISING)
-        return rule ? scan_rising(bytes + 7, count, rule)
-                    : scan(bytes + 7, count, RISING, 0);
+        return scan_rising(bytes + 7, count, rule);
     if (shape == CONVEX)
         return scan(bytes + 7, count, CONVEX, 0);
     if (shape == FALLING)
@@ -390,7 +389,7 @@ static inline size_t convex_run_of_lists(lists c)
 /* As for files. */
 static inline int64_t scan_rising_lists(lists c, uint32_t *rule)
 {
-    size_t run = convex_run_of_lists(c);
+    size_t run = rule ? convex_run_of_lists(c) : 0;
     if (run < c.count - 1)
         return scan_lists(c, RISING, run);
     *rule = CONVEX;
@@ -407,7 +406,7 @@ static inline int64_t lists_fault(lists c, size_t values_len,
     if (c.count < 2 || c.count > 64)
         return refused(1, 0);
     if (shape == RISING)
-        return rule ? scan_rising_lists(c, rule) : scan_lists(c, RISING, 0);
+        return scan_rising_lists(c, rule);
     if (shape == CONVEX)
         return scan_lists(c, CONVEX, 0);
     if (shape == FALLING)

@@ -68,6 +68,16 @@ def jump(rng, points, segment):
     return None
 
 
+def below_zero(rng, points, field):
+    """All moved down, so that the first area or the first value is below 0 and
+    the others are not."""
+    down = rng.randint(points[0][field] + 1,
+                       max(points[0][field] + 1, points[1][field]))
+    for at in range(len(points)):
+        points = off(points, at, field, -down)
+    return points
+
+
 def near(points, at):
     """The points next to one, and that one."""
     return points[max(0, at - 1):at + 2]
@@ -156,6 +166,19 @@ def few_points(rng):
                 yield from each_reading(rng, points, RISING, area)
 
 
+def faults(rng):
+    """Both at once but for a field past its limit, a changed value or slope,
+    or a first slope of -1, with which it is convex alone."""
+    points = any_both(rng)
+    for changed in (curves.past_limit(rng, points),
+                    curves.shapeless_points(rng, points),
+                    curves.changed(points, 0, 2, -1),
+                    below_zero(rng, points, 0), below_zero(rng, points, 1)):
+        area = curves.inner_area(rng, points)
+        for code in BOTH:
+            yield from all_calls(rng, changed, code, area)
+
+
 def mirrors(rng):
     """Falling and concave at once."""
     points = curves.mirrored(any_both(rng))
@@ -184,6 +207,7 @@ KINDS = [
     (one_segment, 'rising, not convex in one segment', 16000),
     (one_figure, 'rising, not convex by one figure', 12000),
     (few_points, 'rising, not convex by one figure: 2 to 4 points', 1000),
+    (faults, 'rising and convex but for a fault', 12000),
     (mirrors, 'falling and concave at once', 6000),
     (lines, 'lines under each code', 4000),
 ]
