@@ -108,14 +108,16 @@ def mirrored(points, tariff):
 # The code, and the rule that reads it; the name, and that of the mirrors.
 SHAPES = [(1, 1, rising, 'rising', 'falling'),
           (2, 2, convex, 'convex', 'concave'),
-          (1, 2, both, 'rising-convex', None), (1, 1, late, 'rising-late', None)]
+          (1, 2, both, 'rising-convex', None),
+          (1, 1, late, 'rising-late', None)]
 
 
 def written(path, points, code, rule):
     """Writes the file; not of a curve that is not accepted or not read so."""
     lists = list(zip(*points))
-    if (ref.check(*lists, code)[0], ref.rule_used(*lists, code)) != ('ok', rule):
-        sys.exit('curves.py: another rule: %s' % path)
+    accepted = ref.check(*lists, code)[0] == 'ok'
+    if not accepted or ref.rule_used(*lists, code) != rule:
+        sys.exit('curves.py: refused, or another rule: %s' % path)
     path.write_bytes(curve_file(points, code))
 
 

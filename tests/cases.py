@@ -45,7 +45,7 @@ CALLS = ['desk', 'desk_two', 'check', 'read', 'pair', 'sheet', 'open', 'write',
          'fill_slopes', 'import']
 DESKS = ('desk', 'desk_two')
 ON_FILES = (*DESKS, 'open')
-FILED = ('check', 'open', 'write', 'import')    # that take a code, and read none
+FILED = ('check', 'open', 'write', 'import')    # with a code, without a factor
 LIMITS = [(0, 20000), (0, 200000), (-10000, -1, 0, 1, 10000)]
 SLOPE_LIMITS = {1: (0, 1, 10000), 2: LIMITS[2], 3: (-10000, -1, 0),
                 4: LIMITS[2]}

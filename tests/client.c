@@ -436,7 +436,7 @@ static int report(unsigned long least)
     for (int call = 0; !some && call < CALLS; call++)
         if (called[call] < least / 30)
             faults += printf("  too few of %s\n", call_names[call]);
-    if (!some && alike < least / 30)
+    if (!some && alike < least / 60)
         faults += printf("  too few of curves under two codes\n");
     if (taken < least)
         faults += printf("  fewer than %lu cases\n", least);

@@ -187,7 +187,8 @@ def all_reads(points, shape, factors):
 
 # What K1 and K2 read before item 8, by the rising rule; and what the convex
 # rule reads there.
-BY_RISING, BY_CONVEX = [(525, 10229), (550, 10889)], [(525, 10182), (550, 10800)]
+BY_RISING = [(525, 10229), (550, 10889)]
+BY_CONVEX = [(525, 10182), (550, 10800)]
 
 
 def one_figure():

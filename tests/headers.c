@@ -199,7 +199,8 @@ static void at_once(void)
         int64_t answer = curve_pair(a, 2, v, 2, s[i], 2, CURVE_RISING, 500, 550,
                                     out, 3);
         expect("of a pair", answer == 3 && out[1] == at_550[i]);
-        answer = curve_sheet(a, 2, v, 2, s[i], 2, CURVE_RISING, 500, 50, out, 3);
+        answer = curve_sheet(a, 2, v, 2, s[i], 2, CURVE_RISING, 500, 50, out,
+                             3);
         expect("of a sheet", answer == 3 && out[1] == at_550[i]);
         answer = curve_write(a, 2, v, 2, s[i], 2, CURVE_RISING, file, 31);
         expect("filed", answer == 31 && file[5] == CURVE_RISING);

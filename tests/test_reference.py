@@ -350,8 +350,8 @@ def test_rule_used():
         (STEEP, 2), (K5, 2), (TURNED, 1), (flat(2), 2), (flat(64), 2),
         ([level, *STEEP], 2), ([*STEEP, line], 2), ([level, *STEEP, line], 2),
         # Straight, and with one slope the chord's.
-        ([(0, 0, 100), (100, 100, 100)], 2), ([(0, 0, 100), (100, 100, 101)], 1),
-        ([(0, 0, 99), (100, 100, 100)], 1), ([(0, 0, 99), (100, 100, 101)], 2),
+        ([(0, 0, 100), (100, 100, 100)], 2), ([(0, 0, 99), (100, 100, 101)], 2),
+        ([(0, 0, 100), (100, 100, 101)], 1), ([(0, 0, 99), (100, 100, 100)], 1),
         # The last segment, the first, and the one between them fails.
         ([*STEEP, (700, 24000, 9999)], 1), ([*STEEP, (700, 23999, 10000)], 1),
         ([*STEEP, (700, 24001, 10000)], 1), ([(400, 9999, 0), *STEEP], 1),
@@ -388,8 +388,9 @@ def test_rule_readings():
     expect('turned, 550', read(TURNED, 1, 550), ('ok', 13111))
     expect('turned, 575', read(TURNED, 1, 575), ('ok', 13771))
     expect('turned, concave', read(TURNED, 4, 550), ('ok', 13200))
-    always_3 = ref.p_over_q(10000, 14000, 100, Fraction(100), Fraction(0), 3, 50)
-    expect('r always 3', always_3, 13250)
+    d0, d1 = Fraction(100), Fraction(0)
+    expect('r always 3',
+           ref.p_over_q(10000, 14000, 100, d0, d1, 3, 50), 13250)
     # The mirror of a curve that is both is read by the falling rule.
     expect('falling', read(MIRROR_STEEP, 3, 550), ('ok', 200000 - 10889))
     expect('concave', read(MIRROR_STEEP, 4, 550), ('ok', 200000 - 10800))

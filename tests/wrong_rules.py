@@ -69,7 +69,8 @@ SEGMENTS = [
     '(a >= 0 && b > 0) || (a == 0 && b == 0)', 'a >= 0 && b >= 0',
     'a > 0 || (a == 0 && b == 0)', 'b > 0 || (a == 0 && b == 0)',
     # straight segments not, or by one side; level ones not
-    'a > 0 && b > 0', '(a > 0 && b > 0) || a == 0', '(a > 0 && b > 0) || b == 0',
+    'a > 0 && b > 0', '(a > 0 && b > 0) || a == 0',
+    '(a > 0 && b > 0) || b == 0',
     '(a > 0 && b > 0) || (a == 0 && b == 0 && rise)',
     # bent either way, the other way; the slopes alone; the chord in hundredths
     '(a > 0) == (b > 0)', 'a <= 0 && b <= 0', 'l.slope <= r.slope',
