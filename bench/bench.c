@@ -447,8 +447,8 @@ int main(int argc, char **argv)
             rows(&calls[k], argv[1]);
     printf("nanoseconds; ratio: archive / other, median of %d\n", REPETITIONS);
     printf("code 1: the convex rule reads rising-convex; the rising rule reads "
-           "rising,\nthe convex test failing early, and rising-late, failing "
-           "in the last segment alone\n");
+           "rising,\nwhich fails the convex test at once, and rising-late, "
+           "which fails it at the end\n");
     for (size_t k = 0; k < count; k++)
         print_range(&calls[k]);
     return 0;

@@ -8,10 +8,10 @@ slopes; extreme ones have gaps, values and slopes near the limits, as far as
 the number of points allows. Falling and concave curves are rising and convex
 ones upside down.
 
-Of code 1 there are three (item 8): rising ones, most of which fail the convex
-test in one of the first segments, and rising-late ones, which fail it in the
+Of code 1 there are three (item 8): rising curves, which fail the convex test
+in the first or the second segment, and rising-late ones, which fail it in the
 last segment alone, are read by the rising rule; rising-convex ones by the
-convex rule. None is written that is not so.
+convex rule. A curve that another rule reads is not written.
 """
 import random
 import sys

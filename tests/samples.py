@@ -20,6 +20,7 @@ from fractions import Fraction
 
 import curves
 import exact_fractions as ref
+import rule_kinds
 from curve_file import curve_file
 from triples import triples
 
@@ -293,6 +294,12 @@ def sheet_inputs():
             flipped[rng.randrange(len(data))] ^= 1 << rng.randrange(8)
             yield 'flipped %d' % index, bytes(flipped)
             yield 'cut %d' % index, data[:rng.randrange(len(data))]
+    for index in range(40):             # both tests, or but for one segment
+        points = rule_kinds.any_both(rng)
+        segment = rng.randrange(len(points) - 1)
+        missed = rule_kinds.jump(rng, points, segment) or points
+        for curve, shape in ((points, 1), (points, 2), (missed, 1)):
+            yield 'both %d as %d' % (index, shape), curve_file(curve, shape)
     for index in range(40):             # lines, many with a half every 50 tenths
         points = curves.straight_curve(rng)
         for shape in curves.SHAPES:

@@ -127,6 +127,9 @@ class Sheets(unittest.TestCase):
         for index in range(120):
             shape = 1 + index % 4
             self.expect(curve_file(curves.some_curve(rng, shape), shape))
+        for _ in range(20):
+            points = curves.rising_convex_curve(rng, curves.some_count(rng))
+            self.assertEqual(self.expect(curve_file(points, 1))[7:], self.expect(curve_file(points, 2))[7:])
         for index in range(20):             # lines, many with a half every 50 tenths
             self.expect(curve_file(curves.straight_curve(rng), 2 + index % 3))
 

@@ -114,12 +114,23 @@ def runs():
 
 SEGMENT = '''segment_factor(l, r, (%%(shape)s == %s && has_shape(l, r, %s) ?
             %s : %%(shape)s), %%(area)s)'''
-SHEET_FACTORS = 'fill_sheet(c, rule, '
+SHEET_FACTORS = '    fill_sheet(c, rule, '
+# By the segment of this area, for the other areas too.
+FIRST_READ = '''\
+    size_t at = 0;
+    while (at + 2 < c.count && c.areas[at + 1] <= %s)
+        at++;
+    if (shape == RISING)
+        rule = has_shape(point_at(c, at), point_at(c, at + 1), CONVEX) ? CONVEX
+                                                                       : shape;
+'''
 READS = RULED + REFUSED_FAULT + '    if (outside(c, area))'
 
 ONE_CALL = [
     # by the segment that is read
     *in_each_call(SEGMENT % ('RISING', 'CONVEX', 'CONVEX')),
+    (FORM_FACTOR, FIRST_READ % 'form' + FORM_FACTOR),
+    (SHEET_FACTORS, FIRST_READ % 'start' + SHEET_FACTORS),
     # the code that is filed
     (DESK_FACTOR, DESK_FACTOR.replace('rule', 'bytes[5]')),
     (TWO_FACTOR, TWO_FACTOR.replace('rule', 'bytes[5]')),
