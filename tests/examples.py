@@ -197,11 +197,11 @@ def one_figure():
     being the chord's, or the chord's being smaller than both; then the whole
     curve is read by the rising rule. With the right slope 50 r is 5/2 there,
     and 650 reads 138000/7."""
-    for area, value, slope, factors in (
-            (700, 24000, 10000, BY_CONVEX + [(650, 19000)]),
-            (700, 24000, 9999, BY_RISING), (700, 23999, 10000, BY_RISING),
-            (700, 24000, 5000, BY_RISING + [(650, 19714)])):
-        yield from all_reads(STEEP + [(area, value, slope)], 1, factors)
+    for value, slope, factors in (
+            (24000, 10000, BY_CONVEX + [(650, 19000)]),
+            (24000, 9999, BY_RISING), (23999, 10000, BY_RISING),
+            (24000, 5000, BY_RISING + [(650, 19714)])):
+        yield from all_reads(STEEP + [(700, value, slope)], 1, factors)
     yield from all_reads(STEEP + [(700, 24000, 10000)], 2,
                          BY_CONVEX + [(650, 19000)])
 

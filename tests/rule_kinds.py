@@ -6,7 +6,7 @@ every segment, and the rising rule reads one that fails it anywhere.
 """
 
 import curves
-from curves import (CONCAVE, CONVEX, FALLING, GAP_MAX, POINTS_MAX, RISING,
+from curves import (CONCAVE, CONVEX, FALLING, POINTS_MAX, RISING,
                     VALUE_MAX)
 from half_kinds import each_reading, fits
 from list_kinds import all_calls
@@ -70,7 +70,7 @@ def jump(rng, points, segment):
 
 def below_zero(rng, points, field):
     """All moved down, so that the first area or the first value is below 0 and
-    the others are not."""
+    a higher one after it is not."""
     down = rng.randint(points[0][field] + 1,
                        max(points[0][field] + 1, points[1][field]))
     for at in range(len(points)):
@@ -121,12 +121,23 @@ def each_count(rng):
                                     area)
 
 
+def readings_off(rng, count, segment):
+    """This segment alone fails, by one figure."""
+    for points in one_off(count, segment):
+        area = elsewhere(rng, points, segment)
+        yield from each_reading(rng, points, RISING, area)
+
+
 def each_segment(rng):
-    """Each of 63 segments is the only one that fails."""
+    """Each of 63 segments."""
     for segment in range(POINTS_MAX - 1):
-        for points in one_off(POINTS_MAX, segment):
-            area = elsewhere(rng, points, segment)
-            yield from each_reading(rng, points, RISING, area)
+        yield from readings_off(rng, POINTS_MAX, segment)
+
+
+def few_points(rng):
+    """Each of one to three segments."""
+    for count, segment in ((2, 0), (3, 0), (3, 1), (4, 0), (4, 1), (4, 2)):
+        yield from readings_off(rng, count, segment)
 
 
 def one_segment(rng):
@@ -155,15 +166,6 @@ def one_figure(rng):
         if fits(beside, RISING) and not fits(beside, CONVEX):
             yield from each_reading(rng, changed, RISING,
                                     curves.inner_area(rng, changed))
-
-
-def few_points(rng):
-    """Two to four points with a figure off by one, each figure."""
-    for segments in (1, 2, 3):
-        for segment in range(segments):
-            for points in one_off(segments + 1, segment):
-                area = elsewhere(rng, points, segment)
-                yield from each_reading(rng, points, RISING, area)
 
 
 def faults(rng):
@@ -204,9 +206,9 @@ KINDS = [
     (both, 'rising and convex at once', 16000),
     (each_count, 'rising and convex: 2 to 64 points', 500),
     (each_segment, 'rising, not convex in one of 63 segments', 500),
+    (few_points, 'rising, not convex in one of 1 to 3 segments', 1000),
     (one_segment, 'rising, not convex in one segment', 16000),
     (one_figure, 'rising, not convex by one figure', 12000),
-    (few_points, 'rising, not convex by one figure: 2 to 4 points', 1000),
     (faults, 'rising and convex but for a fault', 12000),
     (mirrors, 'falling and concave at once', 6000),
     (lines, 'lines under each code', 4000),
