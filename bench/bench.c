@@ -366,18 +366,18 @@ static void widen(call *c, const timing *t)
 
 static void print_head(void)
 {
-    printf("| %-16s | points | shape   | tariff  | archive |   plain | ratio "
+    printf("| %-16s | points | %-13s | tariff  | archive |   plain | ratio "
            "|  native | ratio |     GSL | ratio |\n"
-           "|------------------|--------|---------|---------|---------|"
+           "|------------------|--------|---------------|---------|---------|"
            "---------|-------|---------|-------|---------|-------|\n",
-           "call");
+           "call", "shape");
 }
 
 static void print_row(const char *name, const char *shape, int count,
                       const char *tariff, const timing *t)
 {
-    printf("| %-16s | %6d | %-7s | %-7s | %7.2f |", name, count, shape, tariff,
-           t->ns[ARCHIVE]);
+    printf("| %-16s | %6d | %-13s | %-7s | %7.2f |", name, count, shape,
+           tariff, t->ns[ARCHIVE]);
     for (int k = PLAIN; k < SIDES; k++)
         if (k < t->sides)
             printf(" %7.2f | %5.2f |", t->ns[k], t->ratio[k]);
@@ -402,8 +402,9 @@ static void print_range(const call *c)
 
 static void rows(call *c, const char *folder)
 {
-    static const char *const shapes[] = {"rising", "convex", "falling",
-                                         "concave"};
+    static const char *const shapes[] = {"rising",  "convex",
+                                         "falling", "concave",
+                                         "rising-convex", "rising-late"};
     static const char *const tariffs[] = {"typical", "extreme"};
     static const int counts[] = {2, 8, 64}, loops[] = {6, 3, 1};
     for (int n = 0; n < 3; n++)
@@ -426,11 +427,11 @@ static void rows(call *c, const char *folder)
 int main(int argc, char **argv)
 {
     call calls[] = {
-        CALL("desk reading", desk_reading, desk, CALLS, 4, 2),
-        CALL("desk reading two", desk_reading_two, desk_two, CALLS, 4, 2),
-        CALL("sheet entry", curve_sheet, sheet, CURVES, 4, 2),
-        CALL("read", curve_read, read, CALLS, 4, 2),
-        CALL("pair", curve_pair, pair, CALLS, 4, 1),
+        CALL("desk reading", desk_reading, desk, CALLS, 6, 2),
+        CALL("desk reading two", desk_reading_two, desk_two, CALLS, 6, 2),
+        CALL("sheet entry", curve_sheet, sheet, CURVES, 6, 2),
+        CALL("read", curve_read, read, CALLS, 6, 2),
+        CALL("pair", curve_pair, pair, CALLS, 6, 1),
         CALL("check", curve_check, check, CALLS, 4, 1),
         CALL("open", curve_open, open, CALLS, 4, 1),
         CALL("write", curve_write, write, CALLS, 4, 1),
@@ -445,6 +446,9 @@ int main(int argc, char **argv)
         if (calls[k].present)
             rows(&calls[k], argv[1]);
     printf("nanoseconds; ratio: archive / other, median of %d\n", REPETITIONS);
+    printf("code 1: the convex rule reads rising-convex; the rising rule reads "
+           "rising,\nwhich fails the convex test at once, and rising-late, "
+           "which fails it at the end\n");
     for (size_t k = 0; k < count; k++)
         print_range(&calls[k]);
     return 0;

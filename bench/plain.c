@@ -169,16 +169,16 @@ static inline int32_t segment_factor(point l, point r, uint32_t shape,
 
 /* ---- points in a file ---- */
 
-/* Rows 3 to 6: a refusal, or 0. */
+/* Rows 3 to 6 from point i on, all before it being good: a refusal, or 0. */
 static inline int64_t scan(const uint8_t *records, size_t count,
-                           uint32_t shape)
+                           uint32_t shape, size_t i)
 {
-    point l = load_point(records);
+    point l = load_point(records + 12 * i);
     int fault = point_fault(l, 0, 1);
     size_t shapeless = count;
     if (fault)
-        return refused(fault, 0);
-    for (size_t i = 1; i < count; i++) {
+        return refused(fault, i);
+    for (i++; i < count; i++) {
         point r = load_point(records + 12 * i);
         fault = point_fault(r, l.area, 0);
         if (fault)
@@ -188,6 +188,43 @@ static inline int64_t scan(const uint8_t *records, size_t count,
         l = r;
     }
     return shapeless < count ? refused(6, shapeless) : 0;
+}
+
+/*
+ * The last point up to which all points are good and all segments convex, the
+ * first slope being 0 or more. Then they rise too: no slope is below the one
+ * before it.
+ */
+static inline size_t convex_run(const uint8_t *records, size_t count)
+{
+    point l = load_point(records);
+    size_t i = 1;
+    if (point_fault(l, 0, 1) || l.slope < 0)
+        return 0;
+    for (; i < count; i++) {
+        point r = load_point(records + 12 * i);
+        if (point_fault(r, l.area, 0) || !has_shape(l, r, CONVEX))
+            break;
+        l = r;
+    }
+    return i - 1;
+}
+
+/*
+ * Rows 3 to 6 under code 1: a refusal, or 0. The convex rule comes first: a
+ * curve that is convex too is read by it. If that is asked for, one pass makes
+ * the convex test as far as it goes and the rising test from there on. With 64
+ * convex points a reading takes 0.7 of the time that it takes with a second
+ * pass after the check, with two that are not convex 1.1 of it.
+ */
+static inline int64_t scan_rising(const uint8_t *records, size_t count,
+                                  uint32_t *rule)
+{
+    size_t run = rule ? convex_run(records, count) : 0;
+    if (run < count - 1)
+        return scan(records, count, RISING, run);
+    *rule = CONVEX;
+    return 0;
 }
 
 /* Rows 9 and 10: a refusal, or 0. */
@@ -200,21 +237,24 @@ static inline int64_t head_fault(const uint8_t *bytes, size_t bytes_len)
     return 0;
 }
 
-/* Rows 1 to 6 of a file with a good head: a refusal, or 0. */
-static inline int64_t file_fault(const uint8_t *bytes)
+/*
+ * Rows 1 to 6 of a file with a good head: a refusal, or 0. A call that reads
+ * lends the shape code for *rule, where it finds the code of the rule.
+ */
+static inline int64_t file_fault(const uint8_t *bytes, uint32_t *rule)
 {
     size_t count = bytes[6];
     uint32_t shape = bytes[5];
     if (count < 2 || count > 64)
         return refused(1, 0);
     if (shape == RISING)
-        return scan(bytes + 7, count, RISING);
+        return scan_rising(bytes + 7, count, rule);
     if (shape == CONVEX)
-        return scan(bytes + 7, count, CONVEX);
+        return scan(bytes + 7, count, CONVEX, 0);
     if (shape == FALLING)
-        return scan(bytes + 7, count, FALLING);
+        return scan(bytes + 7, count, FALLING, 0);
     if (shape == CONCAVE)
-        return scan(bytes + 7, count, CONCAVE);
+        return scan(bytes + 7, count, CONCAVE, 0);
     return refused(2, 0);
 }
 
@@ -243,7 +283,8 @@ static inline int32_t desk(const uint8_t *bytes, size_t bytes_len,
     if (two ? scratch_len < 24 : scratch_len < 12 * count)
         return desk_refused(refused(11, 0));
     const uint8_t *records = bytes + 7;
-    fault = file_fault(bytes);
+    uint32_t rule = bytes[5];
+    fault = file_fault(bytes, &rule);
     if (fault)
         return desk_refused(fault);
     if (area < load32(records) || area > load32(records + 12 * (count - 1)))
@@ -251,14 +292,12 @@ static inline int32_t desk(const uint8_t *bytes, size_t bytes_len,
     const uint8_t *left = records + 12 * find_record(records, count, area);
     point l = load_point(left), r = load_point(left + 12);
     if (two) {
-        /* Taken first: the compiler cannot know that the copy leaves it. */
-        uint32_t shape = bytes[5];
         memcpy(scratch, left, 24);
-        return segment_factor(l, r, shape, area);
+        return segment_factor(l, r, rule, area);
     }
     /* Not memcpy: gcc 12 puts rep movs for it, which is slow to start. */
     memmove(scratch, records, 12 * count);
-    return segment_factor(l, r, bytes[5], area);
+    return segment_factor(l, r, rule, area);
 }
 
 int32_t plain_desk_reading(const uint8_t *bytes, size_t bytes_len,
@@ -286,7 +325,7 @@ int64_t plain_curve_open(const uint8_t *bytes, size_t bytes_len,
     size_t count = bytes[6];
     if (areas_len < count || values_len < count || slopes_len < count)
         return refused(11, 0);
-    fault = file_fault(bytes);
+    fault = file_fault(bytes, NULL);
     if (fault)
         return fault;
     for (size_t i = 0; i < count; i++) {
@@ -312,15 +351,15 @@ static inline point point_at(lists c, size_t i)
     return p;
 }
 
-/* Rows 3 to 6: a refusal, or 0. */
-static inline int64_t scan_lists(lists c, uint32_t shape)
+/* Rows 3 to 6 from point i on, all before it being good: a refusal, or 0. */
+static inline int64_t scan_lists(lists c, uint32_t shape, size_t i)
 {
-    point l = point_at(c, 0);
+    point l = point_at(c, i);
     int fault = point_fault(l, 0, 1);
     size_t shapeless = c.count;
     if (fault)
-        return refused(fault, 0);
-    for (size_t i = 1; i < c.count; i++) {
+        return refused(fault, i);
+    for (i++; i < c.count; i++) {
         point r = point_at(c, i);
         fault = point_fault(r, l.area, 0);
         if (fault)
@@ -332,22 +371,49 @@ static inline int64_t scan_lists(lists c, uint32_t shape)
     return shapeless < c.count ? refused(6, shapeless) : 0;
 }
 
-/* Rows 1 to 6: a refusal, or 0. */
+/* As for files. */
+static inline size_t convex_run_of_lists(lists c)
+{
+    point l = point_at(c, 0);
+    size_t i = 1;
+    if (point_fault(l, 0, 1) || l.slope < 0)
+        return 0;
+    for (; i < c.count; i++) {
+        point r = point_at(c, i);
+        if (point_fault(r, l.area, 0) || !has_shape(l, r, CONVEX))
+            break;
+        l = r;
+    }
+    return i - 1;
+}
+
+/* As for files. */
+static inline int64_t scan_rising_lists(lists c, uint32_t *rule)
+{
+    size_t run = rule ? convex_run_of_lists(c) : 0;
+    if (run < c.count - 1)
+        return scan_lists(c, RISING, run);
+    *rule = CONVEX;
+    return 0;
+}
+
+/* Rows 1 to 6: a refusal, or 0; and the rule, as for files. */
 static inline int64_t lists_fault(lists c, size_t values_len,
-                                  size_t slopes_len, uint32_t shape)
+                                  size_t slopes_len, uint32_t shape,
+                                  uint32_t *rule)
 {
     if (values_len != c.count || slopes_len != c.count)
         return refused(1, 0);
     if (c.count < 2 || c.count > 64)
         return refused(1, 0);
     if (shape == RISING)
-        return scan_lists(c, RISING);
+        return scan_rising_lists(c, rule);
     if (shape == CONVEX)
-        return scan_lists(c, CONVEX);
+        return scan_lists(c, CONVEX, 0);
     if (shape == FALLING)
-        return scan_lists(c, FALLING);
+        return scan_lists(c, FALLING, 0);
     if (shape == CONCAVE)
-        return scan_lists(c, CONCAVE);
+        return scan_lists(c, CONCAVE, 0);
     return refused(2, 0);
 }
 
@@ -374,7 +440,7 @@ int64_t plain_curve_check(const uint32_t *areas, size_t areas_len,
                           uint32_t shape)
 {
     lists c = {areas, values, slopes, areas_len};
-    int64_t fault = lists_fault(c, values_len, slopes_len, shape);
+    int64_t fault = lists_fault(c, values_len, slopes_len, shape, NULL);
     return fault ? fault : (int64_t)areas_len - 1;
 }
 
@@ -384,12 +450,13 @@ int64_t plain_curve_read(const uint32_t *areas, size_t areas_len,
                          uint32_t shape, uint32_t area)
 {
     lists c = {areas, values, slopes, areas_len};
-    int64_t fault = lists_fault(c, values_len, slopes_len, shape);
+    uint32_t rule = shape;
+    int64_t fault = lists_fault(c, values_len, slopes_len, shape, &rule);
     if (fault)
         return fault;
     if (outside(c, area))
         return refused(7, 0);
-    return factor(c, shape, area);
+    return factor(c, rule, area);
 }
 
 int64_t plain_curve_pair(const uint32_t *areas, size_t areas_len,
@@ -401,15 +468,16 @@ int64_t plain_curve_pair(const uint32_t *areas, size_t areas_len,
     lists c = {areas, values, slopes, areas_len};
     if (out_len < 3)
         return refused(11, 0);
-    int64_t fault = lists_fault(c, values_len, slopes_len, shape);
+    uint32_t rule = shape;
+    int64_t fault = lists_fault(c, values_len, slopes_len, shape, &rule);
     if (fault)
         return fault;
     if (outside(c, form))
         return refused(7, 0);
     if (outside(c, plan))
         return refused(7, 1);
-    out[0] = factor(c, shape, form);
-    out[1] = factor(c, shape, plan);
+    out[0] = factor(c, rule, form);
+    out[1] = factor(c, rule, plan);
     out[2] = out[1] - out[0];
     return 3;
 }
@@ -451,7 +519,8 @@ int64_t plain_curve_sheet(const uint32_t *areas, size_t areas_len,
                           int32_t *out, size_t out_len)
 {
     lists c = {areas, values, slopes, areas_len};
-    int64_t fault = lists_fault(c, values_len, slopes_len, shape);
+    uint32_t rule = shape;
+    int64_t fault = lists_fault(c, values_len, slopes_len, shape, &rule);
     if (fault)
         return fault;
     if (step == 0 || out_len == 0 || out_len > 1024)
@@ -461,7 +530,7 @@ int64_t plain_curve_sheet(const uint32_t *areas, size_t areas_len,
     uint64_t last = start + (uint64_t)step * (out_len - 1);
     if (last > areas[areas_len - 1])
         return refused(7, (areas[areas_len - 1] - start) / step + 1);
-    fill_sheet(c, shape, start, step, out, out_len);
+    fill_sheet(c, rule, start, step, out, out_len);
     return (int64_t)out_len;
 }
 
@@ -471,7 +540,7 @@ int64_t plain_curve_write(const uint32_t *areas, size_t areas_len,
                           uint32_t shape, uint8_t *out, size_t out_len)
 {
     lists c = {areas, values, slopes, areas_len};
-    int64_t fault = lists_fault(c, values_len, slopes_len, shape);
+    int64_t fault = lists_fault(c, values_len, slopes_len, shape, NULL);
     if (fault)
         return fault;
     size_t length = 7 + 12 * c.count;

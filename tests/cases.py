@@ -34,6 +34,8 @@ import half_kinds
 import import_kinds
 import import_notes
 import list_kinds
+import rule_kinds
+import rule_notes
 import slope_kinds
 import two_kinds
 
@@ -43,11 +45,14 @@ CALLS = ['desk', 'desk_two', 'check', 'read', 'pair', 'sheet', 'open', 'write',
          'fill_slopes', 'import']
 DESKS = ('desk', 'desk_two')
 ON_FILES = (*DESKS, 'open')
+FILED = ('check', 'open', 'write', 'import')    # with a code, without a factor
 LIMITS = [(0, 20000), (0, 200000), (-10000, -1, 0, 1, 10000)]
 SLOPE_LIMITS = {1: (0, 1, 10000), 2: LIMITS[2], 3: (-10000, -1, 0),
                 4: LIMITS[2]}
 SHAPES = (1, 2, 3, 4)
 READING = (*DESKS, 'read', 'pair', 'sheet')
+NAMES = (*READING, 'form', 'plan')      # of what reads a factor
+RULES_NOTED = 40                # of a sheet's entries
 HEAD = struct.Struct('<BBB3I4Iq')
 PERIODS = [bytes(1 + (fill + 31 * i) % 255 for i in range(255))
            for fill in range(256)]
@@ -198,7 +203,7 @@ def areas_read(call, arguments):
     return arguments[2:4]                       # read, pair
 
 
-def bend(lists, shape, area):
+def bend(lists, rule, area):
     """Of the segment read: straight, curved, or how far (b t)^2 goes."""
     areas, values, slopes = lists
     left = ref.segment_read(areas, area)
@@ -207,37 +212,43 @@ def bend(lists, shape, area):
     b = abs(rise - gap * slopes[left])
     if b == 0 and rise == gap * slopes[left + 1]:
         return 'straight'
-    if shape in (ref.RISING, ref.FALLING):
+    if rule in (ref.RISING, ref.FALLING):
         return 'curved'
     if b * gap < 2**32:
         return 'narrow'
     return 'middling' if b * t < 2**32 else 'wide'
 
 
-def noted_of_half(call, names, shape, value, kind):
+def noted_of_half(call, names, rule, value, kind):
     """An exact half, or a value less than a thousandth off one: by whom it was
-    read, with the parity of the unit below, and on which kind of segment."""
+    read, with the parity of the unit below, and on which kind of segment. The
+    rule with its code."""
     off = value % 1 - Fraction(1, 2)
     odd = value // 1 % 2
     if off == 0:
         where = 'below' if value < 0 else 'above' if value > 200000 else 'amid'
         for name in names:
-            yield name, 'half', shape, odd, where
-        yield 'half', shape, odd, kind
+            yield name, 'half', rule, odd, where
+        yield 'half', rule, odd, kind
     elif abs(off) < Fraction(1, 1000):
-        yield 'beside', shape, odd, off > 0, kind
-        yield call, 'beside', shape, odd, off > 0
+        yield 'beside', rule, odd, off > 0, kind
+        yield call, 'beside', rule, odd, off > 0
 
 
 def noted_of_reading(call, arguments):
-    """Exact halves, values beside them, and factors that no value can have."""
+    """Exact halves, values beside them, factors that no value can have, and
+    the rule."""
     lists, shape = lists_of(call, arguments), curve_of(call, arguments)[0]
+    rule = ref.rule_used(*lists, shape)
     for index, area in enumerate(areas_read(call, arguments)):
         value = ref.exact_value(*lists, shape, area)
         names = [call, ('form', 'plan')[index]] if call == 'pair' else [call]
         if value.denominator > 1:
-            yield from noted_of_half(call, names, shape, value,
-                                     bend(lists, shape, area))
+            yield from noted_of_half(call, names, (shape, rule), value,
+                                     bend(lists, rule, area))
+        if index < RULES_NOTED:
+            for note in rule_notes.noted(lists, shape, area, value):
+                yield from [(name, *note) for name in names]
         if value < 0:
             yield call, 'below', shape
         if value > 200000:
@@ -341,6 +352,9 @@ def noted(call, arguments, answer):
         yield 'entries', result
     if call in ('open', 'write', 'fill_slopes', 'import'):
         yield from limits_of(call, arguments)
+    if call in FILED:
+        lists, shape = lists_of(call, arguments), curve_of(call, arguments)[0]
+        yield call, 'rule', shape, ref.rule_used(*lists, shape)
 
 
 def wanted_of_limits():
@@ -356,21 +370,22 @@ def wanted_of_limits():
 
 def wanted_of_halves():
     """What must have been seen of halves, and of values beside them: of each
-    shape, with an even unit below and above, and wherever they can be."""
-    for shape, odd in itertools.product(SHAPES, (0, 1)):
-        kinds = ('narrow', 'middling', 'wide') if shape in (2, 4) else (
+    rule, with an even unit below and above, and wherever they can be."""
+    for rule, odd in itertools.product(rule_notes.RULES, (0, 1)):
+        shape, used = rule
+        kinds = ('narrow', 'middling', 'wide') if used in (2, 4) else (
             'curved',)
-        for name in (*READING, 'form', 'plan'):
-            yield name, 'half', shape, odd, 'amid'
+        for name in NAMES:
+            yield name, 'half', rule, odd, 'amid'
             if shape in (2, 4):
-                yield name, 'half', shape, odd, {2: 'below', 4: 'above'}[shape]
+                yield name, 'half', rule, odd, {2: 'below', 4: 'above'}[shape]
         for kind in ('straight', *kinds):
-            yield 'half', shape, odd, kind
+            yield 'half', rule, odd, kind
         for above in (False, True):
             for call in READING:
-                yield call, 'beside', shape, odd, above
+                yield call, 'beside', rule, odd, above
             for kind in kinds:
-                yield 'beside', shape, odd, above, kind
+                yield 'beside', rule, odd, above, kind
 
 
 def wanted_of_reading():
@@ -379,6 +394,10 @@ def wanted_of_reading():
     yield from wanted_of_halves()
     for call in READING:
         yield from [(call, 'below', 2), (call, 'above', 4)]
+    for name, note in itertools.product(NAMES, rule_notes.wanted()):
+        yield name, *note
+    for call, rule in itertools.product(FILED, rule_notes.RULES):
+        yield call, 'rule', *rule
     for shapes in ((1,), (2,), (3,), (4,), (1, 2), (1, 4), (2, 3), (3, 4),
                    (1, 2, 4), (2, 3, 4), SHAPES):
         yield 'fits', *shapes
@@ -503,7 +522,7 @@ def on_files(kind):
 
 KINDS = [(on_files(kind), name, 9 * least // 4)
          for kind, name, least in file_kinds.KINDS]
-KINDS += half_kinds.KINDS
+KINDS += half_kinds.KINDS + rule_kinds.KINDS
 KINDS += list_kinds.KINDS + slope_kinds.KINDS + two_kinds.KINDS
 KINDS += import_kinds.KINDS
 

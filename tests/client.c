@@ -13,6 +13,7 @@
  * must be the file that went in, and the same lists. What was imported, or
  * refused by rows 1 to 6, is so by Check too. Where the scratch is long enough,
  * a desk reading gives the number that the other one gives, and Open and Read.
+ * Points that are accepted under code 1 and under code 2 read alike under both.
  * Slopes that were filled must be accepted, and be the same whatever the list
  * held before.
  *
@@ -32,7 +33,7 @@
 
 enum { NUMBER_MAX = 14, SHOWN = 5, ENTRIES_SHOWN = 70, VALUE_MAX = 200000 };
 
-static unsigned long ran[KINDS_MAX], failures, below_zero, high, filled;
+static unsigned long ran[KINDS_MAX], failures, below_zero, high, filled, alike;
 static unsigned long called[CALLS], refusals[CALLS][NUMBER_MAX + 1];
 static int use_heap, some, first;
 static test_case current;
@@ -152,12 +153,52 @@ static int agrees(int64_t desk, int64_t other)
     return desk == other;
 }
 
+/* The same number if code 1 of the file is 2, or refusal 6. */
+static int desk_reads_alike(const test_case *c, const uint8_t *file,
+                            int64_t desk)
+{
+    uint8_t other[CURVE_FILE_MAX], scratch[DESK_SCRATCH_MAX];
+    size_t n = c->length[0];
+    if (DESK_IS_REFUSED(desk) || file[5] != CURVE_RISING || n > sizeof other)
+        return 1;
+    memcpy(other, file, n);
+    other[5] = CURVE_CONVEX;
+    int64_t read =
+        (c->call == DESK ? desk_reading : desk_reading_two)(
+            other, n, c->number[0], scratch, sizeof scratch);
+    alike += read == desk;
+    return read == desk || read == -1000000 - DESK_REFUSED_SEGMENT;
+}
+
 static void check_desk(const test_case *c, const uint8_t *file, int64_t desk)
 {
+    if (!desk_reads_alike(c, file, desk))
+        show(c, desk, "under code 2 it reads something else", -1);
     if (!agrees(desk, opened_and_read(c, file)))
         show(c, desk, "Open and Read say something else", -1);
     if (!agrees(desk, other_desk(c, file)))
         show(c, desk, "the other desk reading says something else", -1);
+}
+
+/* The same answer and list under code 2 as under 1, if it is accepted so. */
+static int reads_alike(const test_case *c, uint8_t *const list[], int64_t got)
+{
+    test_case other = *c;
+    if ((c->call != READ && c->call != PAIR && c->call != SHEET) ||
+        c->number[0] != CURVE_RISING || got != c->wanted ||
+        CURVE_IS_REFUSED(got))
+        return 1;
+    other.number[0] = CURVE_CONVEX;
+    other.call = CHECK;
+    if (CURVE_IS_REFUSED(invoke(&other, list)))
+        return 1;
+    other.call = c->call;
+    alike++;
+    if (c->call == READ)
+        return invoke(&other, list) == got;
+    fill_list(list[3], c->size[3], c->fill);
+    return invoke(&other, list) == got &&
+           memcmp(list[3], c->list[3], c->size[3]) == 0;
 }
 
 /* The bytes that were written open as the lists that went in. */
@@ -313,6 +354,8 @@ static void run_case(const test_case *c, int where)
     compare(c, got, list);
     if (c->call == FILL_SLOPES)
         check_filled(c, list, got);
+    if (!reads_alike(c, list, got))
+        show(c, got, "under code 2 it reads something else", -1);
     if (!guards_are_whole(c, where, list))
         show(c, got, "entries beside a list were changed", -1);
     if (is_desk(c->call))
@@ -386,12 +429,15 @@ static int report(unsigned long least)
         printf("  %8lu  %s\n", ran[k], names[k]);
     int missing = report_calls();
     printf("  %8lu  in all; %lu factors read below zero, %lu above 200,000; "
-           "%lu entries of sheets\n", taken, below_zero, high, filled);
+           "%lu entries of sheets; %lu read alike under codes 1 and 2\n", taken,
+           below_zero, high, filled, alike);
     if (!some && missing > 0)
         faults += printf("  an answer that a call can give was not seen\n");
     for (int call = 0; !some && call < CALLS; call++)
         if (called[call] < least / 30)
             faults += printf("  too few of %s\n", call_names[call]);
+    if (!some && alike < least / 60)
+        faults += printf("  too few of curves under two codes\n");
     if (taken < least)
         faults += printf("  fewer than %lu cases\n", least);
     if (failures > 0)

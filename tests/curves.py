@@ -133,11 +133,11 @@ def convex_step(rng, gap, slope, spread):
     return right, rng.choice([least, most, rng.randint(least, most)])
 
 
-def convex_chain(rng, count, style):
+def convex_chain(rng, count, style, lowest):
     """Gaps, rises and slopes from the left, until one does not fit."""
     spread = rng.choice([1, 20, 300, 3000, 20000])
-    slope = rng.choice([-SLOPE_MAX, -spread, 0, rng.randint(-SLOPE_MAX, 9000)])
-    slope = max(slope, -SLOPE_MAX)
+    slope = rng.choice([-SLOPE_MAX, -spread, 0, rng.randint(lowest, 9000)])
+    slope = max(slope, lowest)
     gaps, rises, slopes = [], [], [slope]
     height = low = high = 0
     room = AREA_MAX
@@ -158,11 +158,12 @@ def convex_chain(rng, count, style):
     return gaps, rises, slopes
 
 
-def convex_curve(rng, count):
-    """Up to `count` points: as many as fit the limits."""
+def convex_curve(rng, count, lowest=-SLOPE_MAX):
+    """Up to `count` points, as many as fit the limits; no slope is below the
+    lowest."""
     while True:
         style = rng.choice(['tight', 'limit', 'even', 'loose'])
-        gaps, rises, slopes = convex_chain(rng, count, style)
+        gaps, rises, slopes = convex_chain(rng, count, style, lowest)
         if gaps:
             break
     heights = running(0, rises)
@@ -178,6 +179,11 @@ def gentle_convex_curve(rng, count):
         points = convex_curve(rng, count)
         if len(points) == count:
             return points
+
+
+def rising_convex_curve(rng, count):
+    """Both at once, up to `count` points: convex, no slope below 0."""
+    return convex_curve(rng, count, lowest=0)
 
 
 # ---- falling and concave curves ----

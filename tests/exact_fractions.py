@@ -101,8 +101,9 @@ def exact_value(areas, values, slopes, shape, area):
     Only for an accepted curve and an area from its first point's to its
     last point's (document 01, The words of the third demand).
     """
+    rule = rule_used(areas, values, slopes, shape)
     segment = segment_read(areas, area)
-    return segment_value(areas, values, slopes, shape, segment, area)
+    return segment_value(areas, values, slopes, rule, segment, area)
 
 
 # ---- Document 01, Rounding; document 02, item 6: halves to the even unit ----
@@ -137,6 +138,23 @@ def has_shape(areas, values, slopes, shape, segment):
     if h * slopes[left] < 100 * F < h * slopes[right]:           # (3.22)
         return True
     return h * slopes[left] == 100 * F == h * slopes[right]
+
+
+# ---- Document 02, item 8: rising and convex at once ----
+
+@remembered
+def rule_used(areas, values, slopes, shape):
+    """The shape code by whose rule an accepted curve is read.
+
+    The convex rule comes first: under code 1 a curve that passes both tests
+    is read by it, and one that fails the convex test anywhere by the rising
+    rule. Codes 2, 3 and 4 are not affected.
+    """
+    if shape == RISING and all(
+            has_shape(areas, values, slopes, CONVEX, segment)
+            for segment in range(len(areas) - 1)):
+        return CONVEX
+    return shape
 
 
 # ---- Document 01, Refusals and their places ----

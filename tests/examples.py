@@ -1,8 +1,9 @@
 """Document 01's examples as cases for client.c, to standard output.
 
 The expected answers are those that document 01 states, and document 02 of the
-file that is written, of the second desk reading, of halves and of triples;
-filled slopes, and falling and concave curves, are worked out by hand. If
+file that is written, of the second desk reading, of halves, of triples and of
+curves that are rising and convex at once; filled slopes, falling and concave
+curves, and those that fail one test are worked out by hand. If
 exact_fractions.py gives another, it is said and the exit status is 1.
 """
 
@@ -15,6 +16,8 @@ from triples import triples
 
 FILL = 7
 STEEP = [(500, 10000, 0), (600, 14000, 10000)]
+# STEEP turned round: its slopes are on the wrong sides of the chord's 40.
+TURNED = [(500, 10000, 10000), (600, 14000, 0)]
 # STEEP upside down: 24,000 less its values.
 DOWN = [(500, 14000, 0), (600, 10000, -10000)]
 HIGH = [(0, 200000, 10000), (2000, 200000, -10000)]
@@ -32,13 +35,15 @@ def refusal(number, place):
 # ---- cases: call, arguments, answer, written lists (None: as found) ----
 
 def reads(points, shape, area, factor):
-    """By each call that reads a factor, of two points."""
+    """By each call that reads a factor."""
     lists, data = curves.lists(points), curve_file(points, shape)
+    left = max(at for at in range(len(points) - 1) if points[at][0] <= area)
     yield 'read', (lists, shape, area), factor, None
     yield 'pair', (lists, shape, area, area, 3), 3, [[factor, factor, 0]]
     yield 'sheet', (lists, shape, area, 1, 1), 1, [[factor]]
     yield 'desk', (data, area, len(data) - 7), factor, [data[7:]]
-    yield 'desk_two', (data, area, 24), factor, [data[7:]]
+    yield ('desk_two', (data, area, 24), factor,
+           [data[7 + 12 * left:31 + 12 * left]])
 
 
 def refused(points, shape, area, number, place):
@@ -104,7 +109,7 @@ def two_records():
     left, right = data[7:31], data[19:43]
     for area, factor, records in (
             (400, 10000, left), (401, 10000, left), (499, 10000, left),
-            (500, 10000, right), (525, 10229, right), (550, 10889, right),
+            (500, 10000, right), (525, 10182, right), (550, 10800, right),
             (600, 14000, right)):
         yield 'desk_two', (data, area, 24), factor, [records]
         for length in (25, 35, 36, 40):
@@ -159,18 +164,68 @@ def halves():
 
 def bent_halves():
     """Item 6 on bent segments. In the middle a segment with the slopes 0 and
-    twice its chord's has risen by a quarter, and a parabola is half as far off
-    its chord as the end tangents there."""
-    for more, rising, falling, convex, concave in (
+    twice its chord's has risen by a quarter, by either rule, and with them
+    exchanged by three quarters; a parabola is half as far off its chord as the
+    end tangents there."""
+    for more, quarter, last, convex, concave in (
             (0, 0, 2, -2, 2), (1, 2, 2, 0, 2), (2, 2, 4, 0, 4), (3, 4, 4, 2, 4)):
         low, high = more, more + 2
-        yield from reads([(0, low, 0), (2, high, 200)], 1, 1, rising)
-        yield from reads([(0, high, 0), (2, low, -200)], 3, 1, falling)
+        yield from reads([(0, low, 0), (2, high, 200)], 1, 1, quarter)
+        yield from reads([(0, low, 200), (2, high, 0)], 1, 1, last)
+        yield from reads([(0, high, 0), (2, low, -200)], 3, 1, last)
         yield from reads([(0, more, -300), (2, more, 300)], 2, 1, convex)
         yield from reads([(0, more, 300), (2, more, -300)], 4, 1, concave)
         top = 200000 - more
         yield from reads([(0, top, 300), (2, top, -300)], 4, 1,
                          200000 - convex)
+
+
+def all_reads(points, shape, factors):
+    for area, factor in factors:
+        yield from reads(points, shape, area, factor)
+
+
+# What K1 and K2 read before item 8, by the rising rule; and what the convex
+# rule reads there.
+BY_RISING = [(525, 10229), (550, 10889)]
+BY_CONVEX = [(525, 10182), (550, 10800)]
+
+
+def one_figure():
+    """Item 8: a segment after K1 with K1's last slope, 100, as its chord's: it
+    is straight. With one figure off by one it is not convex, one slope alone
+    being the chord's, or the chord's being smaller than both; then the whole
+    curve is read by the rising rule. With the right slope 50 r is 5/2 there,
+    and 650 reads 138000/7."""
+    for value, slope, factors in (
+            (24000, 10000, BY_CONVEX + [(650, 19000)]),
+            (24000, 9999, BY_RISING), (23999, 10000, BY_RISING),
+            (24000, 5000, BY_RISING + [(650, 19714)])):
+        yield from all_reads(STEEP + [(700, value, slope)], 1, factors)
+    yield from all_reads(STEEP + [(700, 24000, 10000)], 2,
+                         BY_CONVEX + [(650, 19000)])
+
+
+def one_segment():
+    """Item 8: K1 turned round is no convex segment. 100 before K1 it reads
+    4,000 less than at its own areas; and between two of K1."""
+    before = [(400, 6000, 10000)] + STEEP
+    yield from all_reads(before, 1, BY_RISING + [(450, 9111), (475, 9771)])
+    between = [(400, 9000, 0), (500, 13000, 10000), (600, 17000, 0),
+               (700, 21000, 10000)]
+    yield from all_reads(between, 1, [(425, 9229), (450, 9889), (550, 16111),
+                                      (575, 16771), (625, 17229),
+                                      (650, 17889)])
+
+
+def filed():
+    """Item 8 is of readings: the code that is filed stays, and code 1 asks for
+    the rising test alone."""
+    for points in (STEEP, TURNED, STEEP + [(700, 24000, 5000)]):
+        yield from passes(points, 1)
+    yield from passes(STEEP, 2)
+    yield from not_accepted(TURNED, 2, 6, 0)
+    yield from not_accepted(STEEP + [(700, 24000, 5000)], 2, 6, 1)
 
 
 def beyond_the_values():
@@ -276,8 +331,8 @@ def row_14():
 
 EXAMPLES = [
     # Readings to prove.
-    ('K1: 550 reads 10,889', reads(STEEP, 1, 550, 10889)),
-    ('K2: 525 reads 10,229', reads(STEEP, 1, 525, 10229)),
+    ('K1: 550 reads 10,800', reads(STEEP, 1, 550, 10800)),
+    ('K2: 525 reads 10,182', reads(STEEP, 1, 525, 10182)),
     ('K3: 550 reads 10,800', reads(STEEP, 2, 550, 10800)),
     ('K4: 525 reads 10,182', reads(STEEP, 2, 525, 10182)),
     ('K5: 501 reads 10,020',
@@ -299,6 +354,15 @@ EXAMPLES = [
     ('64 points pass', passes(flat(64, 1), 1)),
     ('65 points: refused 1', not_accepted(flat(65, 1), 1, 1, 0)),
     ('a sheet of 1,024 entries passes, 1,025: refused 8', sheet_entries()),
+    # Rising and convex at once.
+    ('118000/9 reads 13,111, rising', reads(TURNED, 1, 550, 13111)),
+    ('96400/7 reads 13,771, rising', reads(TURNED, 1, 575, 13771)),
+    ('the same points, concave', reads(TURNED, 4, 550, 13200)),
+    ('K5 under 2', reads([(500, 10000, 2000), (600, 14000, 6000)], 2, 501,
+                         10020)),
+    ('three points, the last segment by one figure', one_figure()),
+    ('one segment, the first and an inner one', one_segment()),
+    ('what is filed', filed()),
     # The curve file.
     ('the file of 31 bytes', file_31_bytes()),
     # Halves.

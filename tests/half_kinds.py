@@ -9,7 +9,9 @@ A segment is (gap, rise, left slope, right slope), of a rising or a convex
 curve; their mirrors are falling and concave. t is an area's distance from its
 left end, u from its right one. With b = 100 * rise - gap * left slope and a =
 gap * right slope - 100 * rise a convex segment is (b t)^2 / (gap (a u + b t))
-hundredths above its left tangent.
+hundredths above its left tangent. Which rule reads a segment depends on its
+whole curve (item 8): the curves made here are read by the rule for which the
+half was made, under either code where both lead to it.
 """
 
 import heapq
@@ -17,12 +19,13 @@ import math
 from fractions import Fraction
 
 import curves
+import exact_fractions as ref
 from curve_file import curve_file
 from curves import (AREA_MAX, CONCAVE, CONVEX, FALLING, GAP_MAX, RISING,
                     SLOPE_MAX, VALUE_MAX)
 
 
-# ---- segments with a half: (segment, shape, t), or None if there is none ----
+# ---- segments with a half: (segment, rule, t), or None if there is none ----
 
 def straight(rng):
     """slope * t is 50 more than a multiple of 100 half way between two areas
@@ -37,8 +40,8 @@ def straight(rng):
     if gap > GAP_MAX:
         return None
     t = period // 2 + period * rng.randrange(gap // period)
-    shape = rng.choice([RISING, CONVEX]) if slope > 0 else CONVEX
-    return (gap, gap * slope // 100, slope, slope), shape, t
+    rule = rng.choice([RISING, CONVEX]) if slope > 0 else CONVEX
+    return (gap, gap * slope // 100, slope, slope), rule, t
 
 
 def curved(rng):
@@ -63,10 +66,11 @@ def curved(rng):
              100 * rise * j // (m * gap)), RISING, p * gap // q)
 
 
-def bent(rng, wide=False):
+def bent(rng, wide=False, lowest=-SLOPE_MAX):
     """Convex. At p / q of the gap, a and b in a ratio of small numbers: a, b
     and the slopes' difference are multiples of the least that are whole, and
-    the left slope is sought. Wide: a long gap, and slopes far apart."""
+    the left slope is sought, from the lowest one on. Wide: a long gap, and
+    slopes far apart."""
     q = rng.randint(2, 8)
     p, most = rng.randint(1, q - 1), GAP_MAX // q
     n = rng.randint(3 * most // 4, most) if wide else rng.choice(
@@ -77,7 +81,7 @@ def bent(rng, wide=False):
     square, divisor = (b * t)**2, gap * (a * (gap - t) + b * t)
     least = math.lcm(divisor // math.gcd(divisor, square),
                      gap // math.gcd(gap, a + b))
-    most = 2 * SLOPE_MAX * gap // ((a + b) * least)
+    most = (SLOPE_MAX - lowest) * gap // ((a + b) * least)
     if most == 0:
         return None
     times = least * rng.randint(max(1, most // 2) if wide else 1, most)
@@ -85,7 +89,7 @@ def bent(rng, wide=False):
     lefts = [slope for least in range(100)
              if (times * b + gap * least) % 100 == 0
              and (least * t + above) % 100 == 50
-             for slope in range(least - SLOPE_MAX, SLOPE_MAX - apart + 1, 100)]
+             for slope in range(least + lowest, SLOPE_MAX - apart + 1, 100)]
     if not lefts:
         return None
     left = rng.choice(lefts)
@@ -95,6 +99,11 @@ def bent(rng, wide=False):
 
 def wide_bent(rng):
     return bent(rng, wide=True)
+
+
+def climbing(rng):
+    """Convex and rising at once."""
+    return bent(rng, wide=rng.random() < 0.5, lowest=0)
 
 
 def made(rng, make):
@@ -107,11 +116,11 @@ def made(rng, make):
 
 # ---- segments with a value next to a half ----
 
-def off_half(segment, shape, t):
+def off_half(segment, rule, t):
     """How far the value is above a half, in twice the unit; -1 to 1."""
     gap, rise, left, right = segment
     u = gap - t
-    if shape == RISING:
+    if rule == RISING:
         g, e0, e1 = 100 * rise, gap * left, gap * right
         over = rise * t * (g * t + e0 * u)
         whole = g * (t * t + u * u) + (e0 + e1) * t * u
@@ -149,18 +158,19 @@ def short_bent(rng):
 def long_bent(rng):
     """(b t)^2 mostly beyond 64 bits."""
     gap = rng.choice([GAP_MAX, rng.randint(900, GAP_MAX)])
-    left = rng.randint(-SLOPE_MAX, 0)
+    left = rng.choice([rng.randint(-SLOPE_MAX, 0),
+                       rng.randint(0, SLOPE_MAX // 2)])
     right = rng.randint(left + SLOPE_MAX // 2, SLOPE_MAX)
     rise = (gap * (left + right) // 2 + rng.randint(
         -gap * (right - left) // 4, gap * (right - left) // 4)) // 100
     return (gap, rise, left, right), CONVEX
 
 
-def nearest(segment, shape, number):
+def nearest(segment, rule, number):
     """The distances whose values are nearest to a half, on either side."""
     by_distance = []
     for t in range(1, segment[0]):
-        off = off_half(segment, shape, t)
+        off = off_half(segment, rule, t)
         if off != 0:
             by_distance.append((abs(off), t))
     return [t for _, t in heapq.nsmallest(number, by_distance)]
@@ -169,10 +179,10 @@ def nearest(segment, shape, number):
 def hardly_off(rng):
     """A short bent segment with a value off a half by less than a unit over
     200 times the gap: after a division by a u + b t no other one shows it."""
-    segment, shape = short_bent(rng)
+    segment, rule = short_bent(rng)
     for t in range(1, segment[0]):
-        if 0 < abs(off_half(segment, shape, t)) < 1 / (100 * segment[0]):
-            return segment, shape, t
+        if 0 < abs(off_half(segment, rule, t)) < 1 / (100 * segment[0]):
+            return segment, rule, t
     return None
 
 
@@ -204,24 +214,50 @@ def longer(rng, points):
     return points
 
 
-def curve_of(rng, segment, shape):
-    """(points, shape, left area of the segment): low, high, or anywhere; the
-    other way up half the time."""
+def fits(points, shape):
+    """Whether every segment has the shape."""
+    return all(ref.has_shape(*zip(*points), shape, segment)
+               for segment in range(len(points) - 1))
+
+
+def bent_back(rng, points):
+    """The points and one more, where the slope is 0: a rising segment that
+    fails the convex test. Without room for it nothing."""
+    area, value, _ = points[-1]
+    if value == VALUE_MAX:
+        return None
+    return points + [(area + rng.randint(1, GAP_MAX),
+                      rng.randint(value + 1, VALUE_MAX), 0)]
+
+
+def filed(rng, points, rule):
+    """(points, code), read by this rule; or the other way up, by its mirror,
+    half the time and where there is no room."""
+    upright, codes = points, [RISING]
+    if rule == CONVEX:
+        codes = [code for code in (RISING, CONVEX) if fits(points, code)]
+    elif fits(points, CONVEX):
+        upright = bent_back(rng, points)
+    if upright and rng.random() < 0.5:
+        return upright, rng.choice(codes)
+    top = max(value for _, value, _ in points)
+    total = rng.choice([VALUE_MAX, VALUE_MAX, VALUE_MAX, top,
+                        rng.randint(top, VALUE_MAX)])
+    return curves.mirrored(points, total), rule + 2
+
+
+def curve_of(rng, segment, rule):
+    """(points, code, left area of the segment): low, high, or anywhere."""
     gap, rise, left, right = segment
     low, high = max(0, -rise), VALUE_MAX - max(0, rise)
     value = rng.choice([low, min(high, low + 1), min(high, low + 2),
                         rng.randint(low, min(high, low + 40)),
                         rng.randint(low, high), high])
     points = longer(rng, [(0, value, left), (gap, value + rise, right)])
+    points, code = filed(rng, points, rule)
     first, last = points[0][0], points[-1][0]
     start = curves.placed(rng, last - first, AREA_MAX) - first
-    points = [(start + area, value, slope) for area, value, slope in points]
-    if rng.random() < 0.5:
-        return points, shape, start
-    top = max(value for _, value, _ in points)
-    total = rng.choice([VALUE_MAX, VALUE_MAX, VALUE_MAX, top,
-                        rng.randint(top, VALUE_MAX)])
-    return curves.mirrored(points, total), shape + 2, start
+    return [(start + area, *rest) for area, *rest in points], code, start
 
 
 def sheet_with(rng, first, last, area):
@@ -248,8 +284,8 @@ def each_reading(rng, points, shape, area):
 def halves(make):
     """The kind of the halves that it makes."""
     def kind(rng):
-        segment, shape, t = made(rng, make)
-        points, code, left = curve_of(rng, segment, shape)
+        segment, rule, t = made(rng, make)
+        points, code, left = curve_of(rng, segment, rule)
         yield from each_reading(rng, points, code, left + t)
     return kind
 
@@ -257,9 +293,9 @@ def halves(make):
 def beside(make):
     """The kind of the values next to a half on the segments that it makes."""
     def kind(rng):
-        segment, shape = make(rng)
-        points, code, left = curve_of(rng, segment, shape)
-        for t in nearest(segment, shape, 3):
+        segment, rule = make(rng)
+        points, code, left = curve_of(rng, segment, rule)
+        for t in nearest(segment, rule, 3):
             yield from each_reading(rng, points, code, left + t)
     return kind
 
@@ -306,6 +342,7 @@ KINDS = [
     (halves(curved), 'halves on rising and falling segments', 8000),
     (halves(bent), 'halves on bent segments', 8000),
     (halves(wide_bent), 'halves on wide bent segments', 6000),
+    (halves(climbing), 'halves on bent segments that rise', 6000),
     (beyond, 'halves below 0 and above 200,000', 4000),
     (lines, 'lines with many halves', 2000),
     (beside(any_rising), 'next to a half, rising and falling', 4000),

@@ -181,6 +181,37 @@ static void halves(void)
                desk_reading_two(file, 31, 3, scratch, 24) == 2);
 }
 
+/*
+ * Document 02, item 8: K1 is convex too, and turned round it is not. The code
+ * that is filed stays.
+ */
+static void at_once(void)
+{
+    const uint32_t a[] = {500, 600}, v[] = {10000, 14000};
+    const int32_t s[][2] = {{0, 10000}, {10000, 0}};
+    static const int32_t at_550[] = {10800, 13111};
+    uint8_t file[CURVE_FILE_MAX], scratch[DESK_SCRATCH_MAX];
+    uint32_t areas[2], values[2];
+    int32_t slopes[2], out[3];
+    for (int i = 0; i < 2; i++) {
+        expect("read", curve_read(a, 2, v, 2, s[i], 2, CURVE_RISING, 550) ==
+                           at_550[i]);
+        int64_t answer = curve_pair(a, 2, v, 2, s[i], 2, CURVE_RISING, 500, 550,
+                                    out, 3);
+        expect("of a pair", answer == 3 && out[1] == at_550[i]);
+        answer = curve_sheet(a, 2, v, 2, s[i], 2, CURVE_RISING, 500, 50, out,
+                             3);
+        expect("of a sheet", answer == 3 && out[1] == at_550[i]);
+        answer = curve_write(a, 2, v, 2, s[i], 2, CURVE_RISING, file, 31);
+        expect("filed", answer == 31 && file[5] == CURVE_RISING);
+        expect("by the desk",
+               desk_reading(file, 31, 550, scratch, 24) == at_550[i] &&
+                   desk_reading_two(file, 31, 550, scratch, 24) == at_550[i]);
+        answer = curve_open(file, 31, areas, 2, values, 2, slopes, 2);
+        expect("opened", CURVE_SHAPE(answer) == CURVE_RISING);
+    }
+}
+
 /* Document 02, item 4: a half on a falling curve; a factor past 200,000. */
 static void mirrored(void)
 {
@@ -209,6 +240,7 @@ int main(void)
     words();
     calls();
     halves();
+    at_once();
     mirrored();
     triples();
     printf("%d tests, %d failures\n", tests, failures);

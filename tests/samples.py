@@ -20,6 +20,7 @@ from fractions import Fraction
 
 import curves
 import exact_fractions as ref
+import rule_kinds
 from curve_file import curve_file
 from triples import triples
 
@@ -172,6 +173,16 @@ def test_files():
     expect('a rise', (stored['flattening.trf'][5], sorted(values)),
            (4, list(values)))
     expect('that flattens', sorted(set(slopes))[::-1], list(slopes))
+    rising, convex = (stored['same-points-%s.trf' % shape]
+                      for shape in ('rising', 'convex'))
+    expect('same points', (rising[5], convex[5], rising[6:]),
+           (1, 2, convex[6:]))
+    expect('read alike', ref.ratesheet(rising).split('\n')[1:],
+           ref.ratesheet(convex).split('\n')[1:])
+    rules = {ref.rule_used(*ref.file_lists(data), 1)
+             for name, data in stored.items()
+             if name not in REFUSED and data[5] == 1}
+    expect('rules of code 1', rules, {1, 2})
     filled_slopes = ref.file_lists(stored['without-slopes.trf'])[2]
     expect('without slopes', filled_slopes, (577, 376, 269, 0, 0, 208, 165))
     expect('document 01', stored['document-01.trf'].hex(),
@@ -283,6 +294,12 @@ def sheet_inputs():
             flipped[rng.randrange(len(data))] ^= 1 << rng.randrange(8)
             yield 'flipped %d' % index, bytes(flipped)
             yield 'cut %d' % index, data[:rng.randrange(len(data))]
+    for index in range(40):             # both tests, or but for one segment
+        points = rule_kinds.any_both(rng)
+        segment = rng.randrange(len(points) - 1)
+        missed = rule_kinds.jump(rng, points, segment) or points
+        for curve, shape in ((points, 1), (points, 2), (missed, 1)):
+            yield 'both %d as %d' % (index, shape), curve_file(curve, shape)
     for index in range(40):             # lines, many with a half every 50 tenths
         points = curves.straight_curve(rng)
         for shape in curves.SHAPES:

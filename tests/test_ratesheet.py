@@ -88,6 +88,15 @@ class Sheets(unittest.TestCase):
         self.assertEqual(self.expect(curve_file(low, 2)), b'shape 2 points 2\n0 1\n25 0\n50 1\n')
         self.assertEqual(self.expect(curve_file(deep, 2)), b'shape 2 points 2\n0 0\n25 -2\n50 0\n')
 
+    def test_rising_and_convex(self):
+        """Document 02, item 8: K1 is read by the convex rule, and its code stays. Before a segment that fails the convex test
+        it reads 10,229 and 10,889, as it did, and 84400/7 at 575."""
+        first = b'shape 1 points %d\n500 10000\n'
+        both, missed = EXAMPLE[:5] + b'\1' + EXAMPLE[6:], [(500, 10000, 0), (600, 14000, 10000), (625, 15000, 0)]
+        self.assertEqual(self.expect(both), first % 2 + b'525 10182\n550 10800\n575 12000\n600 14000\n')
+        self.assertEqual(self.expect(curve_file(missed, 1)),
+                         first % 3 + b'525 10229\n550 10889\n575 12057\n600 14000\n625 15000\n')
+
     def test_shape_codes(self):
         level = [(0, 5, 0), (25, 5, 0)]
         for code in range(256):
@@ -118,6 +127,9 @@ class Sheets(unittest.TestCase):
         for index in range(120):
             shape = 1 + index % 4
             self.expect(curve_file(curves.some_curve(rng, shape), shape))
+        for _ in range(20):
+            points = curves.rising_convex_curve(rng, curves.some_count(rng))
+            self.assertEqual(self.expect(curve_file(points, 1))[7:], self.expect(curve_file(points, 2))[7:])
         for index in range(20):             # lines, many with a half every 50 tenths
             self.expect(curve_file(curves.straight_curve(rng), 2 + index % 3))
 

@@ -15,6 +15,8 @@ import exact_fractions as ref
 import half_kinds
 import import_kinds
 import import_notes
+import rule_kinds
+import rule_notes
 import triples
 from curve_file import curve_file
 
@@ -66,6 +68,8 @@ def flat(count, gap=1):
 
 
 STEEP = [(500, 10000, 0), (600, 14000, 10000)]
+# K1 turned round.
+TURNED = [(500, 10000, 10000), (600, 14000, 0)]
 K5 = [(500, 10000, 2000), (600, 14000, 6000)]
 K6 = [(0, 0, 50), (2, 1, 50)]
 K7 = [(0, 0, -300), (2, 0, 300)]
@@ -89,9 +93,9 @@ LARGEST = 2**32 - 1
 
 def test_readings_to_prove():
     """Document 01, Readings to prove: K1 to K10; document 02, item 6, K6 and
-    K7."""
-    expect('K1', read(STEEP, 1, 550), ('ok', 10889))
-    expect('K2', read(STEEP, 1, 525), ('ok', 10229))
+    K7; item 8, K1, K2 and K5."""
+    expect('K1', read(STEEP, 1, 550), ('ok', 10800))
+    expect('K2', read(STEEP, 1, 525), ('ok', 10182))
     expect('K3', read(STEEP, 2, 550), ('ok', 10800))
     expect('K4', read(STEEP, 2, 525), ('ok', 10182))
     expect('K5', read(K5, 1, 501), ('ok', 10020))
@@ -336,6 +340,108 @@ def test_three_points():
         expect('refused', check(points, shape), refused(6, 1))
 
 
+def test_rule_used():
+    """Document 02, item 8: the rule of a curve under code 1 is the convex one
+    if every segment passes the convex test, the first, an inner and the last.
+    Slopes and a value off by one make one segment fail: 100 before K1 a level
+    one, 100 after it a straight one."""
+    level, line = (400, 10000, 0), (700, 24000, 10000)
+    cases = [
+        (STEEP, 2), (K5, 2), (TURNED, 1), (flat(2), 2), (flat(64), 2),
+        ([level, *STEEP], 2), ([*STEEP, line], 2), ([level, *STEEP, line], 2),
+        # Straight, and with one slope the chord's.
+        ([(0, 0, 100), (100, 100, 100)], 2), ([(0, 0, 99), (100, 100, 101)], 2),
+        ([(0, 0, 100), (100, 100, 101)], 1), ([(0, 0, 99), (100, 100, 100)], 1),
+        # The last segment, the first, and the one between them fails.
+        ([*STEEP, (700, 24000, 9999)], 1), ([*STEEP, (700, 23999, 10000)], 1),
+        ([*STEEP, (700, 24001, 10000)], 1), ([(400, 9999, 0), *STEEP], 1),
+        ([(400, 6000, 10000), *STEEP], 1),
+        ([level, *STEEP, (700, 24000, 9999)], 1),
+        ([level, (500, 10000, 0), (600, 14000, 10000), (700, 18000, 0),
+          (800, 18000, 0)], 1),
+    ]
+    for points, rule in cases:
+        expect('accepted', check(points, 1), ('ok', len(points) - 1))
+        expect('%r' % points, ref.rule_used(*lists(points), 1), rule)
+        # Accepted under both codes exactly where the convex rule reads it.
+        expect('under 2', check(points, 2)[0] == 'ok', rule == 2)
+    for points in (STEEP, K5, flat(3), MIRROR_STEEP, MIRROR_K5, K6, MIRROR_K6):
+        for code in (2, 3, 4):
+            expect('code %d' % code, ref.rule_used(*lists(points), code), code)
+
+
+def test_rule_readings():
+    """Document 02, item 8: K1 and K2 under both codes; where one more segment
+    fails, K1's areas read what they read before, and K1 turned round too. r
+    always 3 would read 13,250."""
+    for points in (STEEP, [(400, 10000, 0), *STEEP],
+                   [*STEEP, (700, 24000, 10000)]):
+        for code in (1, 2):
+            for area, factor in ((525, 10182), (550, 10800)):
+                expect('both', read(points, code, area), ('ok', factor))
+    for points in ([*STEEP, (700, 24000, 9999)], [(400, 9999, 0), *STEEP],
+                   [(400, 6000, 10000), *STEEP]):
+        for area, factor in ((525, 10229), (550, 10889)):
+            expect('rising', read(points, 1, area), ('ok', factor))
+    for area, value in ((550, Fraction(118000, 9)), (575, Fraction(96400, 7))):
+        expect('turned', ref.exact_value(*lists(TURNED), 1, area), value)
+    expect('turned, 550', read(TURNED, 1, 550), ('ok', 13111))
+    expect('turned, 575', read(TURNED, 1, 575), ('ok', 13771))
+    expect('turned, concave', read(TURNED, 4, 550), ('ok', 13200))
+    d0, d1 = Fraction(100), Fraction(0)
+    expect('r always 3',
+           ref.p_over_q(10000, 14000, 100, d0, d1, 3, 50), 13250)
+    # The mirror of a curve that is both is read by the falling rule.
+    expect('falling', read(MIRROR_STEEP, 3, 550), ('ok', 200000 - 10889))
+    expect('concave', read(MIRROR_STEEP, 4, 550), ('ok', 200000 - 10800))
+
+
+def test_read_alike():
+    """Document 02, item 8: two members who file the same points, one under 1
+    and one under 2, quote alike; the rising rule holds, whichever curve is
+    used."""
+    rng = random.Random('both')
+    rules = set()
+    for _ in range(300):
+        points = rule_kinds.any_both(rng)
+        segment = rng.randrange(len(points) - 1)
+        for curve in (points, rule_kinds.jump(rng, points, segment)):
+            if curve is None:
+                continue
+            rule = ref.rule_used(*lists(curve), 1)
+            rules.add(rule)
+            expect('rule', rule, 2 if curve is points else 1)
+            areas = sorted(curves.inner_area(rng, curve) for _ in range(12))
+            factors = [read(curve, 1, area) for area in areas]
+            expect('never less', factors, sorted(factors))
+            if rule == 2:
+                expect('alike', [read(curve, 2, area) for area in areas],
+                       factors)
+    expect('rules', rules, {1, 2})
+
+
+def test_rule_kinds():
+    """What rule_kinds.py makes: curves that are both, and curves of which one
+    segment alone fails the convex test; and what rule_notes.py says of them."""
+    for count in range(2, 65):
+        for more in (1, 15, 89):
+            both = rule_kinds.stairs(count, more)
+            expect('stairs', (check(both, 1), check(both, 2)),
+                   (('ok', count - 1), ('ok', count - 1)))
+        for segment in (0, (count - 2) // 2, count - 2):
+            fields = set()
+            for points in rule_kinds.one_off(count, segment):
+                expect('accepted', check(points, 1), ('ok', count - 1))
+                expect('one fails', rule_notes.failing(*lists(points), 2),
+                       [segment])
+                fields.update(rule_notes.mended(points, segment))
+            expect('one figure', fields, {1, 2})
+    # The end whose slope alone is the chord's.
+    for points, side in zip(rule_kinds.one_off(3, 1),
+                            ('left', 'right', 'right', 'left', None)):
+        expect('%r' % points, rule_notes.equal_side(lists(points), 1), side)
+
+
 def test_several_shapes():
     """Points that fit several shapes read the same as each: straight lines,
     of which a level one fits all."""
@@ -421,7 +527,8 @@ def test_two_units():
 
 def test_mirror_images():
     """Items 4 and 6: a reading and its mirror's make 200,000, also where both
-    are halves: 200,000 is even."""
+    are halves: 200,000 is even. The mirror's by the rule of its own code, also
+    where its curve is read by another one (item 8)."""
     for shape, other in ((3, 1), (4, 2)):
         halves = set()
         for (areas, values, slopes, _), places in random_curves(shape, 200):
@@ -429,9 +536,10 @@ def test_mirror_images():
                       [-slope for slope in slopes], other)
             expect('accepted', ref.check(*mirror), ('ok', len(areas) - 1))
             for area in places:
-                value = ref.exact_value(*mirror, area)
+                value = ref.segment_value(
+                    *mirror, ref.segment_read(areas, area), area)
                 both = (ref.factor(areas, values, slopes, shape, area)
-                        + ref.factor(*mirror, area))
+                        + ref.reading(value))
                 expect('both', both, 200000)
                 if value.denominator == 2:
                     halves.add(value // 1 % 2)
@@ -464,7 +572,7 @@ def test_segment_read():
     expect('largest', read(three, 1, LARGEST), refused(7, 0))
     # K1 behind a constant segment.
     behind = [(400, 10000, 0)] + STEEP
-    for area, factor in ((450, 10000), (500, 10000), (550, 10889),
+    for area, factor in ((450, 10000), (500, 10000), (550, 10800),
                          (600, 14000)):
         expect('behind, %d' % area, read(behind, 1, area), ('ok', factor))
     areas = [10, 20, 30]
@@ -577,7 +685,9 @@ def test_order_of_rows():
 
 def test_pair():
     """Document 01, The calls: Pair."""
-    expect('pair', pair(STEEP, 1, 525, 550), ('ok', 10229, 10889, 660))
+    expect('pair', pair(STEEP, 1, 525, 550), ('ok', 10182, 10800, 618))
+    expect('pair, rising', pair(TURNED, 1, 550, 575),
+           ('ok', 13111, 13771, 660))
     expect('pair, negative', pair(STEEP, 2, 550, 525),
            ('ok', 10800, 10182, -618))
     expect('pair at the ends', pair(STEEP, 1, 500, 600),
@@ -591,7 +701,9 @@ def test_sheet():
     """Document 01, The calls: Sheet."""
     expect('sheet', sheet(STEEP, 2, 500, 25, 5),
            ('ok', 5, [10000, 10182, 10800, 12000, 14000]))
-    expect('one entry', sheet(STEEP, 1, 550, LARGEST, 1), ('ok', 1, [10889]))
+    expect('one entry', sheet(STEEP, 1, 550, LARGEST, 1), ('ok', 1, [10800]))
+    expect('rising', sheet(TURNED, 1, 550, 25, 3),
+           ('ok', 3, [13111, 13771, 14000]))
     expect('step 0', sheet(STEEP, 1, 550, 0, 1), refused(8, 0))
     expect('0 entries', sheet(STEEP, 1, 550, 1, 0), refused(8, 0))
     expect('start before', sheet(STEEP, 1, 499, 1, 5), refused(7, 0))
@@ -937,7 +1049,7 @@ def test_desk_two():
     left, right = FILE_43[7:31], FILE_43[19:43]
     for area, factor, records in (
             (400, 10000, left), (401, 10000, left), (499, 10000, left),
-            (500, 10000, right), (525, 10229, right), (550, 10889, right),
+            (500, 10000, right), (525, 10182, right), (550, 10800, right),
             (600, 14000, right)):
         for length in (24, 25, 35, 36, 37, 768):
             scratch = bytes(1 + i % 255 for i in range(length))
@@ -1005,11 +1117,12 @@ def test_c_answers():
     expect('no shape', ref.curve_check(*lists(K9), 2), (-6 * 2**32,))
     expect('right point', ref.curve_check(*lists(flat(2, 2001)), 1),
            (-3 * 2**32 - 1,))
-    expect('K1', ref.curve_read(*steep, 1, 550), (10889,))
+    expect('K1', ref.curve_read(*steep, 1, 550), (10800,))
+    expect('rising', ref.curve_read(*lists(TURNED), 1, 550), (13111,))
     expect('K7', ref.curve_read(*lists(K7), 2, 1), (-2,))
     expect('K1 at 499', ref.curve_read(*steep, 1, 499), (-7 * 2**32,))
     expect('pair', ref.curve_pair(*steep, 1, 525, 550, [4, 5, 6, 7]),
-           (3, [10229, 10889, 660, 7]))
+           (3, [10182, 10800, 618, 7]))
     expect('plan outside', ref.curve_pair(*steep, 1, 525, 601, [4, 5, 6]),
            (-7 * 2**32 - 1, [4, 5, 6]))
     for points in (STEEP, K9, []):
@@ -1312,6 +1425,12 @@ def test_ratesheet():
     expect('31 bytes', ref.ratesheet(FILE_31), PRINTED_31)
     expect('not beyond the last', ref.ratesheet(curve_file(flat(2, 60), 1)),
            'shape 1 points 2\n0 5\n25 5\n50 5\n')
+    # Item 8: the code that is filed, and the factors of the convex rule.
+    expect('rising and convex', ref.ratesheet(curve_file(STEEP, 1)),
+           PRINTED_31.replace('shape 2', 'shape 1'))
+    expect('rising', ref.ratesheet(curve_file(TURNED, 1)),
+           'shape 1 points 2\n500 10000\n525 11943\n550 13111\n'
+           '575 13771\n600 14000\n')
     expect('falling', ref.ratesheet(curve_file(MIRROR_STEEP, 3)),
            'shape 3 points 2\n500 190000\n525 189771\n550 189111\n'
            '575 187943\n600 186000\n')

@@ -1,10 +1,15 @@
 """Wrong versions of bench/plain.c: the first text, which occurs there once,
 becomes the second. Those of shape codes, and of falling and concave curves,
-are in wrong_shapes.py, those of halves in wrong_halves.py, those of Import in
-wrong_imports.py."""
+are in wrong_shapes.py, those of the rule that reads a curve in wrong_rules.py,
+those of halves in wrong_halves.py, those of Import in wrong_imports.py."""
 
 CHECKED = '''\
-    int64_t fault = lists_fault(c, values_len, slopes_len, shape);
+    int64_t fault = lists_fault(c, values_len, slopes_len, shape, NULL);
+'''
+# The same where the call reads.
+RULED = '''\
+    uint32_t rule = shape;
+    int64_t fault = lists_fault(c, values_len, slopes_len, shape, &rule);
 '''
 REFUSED_FAULT = '''\
     if (fault)
@@ -72,7 +77,8 @@ DESK_ROOM = '''\
 '''
 DESK_RECORDS = '    const uint8_t *records = bytes + 7;\n'
 DESK_FAULT = '''\
-    fault = file_fault(bytes);
+    uint32_t rule = bytes[5];
+    fault = file_fault(bytes, &rule);
     if (fault)
         return desk_refused(fault);
 '''
@@ -80,7 +86,7 @@ DESK_ROWS = DESK_ROOM + DESK_RECORDS + DESK_FAULT
 DESK_OUTSIDE = '''\
 area < load32(records) || area > load32(records + 12 * (count - 1))'''
 DESK_FIND = 'find_record(records, count, area);'
-TWO_FACTOR = 'return segment_factor(l, r, shape, area);'
+TWO_FACTOR = '        return segment_factor(l, r, rule, area);'
 TWO_ROOM = 'two ? scratch_len < 24 :'
 TWO_COPY = 'memcpy(scratch, left, 24);'
 TWO_SHORT = '''\
@@ -145,8 +151,8 @@ TWO_ORDER = [
     (DESK_ROOM, DESK_ROOM.replace('11', 'two ? 1 : 11')),
     (DESK_ROOM, DESK_ROOM.replace('11', 'two ? 12 : 11')),
     # the factor of the first segment, the last, the one before, the next
-    *[(TWO_FACTOR, '    left = %s;\n    l = load_point(left), r = '
-       'load_point(left + 12);\n    ' % record + TWO_FACTOR) for record in (
+    *[(TWO_FACTOR, '        left = %s;\n        l = load_point(left), r = '
+       'load_point(left + 12);\n' % record + TWO_FACTOR) for record in (
            'records', 'records + 12 * (count - 2)',
            'left > records ? left - 12 : left',
            'left + 24 < bytes + bytes_len ? left + 12 : left')],
@@ -280,16 +286,16 @@ READ = [
     ('''        return refused(7, 0);
     return factor(c''', '''        return refused(7, 1);
     return factor(c'''),
-    ('    return factor(c, shape, area);',
-     '    return (uint32_t)factor(c, shape, area);'),
+    ('    return factor(c, rule, area);',
+     '    return (uint32_t)factor(c, rule, area);'),
     # row 7 before rows 1 to 6
-    (CHECKED + REFUSED_FAULT + '''\
+    (RULED + REFUSED_FAULT + '''\
     if (outside(c, area))
         return refused(7, 0);
 ''', '''\
     if (areas_len && outside(c, area))
         return refused(7, 0);
-''' + CHECKED + REFUSED_FAULT),
+''' + RULED + REFUSED_FAULT),
 ]
 
 PAIR_ROOM = '''\
@@ -307,9 +313,9 @@ PAIR_PLAN = '''\
 
 PAIR = [
     # row 11 after rows 1 to 6, and after row 7
-    (PAIR_ROOM + CHECKED + REFUSED_FAULT, CHECKED + REFUSED_FAULT + PAIR_ROOM),
-    (PAIR_ROOM + CHECKED + REFUSED_FAULT + PAIR_FORM + PAIR_PLAN,
-     CHECKED + REFUSED_FAULT + PAIR_FORM + PAIR_PLAN + PAIR_ROOM),
+    (PAIR_ROOM + RULED + REFUSED_FAULT, RULED + REFUSED_FAULT + PAIR_ROOM),
+    (PAIR_ROOM + RULED + REFUSED_FAULT + PAIR_FORM + PAIR_PLAN,
+     RULED + REFUSED_FAULT + PAIR_FORM + PAIR_PLAN + PAIR_ROOM),
     ('out_len < 3', 'out_len < 2'),
     ('out_len < 3', 'out_len <= 3'),
     ('out_len < 3', 'out_len != 3'),
@@ -318,11 +324,11 @@ PAIR = [
     (PAIR_FORM + PAIR_PLAN, PAIR_PLAN + PAIR_FORM),
     # what is written, and when
     ('out[1] - out[0]', 'out[0] - out[1]'),
-    ('''out[0] = factor(c, shape, form);
-    out[1] = factor(c, shape, plan);''', '''out[1] = factor(c, shape, form);
-    out[0] = factor(c, shape, plan);'''),
-    (PAIR_PLAN + '    out[0] = factor(c, shape, form);\n',
-     '    out[0] = factor(c, shape, form);\n' + PAIR_PLAN),
+    ('''out[0] = factor(c, rule, form);
+    out[1] = factor(c, rule, plan);''', '''out[1] = factor(c, rule, form);
+    out[0] = factor(c, rule, plan);'''),
+    (PAIR_PLAN + '    out[0] = factor(c, rule, form);\n',
+     '    out[0] = factor(c, rule, form);\n' + PAIR_PLAN),
     ('    out[2] = out[1] - out[0];\n    return 3;',
      '    out[2] = out[1] - out[0];\n    return (int64_t)out_len;'),
     ('    out[2] = out[1] - out[0];', ''),
@@ -352,8 +358,8 @@ SHEET = [
     ('out_len > 1024)', '(uint16_t)out_len > 1024)'),
     ('step == 0 || ', ''),
     ('out_len == 0 || ', ''),
-    (CHECKED + REFUSED_FAULT + SHEET_ROW_8,
-     SHEET_ROW_8 + CHECKED + REFUSED_FAULT),
+    (RULED + REFUSED_FAULT + SHEET_ROW_8,
+     SHEET_ROW_8 + RULED + REFUSED_FAULT),
     (SHEET_ROW_8 + SHEET_ROW_7, SHEET_ROW_7 + SHEET_ROW_8),
     # the place of row 7
     ('- start) / step + 1)', '- start) / step)'),
@@ -361,7 +367,7 @@ SHEET = [
     ('(areas[areas_len - 1] - start) / step + 1', 'out_len - 1'),
     # writing before refusing
     ('    if (last > areas[areas_len - 1])',
-     '    out[0] = factor(c, shape, start);\n    if (last > areas[areas_len - 1])'),
+     '    out[0] = factor(c, rule, start);\n    if (last > areas[areas_len - 1])'),
     # touching a list without entries
     (SHEET_ROW_8, '    *(volatile int32_t *)out = *(volatile int32_t *)out;\n'
      + SHEET_ROW_8),
@@ -378,7 +384,7 @@ OPEN_ROOM = '''\
         return refused(11, 0);
 '''
 OPEN_FAULT = '''\
-    fault = file_fault(bytes);
+    fault = file_fault(bytes, NULL);
     if (fault)
         return fault;
 '''
@@ -415,7 +421,7 @@ OPEN = [
         if (!has_shape(l, r, shape) && shapeless == count)''',
      '''            return refused(fault, 0);
         if (!has_shape(l, r, shape) && shapeless == count)'''),
-    ('refused(6, shapeless) : 0;\n}\n\n/* Rows 9', 'refused(6, 0) : 0;\n}\n\n/* Rows 9'),
+    ('refused(6, shapeless) : 0;\n}\n\n/*\n', 'refused(6, 0) : 0;\n}\n\n/*\n'),
 ]
 
 WRITE_LENGTH = '    size_t length = 7 + 12 * c.count;\n'
@@ -445,9 +451,9 @@ WRITE_ORDER = [
     # row 12 before another, or not tried; rows 1 to 6 not tried
     *[(WRITE_ROWS, row_12_before(number)) for number in range(1, 7)],
     (WRITE_LENGTH + WRITE_ROOM, WRITE_LENGTH),
-    (WRITE_ROWS, WRITE_ROWS.replace('shape);', 'shape) * 0;')),
+    (WRITE_ROWS, WRITE_ROWS.replace('NULL);', 'NULL) * 0;')),
     (WRITE_ROWS, WRITE_ROWS.replace('(fault)', '(fault && -fault >> 32 != 6)')),
-    (WRITE_ROWS, WRITE_ROWS.replace('shape);', '(uint8_t)shape);')),
+    (WRITE_ROWS, WRITE_ROWS.replace(' shape,', ' (uint8_t)shape,')),
     # the length that is needed
     ('out_len < length', 'out_len <= length'),
     ('out_len < length', 'out_len + 1 < length'),

@@ -180,12 +180,12 @@ def of_call(rule, place, call):
 FACTOR = 'segment_factor(l, r, %s, %s)'
 LISTS_READ = 'segment_factor(point_at(c, low), point_at(c, low + 1), shape, area)'
 CALLS = [
-    (DESK_FACTOR, FACTOR % ('bytes[5]', 'area')),
-    (TWO_FACTOR, FACTOR % ('shape', 'area')),
+    (DESK_FACTOR, FACTOR % ('rule', 'area')),
+    (TWO_FACTOR, FACTOR % ('rule', 'area')),
     (LISTS_FACTOR, LISTS_READ),
-    (READ_FACTOR, 'factor(c, shape, area)'),
-    (FORM_FACTOR, 'factor(c, shape, form)'),
-    (PLAN_FACTOR, 'factor(c, shape, plan)'),
+    (READ_FACTOR, 'factor(c, rule, area)'),
+    (FORM_FACTOR, 'factor(c, rule, form)'),
+    (PLAN_FACTOR, 'factor(c, rule, plan)'),
     (SHEET_ENTRY, FACTOR % ('shape', '(uint32_t)area')),
 ]
 

@@ -1,7 +1,7 @@
 """Wrong versions of bench/plain.c as wrong_edits.py has them: of the shapes'
 tests, curves and codes, those of falling and concave most of all."""
 
-from wrong_edits import CHECKED, REFUSED_FAULT, TWO_FACTOR
+from wrong_edits import CHECKED, REFUSED_FAULT, RULED, TWO_FACTOR
 
 # ---- when a segment has its shape ----
 
@@ -136,27 +136,27 @@ CURVES = [
 
 # ---- in one call alone ----
 
-DESK_FACTOR = 'return segment_factor(l, r, bytes[5], area);'
+DESK_FACTOR = '\n    return segment_factor(l, r, rule, area);'
 LISTS_FACTOR = '''\
     return segment_factor(point_at(c, low), point_at(c, low + 1), shape, area);
 '''
 SHEET_ENTRY = 'out[i] = segment_factor(l, r, shape, (uint32_t)area);'
 PLACES = [
-    (DESK_FACTOR, 'return ', 'bytes[5]', 'area'),
-    (TWO_FACTOR, 'return ', 'shape', 'area'),
+    (DESK_FACTOR, '\n    return ', 'rule', 'area'),
+    (TWO_FACTOR, '        return ', 'rule', 'area'),
     (LISTS_FACTOR, '    point l = point_at(c, low), r = point_at(c, low + 1);\n'
      '    return ', 'shape', 'area'),
     (SHEET_ENTRY, 'out[i] = ', 'shape', '(uint32_t)area'),
 ]
-READ_FACTOR = '    return factor(c, shape, area);'
-FORM_FACTOR = '    out[0] = factor(c, shape, form);\n'
-PLAN_FACTOR = '    out[1] = factor(c, shape, plan);\n'
+READ_FACTOR = '    return factor(c, rule, area);'
+FORM_FACTOR = '    out[0] = factor(c, rule, form);\n'
+PLAN_FACTOR = '    out[1] = factor(c, rule, plan);\n'
 
 
 def in_each_call(form):
     """The factor by another expression: of %(shape)s and %(area)s."""
     for old, start, shape, area in PLACES:
-        yield old, start + form % {'shape': shape, 'area': area} + ';\n'
+        yield old, start + form % {'shape': shape, 'area': area} + ';'
 
 
 def from_an_odd_number(shape):
@@ -184,15 +184,15 @@ ONE_CALL = [
                   '%(shape)s), %(area)s)'),
     # factors above 200,000 cut off
     *in_each_call(at_most('segment_factor(l, r, %(shape)s, %(area)s)')),
-    (READ_FACTOR, '    int32_t read = factor(c, shape, area);\n    return '
+    (READ_FACTOR, '    int32_t read = factor(c, rule, area);\n    return '
      + at_most('read') + ';'),
     (FORM_FACTOR, FORM_FACTOR + '    out[0] = ' + at_most('out[0]') + ';\n'),
     (PLAN_FACTOR, PLAN_FACTOR + '    out[1] = ' + at_most('out[1]') + ';\n'),
     # the shape that is mirrored, for one factor
-    (READ_FACTOR, READ_FACTOR.replace('shape', 'shape & 1 ? 1 : shape')),
-    (READ_FACTOR, READ_FACTOR.replace('shape', 'shape == 4 ? 2 : shape')),
-    (FORM_FACTOR, FORM_FACTOR.replace('shape', 'shape & 1 ? 1 : shape')),
-    (PLAN_FACTOR, PLAN_FACTOR.replace('shape', 'shape == 4 ? 2 : shape')),
+    (READ_FACTOR, READ_FACTOR.replace('rule', 'rule & 1 ? 1 : rule')),
+    (READ_FACTOR, READ_FACTOR.replace('rule', 'rule == 4 ? 2 : rule')),
+    (FORM_FACTOR, FORM_FACTOR.replace('rule', 'rule & 1 ? 1 : rule')),
+    (PLAN_FACTOR, PLAN_FACTOR.replace('rule', 'rule == 4 ? 2 : rule')),
     # a sheet's loop of another shape
     *[('fill(l, r, %s, end' % shape, 'fill(l, r, %s, end' % other)
       for shape, other in (('RISING', 'FALLING'), ('CONVEX', 'CONCAVE'),
@@ -202,29 +202,35 @@ ONE_CALL = [
 
 # ---- shape codes ----
 
-IN_FILES = 'scan(bytes + 7, count, %s);'
-IN_LISTS = 'scan_lists(c, %s);'
+IN_FILES = 'scan(bytes + 7, count, %s, 0);'
+IN_LISTS = 'scan_lists(c, %s, 0);'
+RISING_FILES = 'scan_rising(bytes + 7, count, rule);'
+RISING_LISTS = 'scan_rising_lists(c, rule);'
 TRIED = '    if (shape == %s)\n        return '
 FILES_END = '    return refused(2, 0);\n}\n\n/* The last segment'
 LISTS_END = '    return refused(2, 0);\n}\n\nstatic inline int outside'
 
 
-def codes(scan, end):
-    """Of the shape codes of files or of lists."""
+def codes(scan, end, rising=None):
+    """Of the shape codes of files or of lists; rising: its scan, if it is one
+    of its own."""
+    scans = {shape: scan % shape for shape in ('RISING', 'CONVEX', 'FALLING',
+                                               'CONCAVE')}
+    scans['RISING'] = rising or scans['RISING']
     for shape, other in (('RISING', 'FALLING'), ('CONVEX', 'CONCAVE'),
                          ('FALLING', 'RISING'), ('FALLING', 'CONCAVE'),
                          ('CONCAVE', 'CONVEX'), ('CONCAVE', 'FALLING')):
-        yield scan % shape, scan % other        # tested as another shape
-    for shape in ('RISING', 'CONVEX', 'FALLING', 'CONCAVE'):
-        tried = TRIED % shape + scan % shape
+        yield scans[shape], scan % other        # tested as another shape
+    for shape in scans:
+        tried = TRIED % shape + scans[shape]
         yield tried, TRIED % shape + 'refused(2, 0);'
         yield tried, TRIED % shape + '0;'       # not tested at all
     last, first = TRIED % 'CONCAVE' + scan % 'CONCAVE', TRIED % 'RISING'
     yield last, last.replace('==', '>=')
     yield last, last.replace('CONCAVE)\n', 'CONCAVE || shape == 5)\n')
     yield last, last.replace('CONCAVE)\n', 'CONCAVE || shape == 255)\n')
-    yield first + scan % 'RISING', (first.replace('==', '<=')
-                                    + scan % 'RISING')
+    yield first + scans['RISING'], (first.replace('==', '<=')
+                                    + scans['RISING'])
     # row 2: another number, another place, after rows 3 to 5
     yield end, end.replace('(2, 0)', '(6, 0)')
     yield end, end.replace('(2, 0)', '(2, 1)')
@@ -238,45 +244,45 @@ def codes(scan, end):
 CODES = [
     ('CONVEX, FALLING, CONCAVE }', 'CONVEX, CONCAVE, FALLING }'),
     ('RISING = 1, CONVEX, FALLING', 'RISING = 1, FALLING, CONVEX'),
-    *codes(IN_FILES, FILES_END),
-    *codes(IN_LISTS, LISTS_END),
+    *codes(IN_FILES, FILES_END, RISING_FILES),
+    *codes(IN_LISTS, LISTS_END, RISING_LISTS),
     # codes cut to fewer bits
-    *[(TRIED % 'RISING' + IN_LISTS % 'RISING',
-       '    shape &= %s;\n' % bits + TRIED % 'RISING' + IN_LISTS % 'RISING')
+    *[(TRIED % 'RISING' + RISING_LISTS,
+       '    shape &= %s;\n' % bits + TRIED % 'RISING' + RISING_LISTS)
       for bits in ('7', '127', '255', '65535', '0xFFFFFF', '0x7FFFFFFF')],
-    (TRIED % 'RISING' + IN_FILES % 'RISING',
-     '    shape &= 127;\n' + TRIED % 'RISING' + IN_FILES % 'RISING'),
+    (TRIED % 'RISING' + RISING_FILES,
+     '    shape &= 127;\n' + TRIED % 'RISING' + RISING_FILES),
     # 2^32 - 1 to 2^32 - 4 as 1 to 4
-    (TRIED % 'RISING' + IN_LISTS % 'RISING',
+    (TRIED % 'RISING' + RISING_LISTS,
      '    shape = (int32_t)shape < 0 ? -shape : shape;\n'
-     + TRIED % 'RISING' + IN_LISTS % 'RISING'),
+     + TRIED % 'RISING' + RISING_LISTS),
 ]
 
 # What follows where a call tries rows 1 to 6.
-LIST_CALLS = ['    return fault ?',                            # check
-              *[REFUSED_FAULT + text for text in (
+LIST_CALLS = [CHECKED + '    return fault ?',                  # check
+              CHECKED + REFUSED_FAULT + '    size_t length',   # write
+              *[RULED + REFUSED_FAULT + text for text in (
                   '    if (outside(c, area))',                 # read
                   '    if (outside(c, form))',                 # pair
-                  '    if (step == 0',                         # sheet
-                  '    size_t length')]]                       # write
-FILE_FAULT = '    fault = file_fault(bytes);\n    if (fault)\n        return '
-FILE_CALLS = [FILE_FAULT + 'desk_refused', FILE_FAULT + 'fault;']
+                  '    if (step == 0')]]                       # sheet
+FILE_CALLS = ['    fault = file_fault(bytes, &rule);\n',
+              '    fault = file_fault(bytes, NULL);\n']
 
 
 def codes_of_one_call():
     """5 accepted, 3 or 4 refused, 3 tested as 1, 4 as 2, 3 and 4 exchanged."""
-    for after in LIST_CALLS:
+    for text in LIST_CALLS:
         for code in ('shape == 5 ? 4 : shape', 'shape == 3 ? 5 : shape',
                      'shape == 4 ? 5 : shape', 'shape == 3 ? 1 : shape',
                      'shape == 4 ? 2 : shape',
                      'shape == 3 || shape == 4 ? 7 - shape : shape'):
-            yield CHECKED + after, CHECKED.replace(' shape', ' ' + code) + after
+            yield text, text.replace(' shape,', ' %s,' % code)
     for text in FILE_CALLS:
         for fault in ('bytes[5] == 5 ? 0 : ', 'bytes[5] == 3 ? refused(2, 0) : ',
                       'bytes[5] == 4 ? refused(2, 0) : ',
-                      'bytes[5] == 3 ? scan(bytes + 7, count, 1) : ',
-                      'bytes[5] == 4 ? scan(bytes + 7, count, 2) : ',
-                      'bytes[5] == 3 ? scan(bytes + 7, count, 4) : '):
+                      'bytes[5] == 3 ? scan(bytes + 7, count, 1, 0) : ',
+                      'bytes[5] == 4 ? scan(bytes + 7, count, 2, 0) : ',
+                      'bytes[5] == 3 ? scan(bytes + 7, count, 4, 0) : '):
             yield text, text.replace('file_fault', fault + 'file_fault')
 
 

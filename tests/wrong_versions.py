@@ -4,9 +4,9 @@
 
 Builds client.c and far_lengths.c with the plain C version of bench/, which
 must pass on the file CASES, then with the wrong versions of it that
-wrong_edits.py, wrong_shapes.py, wrong_halves.py and wrong_imports.py have,
-which must not. With "threads" also threads.c under the thread sanitizer. Nor
-may the client pass on streams that leave something out.
+wrong_edits.py, wrong_shapes.py, wrong_rules.py, wrong_halves.py and
+wrong_imports.py have, which must not. With "threads" also threads.c under the
+thread sanitizer. Nor may the client pass on streams that leave something out.
 
 A wrong version is one edit, the first text of which becomes the second, or a
 list of such edits.
@@ -21,6 +21,7 @@ import sys
 import wrong_edits
 import wrong_halves
 import wrong_imports
+import wrong_rules
 import wrong_shapes
 
 HERE = os.path.dirname(os.path.abspath(__file__))
@@ -33,7 +34,8 @@ FLAGS = ['-std=c99', '-I' + os.path.join(ROOT, 'include'),
          '-I' + os.path.join(ROOT, 'bench')]
 FLAGS += ['-Dplain_%s=%s' % (call, call) for call in CALLS]
 COMPARED = (wrong_edits.COMPARED + wrong_shapes.COMPARED
-            + wrong_halves.COMPARED + wrong_imports.COMPARED)
+            + wrong_rules.COMPARED + wrong_halves.COMPARED
+            + wrong_imports.COMPARED)
 
 
 class Test:
@@ -91,7 +93,8 @@ def jobs(with_threads):
     groups = [(CLIENT, edits) for _, edits in COMPARED]
     groups += [(FAR, wrong_edits.FAR + wrong_imports.FAR)]
     if with_threads:
-        groups += [(THREADS, wrong_edits.SHARED + wrong_imports.SHARED)]
+        groups += [(THREADS, wrong_edits.SHARED + wrong_rules.SHARED
+                    + wrong_imports.SHARED)]
     for test in dict.fromkeys(test for test, _ in groups):
         yield test, []
     for test, versions in groups:
