@@ -256,6 +256,10 @@ module _ {x y : Fraction} where
   unfolding leℚ
   ≤_of_leℚ t = record { cross = record { le = t } }
 
+  pub leℚ_true_of_≤ : x ≤ℚ y → leℚ x y ≡ true
+  unfolding leℚ
+  leℚ_true_of_≤ h = T_true _ h.cross.le
+
   pub ltℚ_true_of_< : x <ℚ y → ltℚ x y ≡ true
   unfolding ltℚ
   ltℚ_true_of_< h = T_true _ h.cross.lt

@@ -1,19 +1,21 @@
 -- What the curve of a segment does, from the test of its shape, so that nothing above looks at a formula again.
 --   Rise, rise_kind       the test of a rising segment, as facts: it climbs or is flat; left_slope_of_rise
 --   Bend, bend_kind       the test of a convex segment, as facts: it is bent or straight
+--   rising_of_bend        with a left slope of 0 or more it rises, and its right slope is 0 or more
 --   rising_rises          the rising curve joins its ends and rises
 --   convex_curve_slope    the slope of the convex curve, by the cases of the curve
 --   convex_bends          the convex curve joins its ends and lies above its tangents
 -- Assumes nothing.
-use mathlib.Core.Path.{◌≡◌}
+use mathlib.Core.Path.{◌≡◌, refl}
 use mathlib.Core.Bool.{cond, ◌&&◌}
 use mathlib.Core.Logic.{inl, inr}
 use mir.Facts.{and_yes, or_yes}
 use lib.Dec.{T}
-use lib.IntN.{ℤ, pos, ◌-ℤ◌}
+use lib.IntN.{ℤ, pos, ◌-ℤ◌, zero-*ℤ}
 use lib.Signed.{◌<ℤ◌}
 use Rattle.exact.specs.Fraction.{Fraction, Proper, ◌over◌, whole, ◌≈ℚ◌, ◌≤ℚ◌, ◌<ℚ◌, leℚ, ltℚ, eqℚ}
 use Rattle.exact.proofs.Integer.{≡_of_difference}
+use Rattle.exact.proofs.Tests.{T_true}
 use Rattle.exact.proofs.Order as Z
 use Rattle.exact.proofs.Fractions as Q
 use Rattle.exact.proofs.Fractions.{NonNeg, propers}
@@ -63,6 +65,44 @@ bend_kind h F {d₀} {d₁} t =
       | inl u ↦ let (k₀, k₁) = and_yes (ltℚ d₀ c) (ltℚ c d₁) u in bent (Q.<_of_ltℚ k₀) (Q.<_of_ltℚ k₁)
       | inr u ↦ let (k₀, k₁) = and_yes (eqℚ d₀ c) (eqℚ c d₁) u in straight (Q.≈_of_eqℚ k₀) (Q.≈_of_eqℚ k₁)
     ]
+
+-- ---- convex, with a left slope of 0 or more
+
+module _ (h F : ℤ) {d₀ d₁ : Fraction} where
+  rises_of_climb : pos 0 <ℤ F → NonNeg d₀ → NonNeg d₁ → T (rises h F d₀ d₁)
+  unfolding rises whole
+  rises_of_climb up k₀ k₁ =
+      let above : 0ℚ <ℚ whole F = record { cross = Z.<-* (Z.positive_lit tt) up } in
+      rw (Q.ltℚ_true_of_< above, Q.leℚ_true_of_≤ (Q.≤_of_nonneg k₀), Q.leℚ_true_of_≤ (Q.≤_of_nonneg k₁)) tt
+
+  rises_of_level : F ≡ pos 0 → d₀ ≈ℚ 0ℚ → d₁ ≈ℚ 0ℚ → T (rises h F d₀ d₁)
+  unfolding rises whole leℚ ltℚ eqℚ
+  rises_of_level e k₀ k₁ = rw (e, T_true _ (Q.eqℚ_of_≈ k₀), T_true _ (Q.eqℚ_of_≈ k₁)) tt
+
+  module _ (p₀ : Proper d₀) (p₁ : Proper d₁) (h_positive : pos 0 <ℤ h) where
+    pub rising_of_bend : Bend (F over h) d₀ d₁ → NonNeg d₀ → T (rises h F d₀ d₁) × NonNeg d₁
+    unfolding ◌over◌ whole
+    rising_of_bend (bent low high) k₀ =
+        let up : pos 0 <ℤ F =
+        Z.<_cancel (Z.≤_of_< p₀.above_0) (rw zero-*ℤ (Z.≤_<_trans (Z.nonneg_* k₀.sign (Z.≤_of_< h_positive)) low.cross)) in
+        let right : pos 0 <ℤ d₁.num =
+        Z.<_cancel (Z.≤_of_< h_positive)
+        (rw zero-*ℤ (Z.≤_<_trans (Z.nonneg_* (Z.≤_of_< up) (Z.≤_of_< p₁.above_0)) high.cross)) in
+        let k₁ : NonNeg d₁ = record { sign = Z.≤_of_< right } in
+        (rises_of_climb up k₀ k₁, k₁)
+    rising_of_bend (straight low high) k₀ =
+        let p : Proper (F over h) = search propers in
+        let k = Q.nonneg_≈ p p₀ (Q.≈_sym low) k₀ in
+        let k₁ = Q.nonneg_≈ p₁ p (Q.≈_sym high) k in (
+          elim (Z.≤_or_< F (pos 0)) [
+            | inl down ↦
+                let e : F ≡ pos 0 = Z.≤_antisym down k.sign in
+                let level : F over h ≈ℚ 0ℚ = record { cross = rw (e, zero-*ℤ, zero-*ℤ) refl } in
+                rises_of_level e (Q.≈_trans p low level) (Q.≈_trans p (Q.≈_sym high) level)
+            | inr up ↦ rises_of_climb up k₀ k₁
+          ],
+          k₁,
+        )
 
 -- ---- a curve v does what its closed form x does
 

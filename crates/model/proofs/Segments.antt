@@ -4,15 +4,18 @@
 --   S, e₀, g, e₁, a, b               as in ClosedForm: S = 100 h, e₀ = h D₀, g = 100 F, e₁ = h D₁, a = e₁ − g, b = g − e₀
 --   curve_at, slope_at               the curve, and the slope of the convex curve, at a distance from the left end
 --   segment_rises, segment_bends     what they do between the ends; left_slope_rises, a rising segment's left slope is 0 or more
+--   convex_rises                     a convex segment with a left slope of 0 or more rises, and so does the slope
 --   distance_in                      an area inside the segment is at a distance from 0 to h
 --   interpolant_proper, -left, -right    the exact value has a denominator above 0, and is the point's value at both ends
 -- Assumes nothing.
 use mathlib.Core.Path.{◌≡◌}
+use mathlib.Core.Bool.{true}
 use mathlib.Core.List.{[], ◌∷◌}
 use Prim.Native.Nat.{ℕ, ◌<◌}
 use lib.IntN.{ℤ, pos, ◌-ℤ◌, ◌*ℤ◌, +ℤ_invr}
-use lib.Signed.{◌<ℤ◌}
-use Rattle.exact.specs.Fraction.{Fraction, Proper, whole}
+use lib.Signed.{◌≤ℤ◌, ◌<ℤ◌}
+use Rattle.exact.specs.Fraction.{Fraction, Proper, ◌over◌, whole}
+use Rattle.exact.proofs.Tests.{T_true}
 use Rattle.exact.proofs.Ring.{ring, terms}
 use Rattle.exact.proofs.Order as Z
 use Rattle.exact.proofs.Order.{signs}
@@ -24,7 +27,8 @@ use Rattle.model.specs.Shape.{fits, has_shape, segment_test}
 use Rattle.model.specs.Inner.{Good, Inside}
 use Rattle.model.proofs.ClosedForm.{Closed, In, Normal}
 use Rattle.model.proofs.Inside.{Joins, Rises, Bends, end_left, end_right}
-use Rattle.model.proofs.Curves.{rise_kind, left_slope_of_rise, bend_kind, rising_rises, convex_bends, convex_curve_slope}
+use Rattle.model.proofs.Curves.{rise_kind, left_slope_of_rise, bend_kind, rising_of_bend}
+use Rattle.model.proofs.Curves.{rising_rises, convex_bends, convex_curve_slope}
 
 pub proper_gradient : (p : Point) → Proper (gradient p)
 unfolding gradient
@@ -104,6 +108,16 @@ module _ (s : Segment) where
   pub segment_bends : Good (plain convex) s → Bends gap v₀ v₁ d₀ d₁ (curve_at convex) slope_at
   unfolding curve segment_test has_shape fits
   segment_bends k = convex_bends (segment_normal k.ends.ordered) (bend_kind gap rise k.shaped)
+
+  -- section 3.3 of the report (TR/10/83), of one segment: the test of rising data follows from the left slope
+  pub convex_rises : s.left.area < s.right.area → has_shape convex s ≡ true → pos 0 ≤ℤ s.left.slope →
+      (has_shape rising s ≡ true) × (pos 0 ≤ℤ s.right.slope)
+  unfolding has_shape fits gradient ◌over◌
+  convex_rises h e up =
+      let bend = bend_kind gap rise (rw e tt) in
+      let (t, k) = rising_of_bend gap rise (proper_gradient s.left) (proper_gradient s.right) (gap_positive h) bend
+      (record { sign = up }) in
+      (T_true _ t, k.sign)
 
   segment_joins : (shape : Shape) → Good (plain shape) s → Joins gap v₀ v₁ (curve_at shape)
   segment_joins rising k = (segment_rises k).joins

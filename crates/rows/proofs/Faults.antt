@@ -1,8 +1,7 @@
 -- Laws of rows 1 to 6, for the functions that try them.
 --   then_gives, then_refused    what comes after a result decides; after a refusal nothing does
 --   limits_passed               a point that passes rows 3 to 5 keeps its limits
---   points_from, segments_from  the rows from an index on; point_turn, segment_turn, one turn of a loop over them
---   convex_from                 whether the segments from an index on pass the convex test; convex_turn
+--   point_turn, segment_turn    one turn of a loop over the rows from an index on; convex_turn, over the convex test
 -- Assumes nothing.
 use mathlib.Core.Path.{◌≡◌, refl, sym}
 use mathlib.Core.Bool.{Bool, true, not, ◌&&◌}
@@ -11,7 +10,7 @@ use mathlib.Core.Option.{Option, some}
 use Prim.Native.Nat.{ℕ, suc, ◌+◌, ◌<◌}
 use native.Mathlib.Numerals.{add-one}
 use native.Mathlib.Omega.{arith}
-use lib.ListN.{length, drop}
+use lib.ListN.{length}
 use lib.Seq.{drop-cons, drop-length}
 use Rattle.model.specs.Answer.{Answer, gives, refused, row, ◌then◌}
 use Rattle.model.specs.Points.{Point, segments, convex, Rule}
@@ -20,6 +19,7 @@ use Rattle.model.specs.Check.{point_rows, segment_rows}
 use Rattle.model.specs.Read.{all_convex}
 use Rattle.model.specs.Inner.{between, origin, point_at, Limits}
 use Rattle.model.proofs.Rows.{passed}
+use Rattle.rows.specs.Inner.{points_from, segments_from, convex_from}
 
 pub then_gives : {A : Type 0} {a : Answer (Unit {0})} (rest : Answer A) → a ≡ gives tt → (a then rest) ≡ rest
 unfolding ◌then◌
@@ -43,19 +43,13 @@ then_regroup (gives u) (gives v) (refused n i) rest = refl
 then_regroup (gives u) (gives v) (gives w) rest = refl
 
 module _ (ps : List Point) where
-  abbrev pub points_from : Option ℕ → ℕ → Answer (Unit {0})
-  points_from before i = point_rows i before (drop i ps)
-
-  abbrev pub segments_from : Rule → ℕ → Answer (Unit {0})
-  segments_from rule i = segment_rows i rule (segments (drop i ps))
-
   -- the point at i, then the rows of the points after it
   pub point_turn : (before : Option ℕ) (i : ℕ) (p : Point) → i < length ps → p ≡ point_at ps i →
-      (point_rows i before (p ∷ []) then points_from (some p.area) (i + 1)) ≡ points_from before i
+      (point_rows i before (p ∷ []) then points_from ps (some p.area) (i + 1)) ≡ points_from ps before i
   unfolding point_rows
   point_turn before i p h e = rw (e, drop-cons ps i origin h, add-one i) (sym (then_regroup _ _ _ _))
 
-  pub point_end : (before : Option ℕ) (i : ℕ) → i ≡ length ps → points_from before i ≡ gives tt
+  pub point_end : (before : Option ℕ) (i : ℕ) → i ≡ length ps → points_from ps before i ≡ gives tt
   unfolding point_rows
   point_end before i e = rw (e, drop-length ps)
 
@@ -64,32 +58,28 @@ module _ (ps : List Point) where
       p ≡ point_at ps i →
       q ≡ point_at ps (i + 1) →
       b ≡ segment_test rule (between p q) →
-      (row (not b) 6 i then segments_from rule (i + 1)) ≡ segments_from rule i
+      (row (not b) 6 i then segments_from ps rule (i + 1)) ≡ segments_from ps rule i
   unfolding segments segment_rows
   segment_turn rule i p q h e f g =
       let here : i < length ps = omega arith in
       let next : suc i < length ps = omega arith in
       rw (g, e, f, add-one i, drop-cons ps i origin here, drop-cons ps (suc i) origin next)
 
-  pub segment_end : (rule : Rule) (i : ℕ) → i + 1 ≡ length ps → segments_from rule i ≡ gives tt
+  pub segment_end : (rule : Rule) (i : ℕ) → i + 1 ≡ length ps → segments_from ps rule i ≡ gives tt
   unfolding segments segment_rows
   segment_end rule i e =
       let here : i < length ps = omega arith in
       rw (drop-cons ps i origin here, ← add-one i, e, drop-length ps)
 
-  -- item 8: the convex test of the segments from an index on
-  abbrev pub convex_from : ℕ → Bool
-  convex_from i = all_convex (segments (drop i ps))
-
   pub convex_turn : (i : ℕ) → i + 1 < length ps →
-      convex_from i ≡ (has_shape convex (between (point_at ps i) (point_at ps (i + 1))) && convex_from (i + 1))
+      convex_from ps i ≡ (has_shape convex (between (point_at ps i) (point_at ps (i + 1))) && convex_from ps (i + 1))
   unfolding segments all_convex
   convex_turn i h =
       let here : i < length ps = omega arith in
       let next : suc i < length ps = omega arith in
       rw (add-one i, drop-cons ps i origin here, drop-cons ps (suc i) origin next)
 
-  pub convex_end : (i : ℕ) → i + 1 ≡ length ps → convex_from i ≡ true
+  pub convex_end : (i : ℕ) → i + 1 ≡ length ps → convex_from ps i ≡ true
   unfolding segments all_convex
   convex_end i e =
       let here : i < length ps = omega arith in

@@ -1,6 +1,5 @@
 -- Rows 3 to 6 in one pass, point by point.
---   Passing            no row refuses the points to i or the segments between them
---   passing_starts     the first point; passing_goes_on, one more
+--   passing_starts     the first point passes (`Passing`); passing_goes_on, one more
 --   accepted_of        all of them: the points are an accepted curve
 --   curve_of_rows      rows 1 to 6 are passed
 --   refused_by_code, refused_by_points, refused_by_segments    which row refuses
@@ -13,29 +12,23 @@
 use mathlib.Core.Path.{◌≡◌, refl, sym, ◌∙◌, ap}
 use mathlib.Core.Bool.{true, false}
 use mathlib.Core.List.{List, [], ◌∷◌}
-use mathlib.Core.Option.{none, some}
+use mathlib.Core.Option.{none}
 use Prim.Native.Nat.{ℕ, ◌+◌, ◌<◌}
-use borrow.Author.Tests.{le-ltb}
 use lib.ListN.{length}
 use Rattle.std.specs.Prelude.{Result, Ok, Err, IfOk}
 use Rattle.model.specs.Answer.{Answer, gives, refused, row, ◌then◌}
-use Rattle.model.specs.Points.{points_least, points_most, Point, segments, rule_of}
+use Rattle.model.specs.Points.{Point, segments, rule_of}
 use Rattle.model.specs.Check.{bad_count, bad_code, point_rows, segment_rows, curve_rows}
-use Rattle.model.specs.Inner.{Accepted, Limits, point_at}
+use Rattle.model.specs.Inner.{Accepted, point_at}
 use Rattle.model.proofs.Accepted as A
 use Rattle.model.proofs.Rows.{gives_tt, count_of_row_1, code_of_row_2, row_passed, row_refused, then_first, then_rest, gives_injective, passed}
 use Rattle.refusal.specs.declared.Refusal.{Refusal}
 use Rattle.refusal.specs.Refusal.{answer_of}
 use Rattle.shape.specs.declared.Shape.{Shape}
 use Rattle.shape.specs.Codes.{code_of}
-use Rattle.rows.specs.Inner.{Count, Limited, Follows, accepts}
+use Rattle.rows.specs.Inner.{Count, Limited, Follows, Passing, accepts}
 use Rattle.rows.proofs.Faults.{then_gives, limits_passed}
-use Rattle.rows.proofs.Faults.{points_from, point_turn, point_end, segments_from, segment_turn, segment_end}
-
-pub record Passing (ps : List Point) (code i : ℕ) : Type 0 where
-  pub limits : Limits (point_at ps i)
-  pub points_pass : points_from ps (some (point_at ps i).area) (i + 1) ≡ points_from ps none 0
-  pub segments_pass : segments_from ps (rule_of code) i ≡ segments_from ps (rule_of code) 0
+use Rattle.rows.proofs.Faults.{point_turn, point_end, segment_turn, segment_end}
 
 -- ---- rows 1 to 6 of so many points and a code from 1 to 4
 
@@ -104,6 +97,7 @@ module _ (ps : List Point) (code : ℕ) where
   pub passing_starts : 0 < length ps → point_rows 0 none (point_at ps 0 ∷ []) ≡ gives tt → Passing ps code 0
   passing_starts h e =
       record {
+        inner = h;
         limits = limits_passed 0 none _ e;
         points_pass = sym (then_gives _ e) ∙ point_turn ps none 0 _ h refl;
         segments_pass = refl;
@@ -115,6 +109,7 @@ module _ (ps : List Point) (code : ℕ) where
   unfolding row ◌then◌
   passing_goes_on {i} h f k =
       record {
+        inner = h;
         limits = (passed (i + 1) _ _ [] (f.point_passes (i + 1))).limits;
         points_pass = sym (then_gives _ (f.point_passes (i + 1))) ∙ point_turn ps _ (i + 1) _ h refl ∙ k.points_pass;
         segments_pass =

@@ -2,15 +2,19 @@
 --   Count      as many points as a curve has
 --   Limited    so many points, of which rows 3 to 5 refuse none
 --   Follows    no row refuses the second of two points or the segment between them
+--   points_from, segments_from, convex_from    the rows, and the convex test, from an index on
+--   Passing    no row refuses the points to i or the segments between them
+--   Run        item 8: so it is under 1, all these segments are convex, and the slope at i is 0 or more
 --   accepts    whether rows 1 to 6 refuse nothing
 -- Assumes nothing.
-use Rattle.std.specs.Prelude.{◌≡◌, Bool, true, List, [], ◌∷◌, ℕ, ◌≤◌, length}
-use Rattle.std.proofs.Math.Option.{none, some}
-use Rattle.model.specs.Answer.{gives}
-use Rattle.model.specs.Points.{points_least, points_most, Point, Rule}
+use Rattle.std.specs.Prelude.{◌≡◌, Bool, true, List, [], ◌∷◌, ℕ, ◌+◌, ◌≤◌, ◌<◌, pos, ◌≤ℤ◌, length, drop}
+use Rattle.std.proofs.Math.Option.{Option, none, some}
+use Rattle.model.specs.Answer.{Answer, gives}
+use Rattle.model.specs.Points.{points_least, points_most, Point, segments, Rule, rule_of}
 use Rattle.model.specs.Shape.{segment_test}
-use Rattle.model.specs.Check.{point_rows, curve_rows}
-use Rattle.model.specs.Inner.{gives_nothing, between}
+use Rattle.model.specs.Check.{point_rows, segment_rows, curve_rows}
+use Rattle.model.specs.Read.{all_convex}
+use Rattle.model.specs.Inner.{gives_nothing, between, point_at, Limits}
 
 pub record Count (n : ℕ) : Type 0 where
   pub least : points_least ≤ n
@@ -26,3 +30,24 @@ pub record Follows (rule : Rule) (p q : Point) : Type 0 where
 
 abbrev pub accepts : List Point → ℕ → Bool
 accepts ps code = gives_nothing (curve_rows ps code)
+
+module _ (ps : List Point) where
+  abbrev pub points_from : Option ℕ → ℕ → Answer (Unit {0})
+  points_from before i = point_rows i before (drop i ps)
+
+  abbrev pub segments_from : Rule → ℕ → Answer (Unit {0})
+  segments_from rule i = segment_rows i rule (segments (drop i ps))
+
+  abbrev pub convex_from : ℕ → Bool
+  convex_from i = all_convex (segments (drop i ps))
+
+pub record Passing (ps : List Point) (code i : ℕ) : Type 0 where
+  pub inner : i < length ps
+  pub limits : Limits (point_at ps i)
+  pub points_pass : points_from ps (some (point_at ps i).area) (i + 1) ≡ points_from ps none 0
+  pub segments_pass : segments_from ps (rule_of code) i ≡ segments_from ps (rule_of code) 0
+
+pub record Run (ps : List Point) (i : ℕ) : Type 0 where
+  pub passing : Passing ps 1 i
+  pub convex : all_convex (segments ps) ≡ convex_from ps i
+  pub slope : pos 0 ≤ℤ (point_at ps i).slope

@@ -12,7 +12,7 @@ ghost use Rattle.model.specs.Inner.{Limits, Neighbours};
 ghost use Rattle.refusal.specs.Refusal.{answer_of, checked};
 ghost use Rattle.point.specs.Inner.{point_of};
 ghost use Rattle.shape.specs.Codes.{code_of};
-ghost use Rattle.rows.specs.Inner.{Count, Limited, Follows, accepts};
+ghost use Rattle.rows.specs.Inner.{Count, Limited, Follows, Passing, Run, accepts};
 
 use point::Point;
 use points::{Lists, Points};
@@ -51,7 +51,21 @@ fn bends(p: Point, q: Point) -> bool
     Segment { left: p, right: q }.has_shape(Shape::Convex)
 }
 
-// Rows 3 to 6 in one pass. Where it finds a fault it does not say which.
+// Rows 3 to 6 in one pass, from a point on up to which they are passed. Where it finds a fault it does not say which.
+#[inline(always)]
+fn rest_passes<P: Points>(points: &P, shape: Shape, from: usize) -> bool
+    requires count { Count (length (P.points points.now)) }
+    requires passing { Passing (P.points points.now) (code_of shape) from }
+    ensures { result ≡ true → accepts (P.points points.now) (code_of shape) ≡ true }
+{
+    for i in from..points.count() - 1 {
+        if !follows(shape, points.point(i), points.point(i + 1)) {
+            return false;
+        }
+    }
+    true
+}
+
 #[inline(always)]
 fn all_pass<P: Points>(points: &P, shape: Shape) -> bool
     requires { Count (length (P.points points.now)) }
@@ -60,12 +74,7 @@ fn all_pass<P: Points>(points: &P, shape: Shape) -> bool
     if points.point(0).check(None).is_err() {
         return false;
     }
-    for i in 0..points.count() - 1 {
-        if !follows(shape, points.point(i), points.point(i + 1)) {
-            return false;
-        }
-    }
-    true
+    rest_passes(points, shape, 0)
 }
 
 // The same, with a loop for each shape. (A file brings the shape, so something must choose by it.)
@@ -185,27 +194,39 @@ pub fn used_shape<P: Points>(points: &P, shape: Shape) -> Shape
     shape
 }
 
-// Rows 3 to 6 of a rising curve and the convex test in one pass: the shape by which it is read. Where it finds a fault it says none.
+// How far the points pass and the segments are convex, from a first slope of 0 or more on. Then they rise too: section 3.3 of the
+// report (TR/10/83).
 #[inline(always)]
+fn convex_run<P: Points>(points: &P) -> Option<usize>
+    requires { Count (length (P.points points.now)) }
+    ensures { IfSome result (λ i. Run (P.points points.now) i) }
+{
+    let first = points.point(0);
+    if first.check(None).is_err() || first.slope < 0 {
+        return None;
+    }
+    let last = points.count() - 1;
+    for i in 0..last {
+        if !follows(Shape::Convex, points.point(i), points.point(i + 1)) {
+            return Some(i);
+        }
+    }
+    Some(last)
+}
+
+// The shape by which a rising curve is read, from one pass: the convex test as far as it goes, the rising test from there on. None
+// does not say why. (The run ends at a segment that is not convex; since `follows` does not say so, that one is tested again.)
 fn rising_pass<P: Points>(points: &P) -> Option<Shape>
     requires { Count (length (P.points points.now)) }
     ensures { IfSome result (λ shape. (accepts (P.points points.now) 1 ≡ true)
         × (code_of shape ≡ used_code (P.points points.now) 1)) }
 {
-    if points.point(0).check(None).is_err() {
-        return None;
-    }
-    let mut convex = true;
-    for i in 0..points.count() - 1 {
-        let p = points.point(i);
-        let q = points.point(i + 1);
-        if !follows(Shape::Rising, p, q) {
-            return None;
-        }
-        convex = convex && bends(p, q);
-    }
-    if convex {
+    let run = convex_run(points)?;
+    if run == points.count() - 1 {
         return Some(Shape::Convex);
+    }
+    if !rest_passes(points, Shape::Rising, run) || bends(points.point(run), points.point(run + 1)) {
+        return None;
     }
     Some(Shape::Rising)
 }

@@ -1,5 +1,4 @@
 -- The test of shape 2 is the convex test.
-use Rattle.std.proofs.Common.{◌∙◌}
 use Rattle.model.specs.Shape.{segment_test}
 use Rattle.shape.proofs.Codes.{rule_of_convex}
 use Rattle.rows.proofs.bends.Goals as goal

@@ -4,7 +4,7 @@ use Rattle.std.proofs.Math.Option.{none}
 use Rattle.std.specs.Prelude.{Ok, IfSome}
 use Rattle.model.specs.Points.{area_most}
 use Rattle.point.specs.Inner.{earlier}
-use Rattle.rows.proofs.Faults.{points_from}
+use Rattle.rows.specs.Inner.{points_from}
 use Rattle.rows.proofs.check_points.Given as goal
 
 abbrev pub invariant-loop-i : goal.invariant-loop-i

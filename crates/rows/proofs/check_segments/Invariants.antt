@@ -2,7 +2,7 @@
 use Rattle.std.proofs.Common.{◌≡◌}
 use Rattle.model.specs.Points.{rule_of}
 use Rattle.shape.specs.Codes.{code_of}
-use Rattle.rows.proofs.Faults.{segments_from}
+use Rattle.rows.specs.Inner.{segments_from}
 use Rattle.rows.proofs.check_segments.Given as goal
 
 abbrev pub invariant-loop-left : goal.invariant-loop-left

@@ -1,5 +1,5 @@
 -- The pass decides where it accepts; of another curve rows 1 to 6 and then the rule used are asked.
-use Rattle.std.proofs.Common.{◌≡◌, sym, ◌∙◌}
+use Rattle.std.proofs.Common.{sym, ◌∙◌}
 use Rattle.model.specs.Answer.{gives, ◌then◌}
 use Rattle.model.specs.Check.{curve_rows}
 use Rattle.model.proofs.AsRead.{used_accepted}

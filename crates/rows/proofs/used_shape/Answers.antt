@@ -1,5 +1,5 @@
 -- The test is that of `used_code`, and an accepted curve is accepted under the code used.
-use Rattle.std.proofs.Common.{◌≡◌, ℕ, true, false, ◌&&◌, eqb, refl, ◌∙◌, sym, inl, inr}
+use Rattle.std.proofs.Common.{◌≡◌, ◌&&◌, eqb, refl, ◌∙◌, sym, inl, inr}
 use Rattle.model.specs.Points.{segments}
 use Rattle.model.specs.Read.{all_convex, used_code}
 use Rattle.model.proofs.AsRead.{used_accepted}
