@@ -32,7 +32,8 @@ use Rattle.model.proofs.Indexed.{chained_at}
 use Rattle.model.proofs.Accepted.{count_of, chained_of}
 use Rattle.model.proofs.Lists.{Fields, fields_of, fields_length, fields_at}
 use Rattle.shape.proofs.Tests.{climbing_shape, level_shape, descending_shape}
-use Rattle.rows.proofs.Faults.{segments_from, segment_turn, segment_end}
+use Rattle.rows.specs.Inner.{segments_from}
+use Rattle.rows.proofs.Faults.{segment_turn, segment_end}
 use Rattle.harmonic.specs.Inner.{zero_slope_points, rated_rows, Climbing}
 use Rattle.harmonic.specs.Fill.{area_and_value_rows, falls}
 
