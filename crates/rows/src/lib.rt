@@ -248,7 +248,7 @@ pub fn check_to_read<P: Points>(points: &P, code: u32) -> Result<Shape, Refusal>
 
 // ---- curves
 
-// Points that rows 1 to 6 do not refuse, and their shape. The desk readings make it of a shape that `check` gives: a result that
+// Points that rows 1 to 6 do not refuse, and their shape. The desk readings make it of a shape that they are given: a result that
 // holds the points of a file goes through memory.
 #[derive(Drop)]
 pub struct Curve<P: Points> {
