@@ -135,7 +135,7 @@ fn main(rt: HostRuntime) -> ExitCode {
     match asked(&rt) {
         Request::Sheet => print_sheet(&rt, rt.stdin()),
         Request::Help => print_help(&rt),
-        Request::Version => print(&rt, b"ratesheet 0.7.0\n"),
+        Request::Version => print(&rt, b"ratesheet 0.8.0\n"),
         Request::Unknown => {
             let _ = eprintln!(rt; "usage: ratesheet [--help | --version] < FILE");
             ExitCode::SUCCESS
