@@ -215,7 +215,9 @@ fn convex_run<P: Points>(points: &P) -> Option<usize>
 }
 
 // The shape by which a rising curve is read, from one pass: the convex test as far as it goes, the rising test from there on. None
-// does not say why. (The run ends at a segment that is not convex; since `follows` does not say so, that one is tested again.)
+// does not say why. (The run ends at a segment that is not convex; since `follows` does not say so, that one is tested again.) Not
+// inlined: among the other passes its loops have too few registers.
+#[inline(never)]
 fn rising_pass<P: Points>(points: &P) -> Option<Shape>
     requires { Count (length (P.points points.now)) }
     ensures { IfSome result (λ shape. (accepts (P.points points.now) 1 ≡ true)
