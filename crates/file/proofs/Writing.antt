@@ -24,7 +24,8 @@ module _ (areas values : List ℕ) (slopes : List ℤ) (code : ℕ) {shape : ℕ
       ≡ (row (short_buffer (length areas) room) 12 0 then gives (point_offset (length areas)))
   unfolding write_answer
   after_6 room =
-      after_rows areas values slopes code _ e (λ qs. row (short_buffer (length qs) room) 12 0 then gives (point_offset (length qs)))
+      after_rows areas values slopes code _ e
+      (λ qs. row (short_buffer (length qs) room) 12 0 then gives (point_offset (length qs)))
       ∙ (rw (size_listed areas values slopes code _ e))
 
   pub file_in_buffer : {out : List ℕ} (buffer : List ℕ) (n : ℕ) →
@@ -44,7 +45,8 @@ module _ (areas values : List ℕ) (slopes : List ℤ) (code : ℕ) (buffer : Li
       record { answer : a ≡ answer; out : buffer ≡ filled a (file_bytes (points areas values slopes) code) buffer }
   buffer_left e k = record { answer = e ∙ k; out = after_refusal _ e }
 
-  pub refused_by_curve : {n i : ℕ} → refused n i ≡ on_lists areas values slopes (with_code code (λ _. code)) → refused n i ≡ answer
+  pub refused_by_curve : {n i : ℕ} → refused n i ≡ on_lists areas values slopes (with_code code (λ _. code)) →
+      refused n i ≡ answer
   unfolding write_answer
   refused_by_curve = refused_listed areas values slopes code _ _
 

@@ -1,5 +1,6 @@
 -- An accepted curve, as a chain of segments that each have their shape.
---   count_of       2 to 64 points; code_of, a code from 1 to 4; points_pass, segments_pass, rows 3 to 6; accepted_of, back from these
+--   count_of       2 to 64 points; code_of, a code from 1 to 4; points_pass, segments_pass, rows 3 to 6
+--   accepted_of    and back from these
 --   limits_of      each point keeps its limits
 --   neighbours_of_rows    points that pass rows 1 and 3 to 5 are a chain; good_of_rows, and row 6 too
 --   chained_of     the points of an accepted curve are a chain of good segments

@@ -3,7 +3,8 @@
 --   factors_are_near      at most half a unit off; where it is exactly half a unit, even
 --   factors_are_ranged    from least_factor to most_factor of the rule of its code; factors_are_bounded, from −200,000 to 400,000
 --   rated_points_read     at a rated point the factor is the point's value
---   convex_steps          of three areas equally far apart, the second step is at most two units smaller, on a curve read as convex
+--   convex_steps          of three areas equally far apart, the second step is at most two units smaller, on a curve that is read
+--                         as convex
 --   rising_factors        a larger area never reads less, on a rising curve, whichever curve it is read by
 --   factor_from_mirror    a falling or concave factor is 200,000 less the mirror's
 --   falling_factors, concave_steps    so never more, at most two units larger

@@ -24,7 +24,8 @@ use Rattle.exact.proofs.Fractions.{NonNeg, propers, positivity}
 use Rattle.model.specs.Points.{Point, gradient, Segment, Shape, rising, convex, plain}
 use Rattle.model.specs.Interpolant.{interpolant}
 use Rattle.model.specs.Inner.{between, Good, Inside}
-use Rattle.model.proofs.Segments.{distance, slope_at, segment_rises, segment_bends, distance_in, proper_gradient, left_slope_rises}
+use Rattle.model.proofs.Segments.{distance, slope_at, segment_rises, segment_bends, distance_in}
+use Rattle.model.proofs.Segments.{proper_gradient, left_slope_rises}
 use Rattle.model.proofs.Segments.{interpolant_proper, interpolant_left, interpolant_right}
 use Rattle.model.proofs.Walk.{Spreads}
 
@@ -151,8 +152,8 @@ slopes_in {s} {x} {y} r r' h = elim (compare y x) [
   | inr (k, e) ↦ slopes_rise (line r) (line r') (Z.pos_<_of_< k) (under_inside r r') (under_inside r' r)
 ]
 
--- Section 3.3 of the report (TR/10/83): a convex curve through rising data rises. Its slopes grow from the left one, which a rising
--- segment has at 0 or more.
+-- Section 3.3 of the report (TR/10/83): a convex curve through rising data rises. Its slopes grow from the left one, which a
+-- rising segment has at 0 or more.
 pub no_tangent_falls : {s : Segment} {x : ℕ} → Inside (Good (plain convex)) s x → Good (plain rising) s →
     NonNeg (curve_slope s x)
 no_tangent_falls {s} {x} r g =

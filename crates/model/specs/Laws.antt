@@ -67,16 +67,16 @@ module _ (c : Curve) where
   abbrev pub ConcaveChords : Type 0
   ConcaveChords = c.code ≡ 4 → ChordsInOrder (λ left right. right ≤ℚ left)
 
-  -- item 4: a curve accepted under 3 (4) is, mirrored, accepted under 1 (2), and its exact values are 200,000 less the mirror's by
-  -- the rule of 1 (2)
+  -- item 4: a curve accepted under 3 (4) is, mirrored, accepted under 1 (2), and its exact values are 200,000 less the mirror's,
+  -- by the rule of 1 (2)
   abbrev pub MirrorAccepted : Type 0
   MirrorAccepted =
       2 < c.code →
       (curve_rows (map mirror c.points) (c.code - 2) ≡ gives tt)
       × ((x : ℕ) → exact x ≡ whole (pos value_most) -ℚ exact_value (map mirror c.points) (c.code - 2) x)
 
-  -- item 8: accepted under 1, it is read by the convex rule exactly where the same points are accepted under 2; under another code
-  -- it is read by its own
+  -- item 8: accepted under 1, it is read by the convex rule exactly where the same points are accepted under 2; under another
+  -- code it is read by its own
   pub record ConvexFirst : Type 0 where
     pub rising : c.code ≡ 1 → (read_code ≡ 2) ↔ (curve_rows c.points 2 ≡ gives tt)
     pub other : (c.code ≡ 1 → ⊥) → read_code ≡ c.code

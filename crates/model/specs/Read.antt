@@ -1,5 +1,5 @@
--- Document 01: the segment that an area takes, the exact value there, the reading ("Rounding"), and what Read answers. Document 02,
--- item 8: the code by which a curve is read.
+-- Document 01: the segment that an area takes, the exact value there, the reading ("Rounding"), and what Read answers. Document
+-- 02, item 8: the code by whose rule a curve is read.
 -- Assumes nothing.
 use Rattle.std.specs.Prelude.{ℕ, suc, Bool, true, cond, ◌&&◌, ◌||◌, List, [], ◌∷◌, eqb, leb, ltb, ℤ}
 use Rattle.exact.specs.Fraction.{Fraction}
@@ -32,8 +32,8 @@ unfoldable pub all_convex : List Segment → Bool
 all_convex [] = true
 all_convex (s ∷ ss) = has_shape convex s && all_convex ss
 
--- item 8: the convex rule comes first. A curve under 1 that passes both tests is read by the rule of 2, every other curve by that of
--- its own code. (Check asks the rising test under 1 already.)
+-- item 8: the convex rule comes first. A curve under 1 that passes both tests is read by the rule of 2, every other curve by that
+-- of its own code. (Check asks the rising test under 1 already.)
 unfoldable pub used_code : List Point → ℕ → ℕ
 used_code ps code = cond (eqb code 1 && all_convex (segments ps)) 2 code
 

@@ -1,5 +1,6 @@
 -- Document 02, item 8: a rising curve, as far as its segments are convex.
---   neighbours_of               a point that passes, and one that follows it; neighbours_at, those at an index of an accepted curve
+--   neighbours_of               a point that passes, and one that follows it
+--   neighbours_at               two neighbouring points of an accepted curve
 --   run_starts, run_goes_on     a run of convex segments (`Run`), from the first point, one segment more
 --   run_ends, run_stops         after the last segment the curve is read as convex; at one that is not convex it is not
 -- Assumes nothing.

@@ -18,7 +18,8 @@ use Rattle.model.proofs.Answers.{Result, on_lists_is, on_lists_gives, on_lists_r
 use Rattle.model.proofs.Lists.{fields_of, fields_length}
 
 module _ (areas values : List ℕ) (slopes : List ℤ) {ps : List Point}
-    (e : gives ps ≡ (row (lengths_differ (length areas) (length values) (length slopes)) 1 0 then gives (points areas values slopes)))
+    (e : gives ps
+    ≡ (row (lengths_differ (length areas) (length values) (length slopes)) 1 0 then gives (points areas values slopes)))
   where
     pub lent_alike : lengths_differ (length areas) (length values) (length slopes) ≡ false
     lent_alike = row_passed _ 1 0 (gives (points areas values slopes)) (sym e)

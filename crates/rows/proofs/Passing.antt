@@ -21,7 +21,8 @@ use Rattle.model.specs.Points.{Point, segments, rule_of}
 use Rattle.model.specs.Check.{bad_count, bad_code, point_rows, segment_rows, curve_rows}
 use Rattle.model.specs.Inner.{Accepted, point_at}
 use Rattle.model.proofs.Accepted as A
-use Rattle.model.proofs.Rows.{gives_tt, count_of_row_1, code_of_row_2, row_passed, row_refused, then_first, then_rest, gives_injective, passed}
+use Rattle.model.proofs.Rows.{gives_tt, count_of_row_1, code_of_row_2, row_passed, row_refused}
+use Rattle.model.proofs.Rows.{then_first, then_rest, gives_injective, passed}
 use Rattle.refusal.specs.declared.Refusal.{Refusal}
 use Rattle.refusal.specs.Refusal.{answer_of}
 use Rattle.shape.specs.declared.Shape.{Shape}

@@ -194,8 +194,8 @@ pub fn used_shape<P: Points>(points: &P, shape: Shape) -> Shape
     shape
 }
 
-// How far the points pass and the segments are convex, from a first slope of 0 or more on. Then they rise too: section 3.3 of the
-// report (TR/10/83).
+// How far the points pass and the segments are convex, from a first slope of 0 or more on. Then they rise too: section 3.3 of
+// the report (TR/10/83).
 #[inline(always)]
 fn convex_run<P: Points>(points: &P) -> Option<usize>
     requires { Count (length (P.points points.now)) }
@@ -214,9 +214,9 @@ fn convex_run<P: Points>(points: &P) -> Option<usize>
     Some(last)
 }
 
-// The shape by which a rising curve is read, from one pass: the convex test as far as it goes, the rising test from there on. None
-// does not say why. (The run ends at a segment that is not convex; since `follows` does not say so, that one is tested again.) Not
-// inlined: among the other passes its loops have too few registers.
+// The shape by which a rising curve is read, from one pass: the convex test as far as it goes, the rising test from there on.
+// None does not say why. (The run ends at a segment that is not convex; since `follows` does not say so, that one is tested
+// again.) Not inlined: among the other passes its loops have too few registers.
 #[inline(never)]
 fn rising_pass<P: Points>(points: &P) -> Option<Shape>
     requires { Count (length (P.points points.now)) }
