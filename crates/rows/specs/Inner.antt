@@ -2,10 +2,10 @@
 --   Count      as many points as a curve has
 --   Limited    so many points, of which rows 3 to 5 refuse none
 --   Follows    no row refuses the second of two points or the segment between them
---   points_from, segments_from, convex_from    the rows, and the convex test, from an index on
---   Passing    no row refuses the points to i or the segments between them
---   Run        item 8: so it is under 1, all these segments are convex, and the slope at i is 0 or more
 --   accepts    whether rows 1 to 6 refuse nothing
+--   points_from, segments_from, convex_from    rows 3 to 5, row 6 and the convex test, from an index on
+--   Passing    no row refuses the points to i or the segments between them
+--   Run        item 8: so it is under 1, and all these segments are convex; the slope at i is 0 or more
 -- Assumes nothing.
 use Rattle.std.specs.Prelude.{◌≡◌, Bool, true, List, [], ◌∷◌, ℕ, ◌+◌, ◌≤◌, ◌<◌, pos, ◌≤ℤ◌, length, drop}
 use Rattle.std.proofs.Math.Option.{Option, none, some}

@@ -7,9 +7,9 @@ use Rattle.refusal.specs.declared.Refusal.{Refusal}
 use Rattle.refusal.specs.Refusal.{checked}
 use Rattle.rows.proofs.all_convex.Goals as goal
 
-ok_is : (r : Result (Unit {0}) Refusal) → is_ok r ≡ gives_nothing (checked r)
-ok_is (Ok u) = refl
-ok_is (Err refusal) = refl
+gives_nothing_of_ok : (r : Result (Unit {0}) Refusal) → is_ok r ≡ gives_nothing (checked r)
+gives_nothing_of_ok (Ok u) = refl
+gives_nothing_of_ok (Err refusal) = refl
 
 pub returns : goal.returns
-returns g c = c.is_ok.ensures.value ∙ ok_is _ ∙ ap gives_nothing c.check_segments.ensures ∙ convex_rows _
+returns g c = c.is_ok.ensures.value ∙ gives_nothing_of_ok _ ∙ ap gives_nothing c.check_segments.ensures ∙ convex_rows _
