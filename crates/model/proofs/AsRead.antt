@@ -25,16 +25,16 @@ use Rattle.model.proofs.Codes.{rule_of_2}
 use Rattle.model.proofs.Rows.{gives_tt}
 use Rattle.model.proofs.Accepted.{accepted_of, count_of, points_pass, segments_pass}
 
-convex_from : (i : ℕ) (ss : List Segment) → gives_nothing (segment_rows i (plain convex) ss) ≡ all_convex ss
+convex_rows_from : (i : ℕ) (ss : List Segment) → gives_nothing (segment_rows i (plain convex) ss) ≡ all_convex ss
 unfolding segment_rows segment_test row ◌then◌ all_convex
-convex_from i [] = refl
-convex_from i (s ∷ ss) = elim (true_or_false (has_shape convex s)) [
-  | inl e ↦ rw e (convex_from (suc i) ss)
+convex_rows_from i [] = refl
+convex_rows_from i (s ∷ ss) = elim (true_or_false (has_shape convex s)) [
+  | inl e ↦ rw e (convex_rows_from (suc i) ss)
   | inr e ↦ rw e refl
 ]
 
 pub convex_rows : (ps : List Point) → gives_nothing (segment_rows 0 (rule_of 2) (segments ps)) ≡ all_convex (segments ps)
-convex_rows ps = rw (rule_of_2 {code = 2} refl) (convex_from 0 (segments ps))
+convex_rows ps = rw (rule_of_2 {code = 2} refl) (convex_rows_from 0 (segments ps))
 
 pub data Used (ps : List Point) (code : ℕ) : Type 0 where
   convex_too : code ≡ 1 → all_convex (segments ps) ≡ true → used_code ps code ≡ 2 → Used ps code
@@ -56,7 +56,7 @@ unfolding used_code
 used_own ps code n = rw (ne_eqb code 1 n) refl
 
 module _ {ps : List Point} {code : ℕ} (k : Accepted ps code) where
-  -- accepted under 2, for what the segments' test decides
+  -- under 2 the segments' test alone is another
   pub under_2 : all_convex (segments ps) ≡ true → Accepted ps 2
   under_2 e = accepted_of ps 2 (count_of k) (omega arith, omega arith) (points_pass k) (gives_tt _ (convex_rows ps ∙ e))
 

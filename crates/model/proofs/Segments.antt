@@ -4,7 +4,7 @@
 --   S, e₀, g, e₁, a, b               as in ClosedForm: S = 100 h, e₀ = h D₀, g = 100 F, e₁ = h D₁, a = e₁ − g, b = g − e₀
 --   curve_at, slope_at               the curve, and the slope of the convex curve, at a distance from the left end
 --   segment_rises, segment_bends     what they do between the ends; left_slope_rises, a rising segment's left slope is 0 or more
---   convex_rises                     a convex segment with a left slope of 0 or more rises, and so does the slope
+--   convex_rises                     a convex segment with a left slope of 0 or more rises, and its right slope is 0 or more
 --   distance_in                      an area inside the segment is at a distance from 0 to h
 --   interpolant_proper, -left, -right    the exact value has a denominator above 0, and is the point's value at both ends
 -- Assumes nothing.

@@ -10,7 +10,7 @@ use mathlib.Core.Option.{Option, some}
 use Prim.Native.Nat.{ℕ, suc, ◌+◌, ◌<◌}
 use native.Mathlib.Numerals.{add-one}
 use native.Mathlib.Omega.{arith}
-use lib.ListN.{length}
+use lib.ListN.{length, drop}
 use lib.Seq.{drop-cons, drop-length}
 use Rattle.model.specs.Answer.{Answer, gives, refused, row, ◌then◌}
 use Rattle.model.specs.Points.{Point, segments, convex, Rule}
@@ -53,34 +53,39 @@ module _ (ps : List Point) where
   unfolding point_rows
   point_end before i e = rw (e, drop-length ps)
 
-  -- the segment at i, then the rows of the segments after it
+  -- the segments from an index on: the segment there, then those after it
+  segments_turn : (i : ℕ) → i + 1 < length ps →
+      segments (drop i ps) ≡ between (point_at ps i) (point_at ps (i + 1)) ∷ segments (drop (i + 1) ps)
+  unfolding segments
+  segments_turn i h =
+      let here : i < length ps = omega arith in
+      let next : suc i < length ps = omega arith in
+      rw (add-one i, drop-cons ps i origin here, drop-cons ps (suc i) origin next)
+
+  segments_end : (i : ℕ) → i + 1 ≡ length ps → segments (drop i ps) ≡ []
+  unfolding segments
+  segments_end i e =
+      let here : i < length ps = omega arith in
+      rw (drop-cons ps i origin here, ← add-one i, e, drop-length ps)
+
+  -- row 6 of the segment at i, then of the segments after it
   pub segment_turn : (rule : Rule) (i : ℕ) {b : Bool} (p q : Point) → i + 1 < length ps →
       p ≡ point_at ps i →
       q ≡ point_at ps (i + 1) →
       b ≡ segment_test rule (between p q) →
       (row (not b) 6 i then segments_from ps rule (i + 1)) ≡ segments_from ps rule i
-  unfolding segments segment_rows
-  segment_turn rule i p q h e f g =
-      let here : i < length ps = omega arith in
-      let next : suc i < length ps = omega arith in
-      rw (g, e, f, add-one i, drop-cons ps i origin here, drop-cons ps (suc i) origin next)
+  unfolding segment_rows
+  segment_turn rule i p q h e f g = rw (g, e, f, segments_turn i h, add-one i)
 
   pub segment_end : (rule : Rule) (i : ℕ) → i + 1 ≡ length ps → segments_from ps rule i ≡ gives tt
-  unfolding segments segment_rows
-  segment_end rule i e =
-      let here : i < length ps = omega arith in
-      rw (drop-cons ps i origin here, ← add-one i, e, drop-length ps)
+  unfolding segment_rows
+  segment_end rule i e = rw (segments_end i e)
 
   pub convex_turn : (i : ℕ) → i + 1 < length ps →
       convex_from ps i ≡ (has_shape convex (between (point_at ps i) (point_at ps (i + 1))) && convex_from ps (i + 1))
-  unfolding segments all_convex
-  convex_turn i h =
-      let here : i < length ps = omega arith in
-      let next : suc i < length ps = omega arith in
-      rw (add-one i, drop-cons ps i origin here, drop-cons ps (suc i) origin next)
+  unfolding all_convex
+  convex_turn i h = rw (segments_turn i h)
 
   pub convex_end : (i : ℕ) → i + 1 ≡ length ps → convex_from ps i ≡ true
-  unfolding segments all_convex
-  convex_end i e =
-      let here : i < length ps = omega arith in
-      rw (drop-cons ps i origin here, ← add-one i, e, drop-length ps)
+  unfolding all_convex
+  convex_end i e = rw (segments_end i e)

@@ -66,6 +66,7 @@ fn rest_passes<P: Points>(points: &P, shape: Shape, from: usize) -> bool
     true
 }
 
+// Rows 3 to 6 in one pass.
 #[inline(always)]
 fn all_pass<P: Points>(points: &P, shape: Shape) -> bool
     requires { Count (length (P.points points.now)) }
