@@ -4,6 +4,7 @@
 --   found            what compares equal to a whole number of 32 bits is that number
 --   taken            what is whole, brought into range
 --   not_whole, not_finite    what is not
+--   below_infinity, not_above_infinity    what is finite, by two comparisons
 -- Assumes nothing.
 use mathlib.Core.Path.{◌≡◌, refl, sym, ◌∙◌, ap, subst}
 use mathlib.Core.Bool.{Bool, true, false, ◌&&◌, ◌||◌, beq, cond, true≢false}
@@ -16,7 +17,7 @@ use borrow.Author.Tests.{eq-eqb}
 use lib.IntN.{ℤ, pos, negsuc, neg_ℤ}
 use lib.Dec.{T, ltb, leb, eqb, ltb→lt, eqb→eq}
 use lib.Pow.{pow-add, pow_pos}
-use lib.Ieee.{Float, nan, inf, fin, binary64, up, down, round, eq, fits, of_int, to_signed}
+use lib.Ieee.{Float, nan, inf, fin, binary64, up, down, round, eq, lt, fits, of_bits, of_int, to_signed}
 use lib.Ieee.Fits.{down_pos, and_l, and_r, round-fits}
 use lib.Ieee.Exact.{HasValue, round_exact}
 use lib.Ieee.Back.{round_whole, whole_unique}
@@ -187,3 +188,21 @@ not_whole (fin s m (negsuc k)) t h = by_number (whole_number (fin s m (negsuc k)
     by_number : (o : Option ℤ) → whole_number (fin s m (negsuc k)) ≡ o → none ≡ saturated o
     by_number none e = unfold saturated in refl
     by_number (some z) e = absurd (no_fraction s m k t _ (value_of_whole s m (negsuc k) z e).size)
+
+-- ---- between the infinities
+
+pub below_infinity : (x : Float) → lt (of_bits binary64 18442240474082181120) x ≡ true →
+    lt x (of_bits binary64 9218868437227405312) ≡ float_is_finite x
+unfolding lt of_bits float_is_finite
+below_infinity nan h = refl
+below_infinity (inf true) h = absurd (true≢false (sym h))
+below_infinity (inf false) h = refl
+below_infinity (fin s m e) h = refl
+
+pub not_above_infinity : (x : Float) → lt (of_bits binary64 18442240474082181120) x ≡ false →
+    lt (of_bits binary64 18442240474082181120) x ≡ float_is_finite x
+unfolding lt of_bits float_is_finite
+not_above_infinity nan h = refl
+not_above_infinity (inf true) h = refl
+not_above_infinity (inf false) h = absurd (true≢false h)
+not_above_infinity (fin s m e) h = refl

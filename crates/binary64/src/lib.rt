@@ -2,7 +2,7 @@
 #![tactic(auto)]
 
 ghost use Rattle.std.specs.Prelude.{◌≡◌};
-ghost use Rattle.std.specs.Float.{binary64};
+ghost use Rattle.std.specs.Float.{binary64, float_is_finite};
 ghost use Rattle.std.specs.Float.Ieee.{of_bits};
 ghost use Rattle.binary64.specs.Value.{whole_number};
 ghost use Rattle.binary64.specs.Inner.{figure_of, saturated};
@@ -27,6 +27,13 @@ fn not_a_number(bits: u64) -> f64
     ensures { result ≡ of_bits binary64 bits }
 {
     f64_from_bits_with_nan(bits)
+}
+
+// Whether a number is finite. (std's `is_finite` takes it from itself, which raises the flag of invalid operations for infinities.)
+fn is_finite(x: f64) -> bool
+    ensures { result ≡ float_is_finite x }
+{
+    f64::NEG_INFINITY < x && x < f64::INFINITY
 }
 
 // 2^52 + 2^51
@@ -54,7 +61,7 @@ pub fn whole_number(x: f64) -> Option<i32>
 fn truncated_number(x: f64) -> Option<i32>
     ensures { figure_of result ≡ saturated (whole_number x) }
 {
-    if x.is_finite() && x.trunc() == x {
+    if is_finite(x) && x.trunc() == x {
         return Some(saturating_f64_to_i32(x));
     }
     None

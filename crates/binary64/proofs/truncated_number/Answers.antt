@@ -11,7 +11,7 @@ returns-then-trunc-x c =
     let x = c.args.x in
     let z = c.saturating_f64_to_i32 in
     rw (to_z-of_z {w = w32} {z = z.result} (record { sfits = z.type_inv }), z.ensures)
-    (taken x (T_from_true _ c.well_formed.0.1) (sym c.is_finite.ensures.value ∙ c.if-is_finite.true)
+    (taken x (T_from_true _ c.well_formed.0.1) (sym c.is_finite.ensures ∙ c.if-is_finite.true)
     (rw c.trunc.ensures at c.if-trunc-x.true))
 
 pub returns : goal.returns
@@ -20,5 +20,5 @@ returns c =
       | else-is_finite-via-then-is_finite+else-trunc-x w ↦
           not_whole c.args.x (T_from_true _ c.well_formed.0.1) (rw w.trunc.ensures at w.if-trunc-x.false)
       | else-is_finite-via-else-is_finite w ↦
-          not_finite c.args.x (sym c.is_finite.ensures.value ∙ w.if-is_finite.false)
+          not_finite c.args.x (sym c.is_finite.ensures ∙ w.if-is_finite.false)
     ]
