@@ -74,6 +74,7 @@ pub enum Filled {
     Refused(Row, u32),
 }
 
+#[tactic(auto, using(lookup::proofs::Areas::least))]
 fn fill(
     areas: &[u32],
     values: &[u32],

@@ -44,8 +44,8 @@ pub fn bad_sheet(step: u32, n: usize) -> bool
     step == 0 || n == 0 || n > ENTRIES_MOST
 }
 
-// How many entries from the first on are inside the points. The areas increase, so a division says it.
-fn count_inside<P: Points>(points: &P, steps: Steps) -> usize
+// The first entry whose area is outside the points. The areas increase, so a division finds it.
+pub fn first_outside<P: Points>(points: &P, steps: Steps) -> usize
     requires points { 0 < length (P.points points.now) }
     requires step { 0 < steps.step }
     ensures { (n : ℕ) → first_answer 7 result n ≡ entry_rows (P.points points.now) steps.start steps.step n }
@@ -67,7 +67,7 @@ pub fn check<P: Points>(points: &P, steps: Steps, n: usize) -> Result<(), Refusa
         return Err(Row::Sheet.at(0));
     }
     // The count is the place of the refusal too: an Option would carry the same number.
-    let inside = count_inside(points, steps);
+    let inside = first_outside(points, steps);
     if inside < n {
         return Err(Row::Outside.at(inside as u32));
     }
@@ -111,6 +111,11 @@ pub fn fill<P: Points>(curve: &Curve<P>, steps: Steps, out: &mut [i32])
 {
     let mut index = 0;
     for k in 0..curve.points.count() - 1 {
-        index = fill_segment(curve, k, steps, index, out);
+        if index == out.len() {
+            return;
+        }
+        if lookup::takes(&curve.points, k, steps.area(index)) {
+            index = fill_segment(curve, k, steps, index, out);
+        }
     }
 }

@@ -1,12 +1,13 @@
 // The curve file: its head and its points.
 #![tactic(auto)]
 
-ghost use Rattle.std.specs.Prelude.{◌≡◌, false, ◌+◌, ◌<◌, ◌≤◌, length, OnOk};
+ghost use Rattle.std.specs.Prelude.{◌≡◌, false, suc, ◌+◌, ◌<◌, ◌≤◌, length, OnOk};
 ghost use Rattle.model.specs.Answer.{gives, ◌then◌};
 ghost use Rattle.refusal.specs.Refusal.{answer_at};
 ghost use Rattle.point.specs.Inner.{point_of};
 ghost use Rattle.layout.specs.Layout.{point_offset, count, shape_code, twos_complement, little_endian, record_at, points_of};
 ghost use Rattle.layout.specs.Head.{bad_head, head_rows};
+ghost use Rattle.layout.specs.Inner.{first_points, Holds};
 
 use point::Point;
 use points::Points;
@@ -31,6 +32,51 @@ fn signed(bytes: &[u8], at: usize) -> i32
     ensures { result ≡ twos_complement (little_endian bytes.now at 4) }
 {
     unsigned(bytes, at).cast_signed()
+}
+
+// The area of the point at i.
+pub fn area_of(bytes: &[u8], i: usize) -> u32
+    requires { Holds (suc i) (length bytes.now) }
+    ensures { result ≡ (record_at bytes.now i).area }
+{
+    unsigned(bytes, HEAD_SIZE + RECORD_SIZE * i)
+}
+
+// The point at i.
+pub fn record_at(bytes: &[u8], i: usize) -> Point
+    requires { Holds (suc i) (length bytes.now) }
+    ensures { point_of result ≡ record_at bytes.now i }
+{
+    let at = HEAD_SIZE + RECORD_SIZE * i;
+    Point {
+        area: unsigned(bytes, at),
+        value: unsigned(bytes, at + 4),
+        slope: signed(bytes, at + 8),
+    }
+}
+
+// The first n points of bytes that hold them, whatever the head.
+#[derive(Clone, Copy)]
+pub struct Records<'a> {
+    pub bytes: &'a [u8],
+    pub n: usize,
+    pub ghost holds: { Holds n (length bytes.now) },
+}
+
+impl Points for Records<'_> {
+    ghost points = { λ r. first_points r.bytes.now r.n };
+
+    fn count(&self) -> usize {
+        self.n
+    }
+
+    fn area(&self, i: usize) -> u32 {
+        area_of(self.bytes, i)
+    }
+
+    fn point(&self, i: usize) -> Point {
+        record_at(self.bytes, i)
+    }
 }
 
 // The letters TRF and the lower byte of version 1, as the number of 4 bytes: one test instead of four.
@@ -93,15 +139,10 @@ impl Points for CurveFile<'_> {
     }
 
     fn area(&self, i: usize) -> u32 {
-        unsigned(self.bytes, HEAD_SIZE + RECORD_SIZE * i)
+        area_of(self.bytes, i)
     }
 
     fn point(&self, i: usize) -> Point {
-        let at = HEAD_SIZE + RECORD_SIZE * i;
-        Point {
-            area: unsigned(self.bytes, at),
-            value: unsigned(self.bytes, at + 4),
-            slope: signed(self.bytes, at + 8),
-        }
+        record_at(self.bytes, i)
     }
 }

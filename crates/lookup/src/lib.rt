@@ -32,6 +32,20 @@ pub fn takes<P: Points>(points: &P, i: usize, area: u32) -> bool
     points.count() - i == 2 || area < points.area(i + 1)
 }
 
+// The index of the left point of the segment that an area takes, from an index whose area is not above it.
+pub fn find<P: Points>(points: &P, from: usize, area: u32) -> usize
+    requires { Reached (areas_of (P.points points.now)) from area }
+    ensures { Taken (areas_of (P.points points.now)) result area }
+{
+    let last = points.count() - 2;
+    for i in from..last {
+        if takes(points, i, area) {
+            return i;
+        }
+    }
+    last
+}
+
 // From an area that is not above the area read, the last of every step-th before `end` that is not. All of them are looked at, so
 // that no branch depends on the area read; the indices have 32 bits, so that the compiler looks at four at a time.
 fn last_not_above<P: Points>(points: &P, from: u32, step: u32, end: u32, area: u32) -> u32
@@ -59,7 +73,8 @@ pub fn search<P: Points>(points: &P, area: u32) -> usize
     }
     let last = (points.count() - 1) as u32;
     let from = last_not_above(points, 0, 8, last, area);
-    last_not_above(points, from, 1, last.min(from + 8), area) as usize
+    let end = last.min(from + 8);
+    last_not_above(points, from, 1, end, area) as usize
 }
 
 // Row 7; then the index of the segment read.

@@ -5,7 +5,6 @@ use Rattle.model.specs.Read.{factor}
 use Rattle.model.specs.Sheet.{sheet_answer, sheet_list}
 use Rattle.refusal.proofs.Results.{refused_exit}
 use Rattle.rows.proofs.Lists.{code_is, refused_listed}
-use Rattle.lookup.proofs.Areas.{least}
 use Rattle.curve.proofs.Entries.{refused_sheet, all_pass}
 use Rattle.curve.proofs.fill.Goals as goal
 
@@ -17,9 +16,6 @@ returns-in_err-curve-clause-answer c =
 pub returns-in_err-curve-clause-list : goal.returns-in_err-curve-clause-list
 unfolding sheet_list
 returns-in_err-curve-clause-list c = let e = refused_exit (λ (n : ℕ). n) _ _ c.from_residual.ensures.1 in rw e
-
-pub check-requires : goal.check-requires
-check-requires c = omega (arith, least _ _ c.in_ok-curve.curve.accepted)
 
 pub returns-in_err-check-clause-answer : goal.returns-in_err-check-clause-answer
 unfolding sheet_answer

@@ -13,8 +13,8 @@ pub returns-then-bad_sheet : goal.returns-then-bad_sheet
 unfolding row ◌then◌
 returns-then-bad_sheet g c = rw (c.at.ensures, ← c.if-bad_sheet.ensures)
 
-pub count_inside-inside-requires-clause-step : goal.count_inside-inside-requires-clause-step
-count_inside-inside-requires-clause-step g c = (row_8_passed _ _ (sym c.if-bad_sheet.ensures)).0
+pub first_outside-inside-requires-clause-step : goal.first_outside-inside-requires-clause-step
+first_outside-inside-requires-clause-step g c = (row_8_passed _ _ (sym c.if-bad_sheet.ensures)).0
 
 pub overflow_cast-inside : goal.overflow_cast-inside
 overflow_cast-inside g c = record { fits = omega (arith, row_8_passed _ _ (sym c.if-bad_sheet.ensures)) }
@@ -23,9 +23,9 @@ pub returns-then-inside-n : goal.returns-then-inside-n
 unfolding row ◌then◌
 returns-then-inside-n g c =
     rw (c.at-then-inside-n.ensures, ← c.if-bad_sheet.ensures)
-    (rw (lt-ltb _ _ c.if-inside-n.true) at (c.count_inside-inside.ensures c.args.n))
+    (rw (lt-ltb _ _ c.if-inside-n.true) at (c.first_outside-inside.ensures c.args.n))
 
 pub returns : goal.returns
 unfolding row ◌then◌
 returns g c =
-    rw (← c.if-bad_sheet.ensures) (rw (le-ltb _ _ c.if-inside-n.false) at (c.count_inside-inside.ensures c.args.n))
+    rw (← c.if-bad_sheet.ensures) (rw (le-ltb _ _ c.if-inside-n.false) at (c.first_outside-inside.ensures c.args.n))

@@ -1,6 +1,8 @@
 -- The segments in turn: the entries that one leaves reach the next; the last leaves none.
 use Rattle.std.proofs.Common.{arith}
+use Rattle.model.proofs.Accepted.{area_limit}
 use Rattle.model.proofs.Filling.{filling_starts}
+use Rattle.rows.proofs.Passing.{accepted}
 use Rattle.lookup.proofs.Areas.{least, reached_first}
 use Rattle.entries.proofs.fill.Goals as goal
 
@@ -14,3 +16,10 @@ loop-k-init g c =
       reached = λ h. reached_first _ _ c.args.curve.now.accepted _ (c.requires.inside 0 h);
       filling = filling_starts _ c.args.out.now;
     }
+
+pub area-requires : goal.area-requires
+area-requires g c =
+    area_limit (accepted _ _ c.args.curve.now.accepted) _ (c.requires.inside c.loop-k.index (omega arith))
+
+pub takes-requires : goal.takes-requires
+takes-requires g c = rw c.area.ensures (c.loop-k.invariant.reached (omega arith))

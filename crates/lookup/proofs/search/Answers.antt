@@ -1,8 +1,13 @@
 -- The last of every eighth point, then of those up to the next such one or to the last.
-use Rattle.std.proofs.Common.{arith, sym, ◌∙◌}
-use Rattle.model.proofs.Search.{taken_of, taken_of_two}
+use Rattle.std.proofs.Common.{◌≡◌, ℕ, ◌+◌, ◌-◌, List, min, arith, sym, ◌∙◌}
+use Rattle.model.specs.Inner.{Taken, LastOf}
+use Rattle.model.proofs.Search.{Near, taken_of, taken_of_two}
 use Rattle.lookup.proofs.Areas.{size_of, near_end}
 use Rattle.lookup.proofs.search.Goals as goal
+
+taken_to : {areas : List ℕ} {n from end i x : ℕ} → Near areas n from (min (n - 1) (from + 8)) x → LastOf areas i 1 end x →
+    end ≡ min (n - 1) (from + 8) → Taken areas i x
+taken_to k l e = taken_of k (rw e at l)
 
 pub returns-then-count-eq2 : goal.returns-then-count-eq2
 returns-then-count-eq2 g c =
@@ -33,12 +38,18 @@ overflow_add-from g c =
 
 pub last_not_above-requires-clause-strides : goal.last_not_above-requires-clause-strides
 last_not_above-requires-clause-strides g c =
-    let near = near_end (size_of (g.P.Points.points c.args.points.now)) c.requires.most
-    (rw c.count-2.ensures at c.last_not_above-from.ensures) in
-    rw (c.min.ensures, c.count-2.ensures) near.strides
+    let n = size_of (g.P.Points.points c.args.points.now) in
+    let l = c.last_not_above-from.ensures in
+    record {
+      some = omega arith;
+      few = omega arith;
+      before = omega (arith, n, l.before);
+      inner = omega (arith, n, l.before);
+      most = c.requires.most;
+    }
 
 pub returns : goal.returns
 returns g c =
     let near = near_end (size_of (g.P.Points.points c.args.points.now)) c.requires.most
     (rw c.count-2.ensures at c.last_not_above-from.ensures) in
-    taken_of near (rw (c.min.ensures, c.count-2.ensures) at c.last_not_above.ensures)
+    taken_to near c.last_not_above.ensures (omega arith)

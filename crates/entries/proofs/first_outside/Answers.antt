@@ -8,8 +8,8 @@ use Rattle.model.specs.Sheet.{entry_rows}
 use Rattle.model.proofs.Outside.{last, not_before, not_beyond, inside_of_both, outside_of_beyond}
 use Rattle.model.proofs.Places.{each_first}
 use Rattle.lookup.proofs.Areas.{size_of, area_at}
-use Rattle.entries.proofs.count_inside.Goals as goal
-use Rattle.entries.proofs.count_inside.Goals.{After-area}
+use Rattle.entries.proofs.first_outside.Goals as goal
+use Rattle.entries.proofs.first_outside.Goals.{After-area}
 
 -- the last entry inside is as many whole steps from the first as there are up to the last area
 module _ (ps : List Point) (some : 0 < length (areas_of ps)) (start step : ℕ) (up : 0 < step)
@@ -26,8 +26,8 @@ module _ (ps : List Point) (some : 0 < length (areas_of ps)) (start step : ℕ) 
       let past = lt-div-mul-add {a = last (areas_of ps) - start} up in
       outside_of_beyond ps refl some (start + ((last (areas_of ps) - start) / step + 1) * step) (omega arith)
 
-  first_outside : (n : ℕ) → first_answer 7 ((last (areas_of ps) - start) / step + 1) n ≡ entry_rows ps start step n
-  first_outside n = each_first _ 7 _ n entry_inside (λ h. next_outside)
+  found : (n : ℕ) → first_answer 7 ((last (areas_of ps) - start) / step + 1) n ≡ entry_rows ps start step n
+  found n = each_first _ 7 _ n entry_inside (λ h. next_outside)
 
 pub returns-then-outside : goal.returns-then-outside
 returns-then-outside g c n =
@@ -50,4 +50,4 @@ pub returns : goal.returns
 returns g c n =
     let at = (goal.at.returns g c).After-area in
     rw (last_is g at)
-    (first_outside _ (some_areas g at) c.args.steps.start c.args.steps.step c.requires.step (sym c.if-outside.ensures) n)
+    (found _ (some_areas g at) c.args.steps.start c.args.steps.step c.requires.step (sym c.if-outside.ensures) n)
