@@ -43,6 +43,14 @@ pub fn follows(shape: Shape, p: Point, q: Point) -> bool
     Segment { left: p, right: q }.has_shape(shape)
 }
 
+// The same, by the rule of any code.
+pub fn follows_of_code(code: u32, p: Point, q: Point) -> bool
+    requires { Limits (point_of p) }
+    ensures { result ≡ true → Follows (rule_of code) (point_of p) (point_of q) }
+{
+    follows(Shape::by_rule(code), p, q)
+}
+
 // The convex test of the segment of two neighbouring points.
 fn bends(p: Point, q: Point) -> bool
     requires { Neighbours (between (point_of p) (point_of q)) }

@@ -15,7 +15,7 @@ ghost use Rattle.point.specs.Inner.{segment_of};
 ghost use Rattle.shape.specs.Codes.{code_of};
 
 use exact::Quotient;
-use point::VALUE_MOST;
+use point::{Point, VALUE_MOST};
 use shape::{Segment, Shape};
 
 // ---- rising
@@ -251,4 +251,12 @@ pub fn factor(shape: Shape, s: Segment, area: u32) -> i32
     ensures { result ≡ round (exact_curve (rule_of (code_of shape)) (segment_of s.left s.right) area) }
 {
     Facing::new(shape, s).factor(area)
+}
+
+// The same of two points, by the rule of any code.
+pub fn factor_of_code(code: u32, p: Point, q: Point, area: u32) -> i32
+    requires { Inside (Good (rule_of code)) (segment_of p q) area }
+    ensures { result ≡ round (exact_curve (rule_of code) (segment_of p q) area) }
+{
+    factor(Shape::by_rule(code), Segment { left: p, right: q }, area)
 }

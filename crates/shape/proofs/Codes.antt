@@ -1,8 +1,10 @@
--- The rule that each shape's code stands for; code_most, the largest code.
+-- The rule that each shape's code stands for; code_most, the largest code; row_then, a row before something else.
 -- Assumes nothing.
 use mathlib.Core.Path.{◌≡◌, refl}
+use mathlib.Core.Bool.{Bool, true, false, cond}
 use lib.Dec.{lit<, lit≤}
-use Prim.Native.Nat.{◌≤◌}
+use Prim.Native.Nat.{ℕ, ◌≤◌}
+use Rattle.model.specs.Answer.{Answer, refused, row, ◌then◌}
 use Rattle.model.specs.Points.{rising, convex, plain, mirrored, rule_of}
 use Rattle.shape.specs.declared.Shape.{Shape}
 use Rattle.shape.specs.declared.Shape.TheVariants.{Rising, Convex, Falling, Concave}
@@ -26,3 +28,9 @@ code_most Rising = lit≤ tt
 code_most Convex = lit≤ tt
 code_most Falling = lit≤ tt
 code_most Concave = lit≤ tt
+
+pub row_then : {A : Type 0} (b : Bool) (number place : ℕ) (rest : Answer A) →
+    (row b number place then rest) ≡ cond b (refused number place) rest
+unfolding row ◌then◌
+row_then true number place rest = refl
+row_then false number place rest = refl

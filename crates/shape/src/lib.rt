@@ -31,6 +31,19 @@ impl Shape {
     {
         self as u32
     }
+
+    // The shape by whose rule any code is tested and read. (Row 2 refuses 0 and those above 4.)
+    #[tactic(auto, unfolding(model::specs::Points::rule_of, model::specs::Points::shape_of))]
+    pub fn by_rule(code: u32) -> Self
+        ensures { rule_of (code_of result) ≡ rule_of code }
+    {
+        match code {
+            0 | 2 => Shape::Convex,
+            1 => Shape::Rising,
+            3 => Shape::Falling,
+            _ => Shape::Concave,
+        }
+    }
 }
 
 // Row 2.
@@ -39,6 +52,7 @@ impl TryFrom<u32> for Shape {
 
     ghost try_from_gives = { λ code r. answer_at 0 code_of r ≡ (row (bad_code code) 2 0 then gives code) };
 
+    #[tactic(auto, using(crate::proofs::Codes::row_then), unfolding(model::specs::Check::bad_code))]
     fn try_from(code: u32) -> Result<Self, Row> {
         match code {
             1 => Ok(Shape::Rising),
@@ -162,4 +176,12 @@ impl Segment {
             }
         }
     }
+}
+
+// Row 6 is passed, by the rule of any code.
+pub fn segment_test(code: u32, p: Point, q: Point) -> bool
+    requires { Neighbours (segment_of p q) }
+    ensures { result ≡ segment_test (rule_of code) (segment_of p q) }
+{
+    Segment { left: p, right: q }.has_shape(Shape::by_rule(code))
 }
