@@ -3,6 +3,7 @@ use Rattle.std.proofs.Common.{sym, ◌∙◌}
 use Rattle.model.specs.Answer.{row, ◌then◌}
 use Rattle.model.specs.Check.{on_lists}
 use Rattle.model.proofs.Rows.{row_refused}
+use Rattle.model.proofs.Answers.{then_refused, refused_first}
 use Rattle.refusal.proofs.Results.{refused_exit}
 use Rattle.rows.proofs.Lists.{lent_alike, lent_points}
 use Rattle.rows.proofs.Curve+Lists.lists_to_read.Goals as goal
@@ -18,7 +19,8 @@ unfolding on_lists row ◌then◌
 returns-in_err-shape-clause-answer c =
     let e = c.in_ok-points.ensures in
     rw (lent_alike _ _ _ e)
-    (refused_exit _ _ _ c.from_residual-in_err-shape.ensures.1 ∙ (rw (lent_points _ _ _ e) at c.in_err-shape.ensures.answer))
+    (refused_exit _ _ _ c.from_residual-in_err-shape.ensures.1
+    ∙ sym (then_refused _ _ (refused_first _ _ (sym (rw (lent_points _ _ _ e) at c.in_err-shape.ensures.answer)))))
 
 pub returns-clause-answer : goal.returns-clause-answer
 unfolding on_lists row ◌then◌
