@@ -1,4 +1,4 @@
--- What contracts of inner functions cite. Nothing here need be believed: the call's contract cites document 01's definitions.
+-- What lemmas cite. Nothing here need be believed: the call's contract cites document 01's definitions.
 --   CopiedTo   the first bytes of a list are those of src, the others as found
 -- Assumes nothing.
 use Rattle.std.specs.Prelude.{◌≡◌, List, ◌++◌, ℕ, ◌≤◌, length, take, drop}

@@ -1,2 +1,2 @@
--- What inner contracts cite.
+-- What lemmas cite.
 pub mod Inner

@@ -64,34 +64,34 @@ module _ {room : ℕ} {bytes : List ℕ} {area : ℕ} {records found : List ℕ}
     by_room h e = refuses _ e (rw (sym passed, lt-ltb (length found) room h))
 
     module _ (enough : room ≤ length found) {code : ℕ} (coded : code ≡ shape_code bytes) where
-      pub by_curve : {r : Result ℤ Refusal} (d : Refusal) → IsErrAnd r (λ e. e ≡ d) →
-          refused (number_of d.row) d.place ≡ (curve_rows (points_of bytes) code then gives (used_code (points_of bytes) code)) →
+      pub by_curve : {r : Result ℤ Refusal} (used : ℕ) (d : Refusal) → IsErrAnd r (λ e. e ≡ d) →
+          refused (number_of d.row) d.place ≡ (curve_rows (points_of bytes) code then gives used) →
           Answered room bytes area records found found r
       unfolding read_answer
-      by_curve d exit e =
+      by_curve used d exit e =
           let own = refused_first (curve_rows (points_of bytes) code) _ (sym e) in
           refuses d exit (read_is _ _ _ _ enough passed coded ∙ then_refused _ _ own)
 
-      module _ {used : ℕ}
-          (accepted : gives used ≡ (curve_rows (points_of bytes) code then gives (used_code (points_of bytes) code))) where
-        pub by_area : {r : Result ℤ Refusal} (d : Refusal) → IsErrAnd r (λ e. e ≡ d) →
-            refused (number_of d.row) d.place
-            ≡ (row (outside (points_of bytes) area) 7 0 then gives (segment_read (points_of bytes) area)) →
-            Answered room bytes area records found found r
-        unfolding read_answer ◌then◌
-        by_area d exit e =
-            let own = then_first (curve_rows _ code) _ (sym accepted) in
-            let outside = refused_alike (row (outside (points_of bytes) area) 7 0) _ _ (sym e) in
-            refuses d exit (read_is _ _ _ _ enough passed coded ∙ rw own outside)
+      pub by_area : {r : Result ℤ Refusal} {shape : ℕ} (used : ℕ) → gives shape ≡ (curve_rows (points_of bytes) code then gives used) →
+          (d : Refusal) → IsErrAnd r (λ e. e ≡ d) →
+          refused (number_of d.row) d.place
+          ≡ (row (outside (points_of bytes) area) 7 0 then gives (segment_read (points_of bytes) area)) →
+          Answered room bytes area records found found r
+      unfolding read_answer ◌then◌
+      by_area used accepted d exit e =
+          let own = then_first (curve_rows _ code) _ (sym accepted) in
+          let outside = refused_alike (row (outside (points_of bytes) area) 7 0) _ _ (sym e) in
+          refuses d exit (read_is _ _ _ _ enough passed coded ∙ rw own outside)
 
-        pub by_reading : {i : ℕ} {read : ℤ} {left : List ℕ} →
-            gives i ≡ (row (outside (points_of bytes) area) 7 0 then gives (segment_read (points_of bytes) area)) →
-            read ≡ reading (points_of bytes) used area → SFits w32 read → left ≡ records ++ drop (length records) found →
-            Answered room bytes area records found left (Ok (to_z w32 (of_z w32 read)))
-        unfolding filled factor
-        by_reading index_is factor_is fits copied =
-            let own = then_first (curve_rows _ code) _ (sym accepted) in
-            let used_is = gives_injective (then_rest (curve_rows _ code) _ (sym accepted)) in
-            let given = reading_given _ _ area (record { none_applies = own }) (inside _ _ index_is) in
-            let e = read_is _ _ _ _ enough passed coded ∙ given in
-            record { answer = ap gives (to_z-of_z fits ∙ factor_is) ∙ rw (← used_is) (sym e); scratch = rw e copied }
+      pub by_reading : {used i : ℕ} {read : ℤ} {left : List ℕ} →
+          gives used ≡ (curve_rows (points_of bytes) code then gives (used_code (points_of bytes) code)) →
+          gives i ≡ (row (outside (points_of bytes) area) 7 0 then gives (segment_read (points_of bytes) area)) →
+          read ≡ reading (points_of bytes) used area → SFits w32 read → left ≡ records ++ drop (length records) found →
+          Answered room bytes area records found left (Ok (to_z w32 (of_z w32 read)))
+      unfolding filled factor
+      by_reading accepted index_is factor_is fits copied =
+          let own = then_first (curve_rows _ code) _ (sym accepted) in
+          let used_is = gives_injective (then_rest (curve_rows _ code) _ (sym accepted)) in
+          let given = reading_given _ _ area (record { none_applies = own }) (inside _ _ index_is) in
+          let e = read_is _ _ _ _ enough passed coded ∙ given in
+          record { answer = ap gives (to_z-of_z fits ∙ factor_is) ∙ rw (← used_is) (sym e); scratch = rw e copied }

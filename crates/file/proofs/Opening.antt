@@ -1,6 +1,6 @@
 -- What Open answers, row by row, and the lists after it.
 --   points_in_list       a list that begins with a field of each of its points
---   lists_left           after a refusal the lists are as found
+--   lists_left           after a refusal the lists are as found, whatever would be written
 --   refused_by_head      rows 9 and 10 refuse; refused_by_room, row 11; refused_by_points, rows 1 to 6
 --   opened               no row refuses
 -- Assumes nothing.
@@ -29,15 +29,21 @@ module _ (bytes : List ℕ) (areas values : List ℕ) (slopes : List ℤ) where
   abbrev answer : Answer ShapeAndCount
   answer = open_into bytes areas values slopes
 
-  pub lists_left : {a : Answer ShapeAndCount} {n i : ℕ} → a ≡ refused n i → refused n i ≡ answer →
+  pub lists_left : {a : Answer ShapeAndCount} {n i : ℕ} (of_areas of_values : List ℕ) (of_slopes : List ℤ) → a ≡ refused n i →
+      refused n i ≡ answer →
       record {
         answer : a ≡ answer;
-        areas : areas ≡ filled a (map (λ p. p.area) (points_of bytes)) areas;
-        values : values ≡ filled a (map (λ p. p.value) (points_of bytes)) values;
-        slopes : slopes ≡ filled a (map (λ p. p.slope) (points_of bytes)) slopes;
+        areas : areas ≡ filled a of_areas areas;
+        values : values ≡ filled a of_values values;
+        slopes : slopes ≡ filled a of_slopes slopes;
       }
-  lists_left e k =
-      record { answer = e ∙ k; areas = after_refusal _ e; values = after_refusal _ e; slopes = after_refusal _ e }
+  lists_left of_areas of_values of_slopes e k =
+      record {
+        answer = e ∙ k;
+        areas = after_refusal of_areas e;
+        values = after_refusal of_values e;
+        slopes = after_refusal of_slopes e;
+      }
 
   pub refused_by_head : {n i : ℕ} → refused n i ≡ head_rows bytes → refused n i ≡ answer
   unfolding open_answer

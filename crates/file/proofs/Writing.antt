@@ -1,5 +1,5 @@
 -- What Write answers, row by row, and the buffer after it.
---   buffer_left          after a refusal the buffer is as found
+--   buffer_left          after a refusal the buffer is as found, whatever would be written
 --   refused_by_curve     these rows refuse; refused_by_buffer, row 12
 --   written              no row refuses; file_in_buffer, the buffer then begins with the file
 -- Assumes nothing.
@@ -41,9 +41,9 @@ module _ (areas values : List ℕ) (slopes : List ℤ) (code : ℕ) (buffer : Li
   abbrev answer : Answer ℕ
   answer = write_into areas values slopes code buffer
 
-  pub buffer_left : {a : Answer ℕ} {n i : ℕ} → a ≡ refused n i → refused n i ≡ answer →
-      record { answer : a ≡ answer; out : buffer ≡ filled a (file_bytes (points areas values slopes) code) buffer }
-  buffer_left e k = record { answer = e ∙ k; out = after_refusal _ e }
+  pub buffer_left : {a : Answer ℕ} {n i : ℕ} (bytes : List ℕ) → a ≡ refused n i → refused n i ≡ answer →
+      record { answer : a ≡ answer; out : buffer ≡ filled a bytes buffer }
+  buffer_left bytes e k = record { answer = e ∙ k; out = after_refusal bytes e }
 
   pub refused_by_curve : {n i : ℕ} → refused n i ≡ on_lists areas values slopes (with_code code (λ _. code)) →
       refused n i ≡ answer

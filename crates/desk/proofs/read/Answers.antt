@@ -14,11 +14,11 @@ returns-then-scratch-count c = by_room c.in_ok-check.ensures.answer (omega (arit
 pub returns-in_err-shape : goal.returns-in_err-shape
 returns-in_err-shape c =
     by_curve c.in_ok-check.ensures.answer (omega (arith, size_of_points)) c.code.ensures
-    _ c.from_residual-in_err-shape.ensures.1 c.in_err-shape.ensures.answer
+    _ _ c.from_residual-in_err-shape.ensures.1 c.in_err-shape.ensures.answer
 
 pub returns-in_err-i : goal.returns-in_err-i
 returns-in_err-i c =
-    by_area c.in_ok-check.ensures.answer (omega (arith, size_of_points)) c.code.ensures c.in_ok-shape.ensures.answer
+    by_area c.in_ok-check.ensures.answer (omega (arith, size_of_points)) c.code.ensures _ c.in_ok-shape.ensures.answer
     _ c.from_residual-in_err-i.ensures.1 c.in_err-i.ensures
 
 pub returns : goal.returns

@@ -7,7 +7,7 @@ use Rattle.file.proofs.put.Goals as goal
 
 pub returns-in_err-curve : goal.returns-in_err-curve
 returns-in_err-curve c =
-    buffer_left _ _ _ _ _ (refused_exit _ _ _ c.from_residual.ensures.1)
+    buffer_left _ _ _ _ _ _ (refused_exit _ _ _ c.from_residual.ensures.1)
     (refused_by_curve _ _ _ _ _ c.in_err-curve.ensures.answer)
 
 pub overflow_mul-size : goal.overflow_mul-size
@@ -18,7 +18,7 @@ overflow_add-size c = record { fits = omega (arith, count_most _ _ _ _ _ c.in_ok
 
 pub returns-then-out-size : goal.returns-then-out-size
 returns-then-out-size c =
-    buffer_left _ _ _ _ _ (rw c.at.ensures) (refused_by_buffer _ _ _ _ _ c.in_ok-curve.ensures.answer c.if-out-size.true)
+    buffer_left _ _ _ _ _ _ (rw c.at.ensures) (refused_by_buffer _ _ _ _ _ c.in_ok-curve.ensures.answer c.if-out-size.true)
 
 pub encode-requires : goal.encode-requires
 encode-requires c =

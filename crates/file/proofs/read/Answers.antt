@@ -8,17 +8,17 @@ use Rattle.file.proofs.read.Goals as goal
 
 pub returns-in_err-check : goal.returns-in_err-check
 returns-in_err-check c =
-    lists_left _ _ _ _ (refused_exit _ _ _ c.from_residual.ensures.1) (refused_by_head _ _ _ _ c.in_err-check.ensures.answer)
+    lists_left _ _ _ _ _ _ _ (refused_exit _ _ _ c.from_residual.ensures.1) (refused_by_head _ _ _ _ c.in_err-check.ensures.answer)
 
 pub returns-then-short_list : goal.returns-then-short_list
 returns-then-short_list c =
     let s = rw c.count-n.ensures at (sym c.short_list.ensures ∙ c.if-short_list.true) in
-    lists_left _ _ _ _ (rw c.at.ensures) (refused_by_room _ _ _ _ c.in_ok-check.ensures.answer s)
+    lists_left _ _ _ _ _ _ _ (rw c.at.ensures) (refused_by_room _ _ _ _ c.in_ok-check.ensures.answer s)
 
 pub returns-in_err-shape : goal.returns-in_err-shape
 returns-in_err-shape c =
     let s = rw c.count-n.ensures at (sym c.short_list.ensures ∙ c.if-short_list.false) in
-    lists_left _ _ _ _ (refused_exit _ _ _ c.from_residual-in_err-shape.ensures.1)
+    lists_left _ _ _ _ _ _ _ (refused_exit _ _ _ c.from_residual-in_err-shape.ensures.1)
     (refused_by_points _ _ _ _ c.in_ok-check.ensures.answer s c.code.ensures _ c.in_err-shape.ensures.answer)
 
 pub fill-requires : goal.fill-requires
