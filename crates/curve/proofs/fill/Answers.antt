@@ -41,7 +41,9 @@ pub returns-clause-answer : goal.returns-clause-answer
 unfolding sheet_answer
 returns-clause-answer c =
     let p = rw c.in_ok-curve.ensures.points at c.in_ok-check.ensures in
-    ap gives (search rules) ∙ (all_pass _ _ _ _ _ c.in_ok-curve.ensures.answer _ _ _ p).answer
+    let a = all_pass _ _ _ _ _ c.in_ok-curve.ensures.answer _ _ _ p in
+    let same : length c.fill.new.out ≡ length c.args.out.now = search rules in
+    ap gives (omega (arith, same, a.most)) ∙ a.answer
 
 pub returns-clause-list : goal.returns-clause-list
 unfolding sheet_list factor

@@ -1,7 +1,7 @@
 -- Row 9, then row 10.
-use Rattle.std.proofs.Common.{sym, ◌∙◌, arith, eq-eqb, ne_eqb}
+use Rattle.std.proofs.Common.{length, sym, ◌∙◌, arith, eq-eqb, ne_eqb}
 use Rattle.model.specs.Answer.{row, ◌then◌}
-use Rattle.layout.specs.Layout.{point_offset}
+use Rattle.layout.specs.Layout.{point_offset, count}
 use Rattle.layout.specs.Head.{bad_size, head_rows}
 use Rattle.layout.proofs.Heads.{head_is_there}
 use Rattle.layout.proofs.check.Goals as goal
@@ -16,7 +16,9 @@ bounds-bytes-6 c = omega (arith, head_is_there _ (sym c.bad_head.ensures ∙ c.i
 pub returns-then-bytes-from-clause-answer : goal.returns-then-bytes-from-clause-answer
 unfolding head_rows bad_size row ◌then◌
 returns-then-bytes-from-clause-answer c =
-    rw (sym c.bad_head.ensures ∙ c.if-bad_head.false, ne_eqb _ (point_offset _) (rw c.from.ensures at c.if-bytes-from.true))
+    let bytes = c.args.bytes.now in
+    let other = ne_eqb (length bytes) (point_offset (count bytes)) (λ e. omega (arith, c.from.ensures)) in
+    rw (sym c.bad_head.ensures ∙ c.if-bad_head.false, other)
 
 pub returns-clause-answer : goal.returns-clause-answer
 unfolding head_rows bad_size row ◌then◌
