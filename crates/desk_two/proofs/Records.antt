@@ -1,6 +1,6 @@
 -- The two records of the segment read.
 --   records_fit   they are in the file
---   written       what a copy of them leaves
+--   written       what a copy from where they begin leaves
 -- Assumes nothing.
 use mathlib.Core.Bool.{true}
 use mathlib.Core.Path.{◌≡◌}
@@ -28,7 +28,7 @@ module _ (bytes : List ℕ) (area code : ℕ) (size : length bytes ≡ point_off
       let all = drop (point_offset (segment_read (points_of bytes) area)) bytes in
       length-take-le (2 * record_size) all (omega (arith, records_fit, length-drop {A = ℕ}))
 
-  pub written : {i : ℕ} (found : List ℕ) → i ≡ segment_read (points_of bytes) area →
-      copied (point_offset i) 0 24 bytes found ≡ segment_records bytes area ++ drop (length (segment_records bytes area)) found
+  pub written : (at : ℕ) (found : List ℕ) → at ≡ point_offset (segment_read (points_of bytes) area) →
+      copied at 0 24 bytes found ≡ segment_records bytes area ++ drop (length (segment_records bytes area)) found
   unfolding segment_records
-  written found index = rw (records_size, index)
+  written at found e = rw (records_size, e)
