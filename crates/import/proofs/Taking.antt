@@ -1,6 +1,6 @@
 -- The rows of Import, in their order.
 --   Passed, passed         row 13 is passed
---   refused_by_13, refused_by_11    which refuses; rows_left, after both
+--   refused_by_13, refused_by_11, refused_by_1, refused_by_2    which refuses; rows_left, after 13 and 11
 --   refused_by_points, all_pass     the rows of the points
 --   Given, given           all are passed, and the points are the export's; few, 64 at most
 --   room                   there is room for the points
@@ -10,6 +10,7 @@ use Rattle.std.proofs.Common.{◌≡◌, sym, ap, ℕ, ◌≤◌, true, false, L
 use lib.ListN.{length-map}
 use Rattle.model.specs.Answer.{gives, refused, row, ◌then◌, filled}
 use Rattle.model.specs.Points.{points_most, Point}
+use Rattle.model.specs.Check.{bad_count, bad_code}
 use Rattle.model.proofs.Answers.{then_refused, refused_first}
 use Rattle.model.proofs.Rows.{gives_injective, then_first, then_rest, row_passed, row_refused, count_of_row_1}
 use Rattle.points.specs.Inner.{Room}
@@ -42,6 +43,18 @@ module _ (bytes : List ℕ) (code areas values slopes : ℕ) where
         refused 11 0 ≡ import_answer bytes code areas values slopes
     unfolding import_answer row ◌then◌
     refused_by_11 e = rw (m, e)
+
+    module _ (r : short_list (count bytes) areas values slopes ≡ false) where
+      pub refused_by_1 : bad_count (count bytes) ≡ true → refused 1 0 ≡ import_answer bytes code areas values slopes
+      unfolding import_answer export_rows row ◌then◌
+      refused_by_1 n = rw (m, r, exported_length bytes, n)
+
+      pub refused_by_2 : {number : ℕ} → bad_count (count bytes) ≡ false →
+          refused number 0 ≡ (row (bad_code code) 2 0 then gives code) →
+          refused number 0 ≡ import_answer bytes code areas values slopes
+      unfolding import_answer export_rows row ◌then◌
+      refused_by_2 n e =
+          let k = row_refused (bad_code code) 2 0 code (sym e) in rw (m, r, exported_length bytes, n, k.0, k.1)
 
     pub rows_left : short_list (count bytes) areas values slopes ≡ false →
         (export_rows (exported bytes) code then gives (count bytes)) ≡ import_answer bytes code areas values slopes

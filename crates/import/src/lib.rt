@@ -13,6 +13,7 @@ ghost use Rattle.import.specs.Calls.{imported_answer};
 use point::Point;
 use refusal::{Refusal, Row};
 use rows::POINTS_MOST;
+use shape::Shape;
 use triples::Triples;
 
 // What Import answers: the count, or a refusal's row and place.
@@ -81,6 +82,11 @@ fn take(
     if file::short_list(n, areas.len(), values.len(), slopes.len()) {
         return Err(Row::Room.at(0));
     }
+    // Rows 1 and 2 before the list is made and the points are decoded.
+    if rows::bad_count(n) {
+        return Err(Row::Count.at(0));
+    }
+    Shape::try_from(code)?;
     // No heap: a list of as many points as a curve can have.
     if n <= FEW {
         put(export, code, &mut [ORIGIN; FEW], areas, values, slopes)
