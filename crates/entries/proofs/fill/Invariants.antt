@@ -1,5 +1,5 @@
--- The entries before `index` are filled; the next, if any is left, reaches the segment at k.
-use Rattle.std.proofs.Common.{ℕ, ℤ, ◌≤◌, ◌<◌, length}
+-- The entries before `index` are filled; the next reaches the segment at k, and has this area.
+use Rattle.std.proofs.Common.{◌≡◌, ℕ, ℤ, ◌<◌, length}
 use Rattle.model.specs.Read.{reading}
 use Rattle.model.specs.Sheet.{entry_area}
 use Rattle.model.specs.Inner.{areas_of, Reached, Filling}
@@ -11,7 +11,8 @@ invariant-loop-k g l =
     let ps = g.P.Points.points l.curve.points in
     let f : ℕ → ℤ = λ j. reading ps (code_of l.curve.shape) (entry_area l.steps.start l.steps.step j) in
     record {
-      most : l.index ≤ length l.fn.out;
-      reached : l.index < length l.fn.out → Reached (areas_of ps) l.k (entry_area l.steps.start l.steps.step l.index);
+      left : l.index < length l.fn.out;
+      area_is : l.area ≡ entry_area l.steps.start l.steps.step l.index;
+      reached : Reached (areas_of ps) l.k l.area;
       filling : Filling f l.index l.fn.out l.out;
     }
