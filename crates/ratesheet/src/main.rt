@@ -1,7 +1,7 @@
 // Prints the sheet of the curve file on standard input.
 #![tactic(auto)]
 
-ghost use Rattle.std.specs.Prelude.{◌≡◌, IfOk, IfSome, length, take};
+ghost use Rattle.std.specs.Prelude.{◌≡◌, IfOk, IfSome, OnOk, length, take};
 ghost use Rattle.std.specs.Io.{ReadsAtMost};
 ghost use Rattle.sheet_text.specs.SheetText.{sheet_text};
 
@@ -112,18 +112,20 @@ fn read_all<R: Read>(input: &mut R, buf: &mut [u8]) -> io::Result<usize>
 }
 
 // The sheet of the file that a reader gives.
-fn sheet<R: Read + Drop>(mut input: R) -> io::Result<Text>
-    ensures { IfOk result (λ text. IfSome (R.remaining input) (λ bytes. text.bytes ≡ sheet_text bytes)) }
+fn sheet<R: Read + Drop>(mut input: R, text: &mut Text) -> io::Result<()>
+    ensures { OnOk result (IfSome (R.remaining input) (λ bytes. text.new.bytes ≡ sheet_text bytes)) }
 {
     // No heap.
     let mut bytes = [0u8; READ_MOST];
     let n = read_all(&mut input, &mut bytes)?;
-    Ok(sheet_text::sheet_text(&bytes[..n]))
+    sheet_text::write_text(&bytes[..n], text);
+    Ok(())
 }
 
 fn print_sheet(rt: &(impl Print + Eprint), input: impl Read + Drop) -> ExitCode {
-    match sheet(input) {
-        Ok(text) => print(rt, text.as_bytes()),
+    let mut text = Text::new();
+    match sheet(input, &mut text) {
+        Ok(()) => print(rt, text.as_bytes()),
         Err(error) => {
             fail(rt, "ratesheet: cannot read standard input", error);
             ExitCode::SUCCESS

@@ -29,19 +29,18 @@ pub const TEXT_MOST: usize = 35 + 23 * ENTRIES_MOST;
 // No heap.
 pub type Text = ArrayString<TEXT_MOST>;
 
-// A text that begins with a line of two words, each with its number. (`write!` would say what it writes only where it succeeds.)
-fn words_line(first: &str, a: u32, second: &str, b: u32) -> Text
+// The text becomes a line of two words, each with its number. (`write!` would say what it writes only where it succeeds.)
+fn words_line(text: &mut Text, first: &str, a: u32, second: &str, b: u32)
     requires { length first.now + length second.now ≤ 14 }
-    ensures line { result.bytes ≡ words_line first.now a second.now b }
-    ensures short { array_string_len result ≤ 35 }
+    ensures line { text.new.bytes ≡ words_line first.now a second.now b }
+    ensures short { array_string_len text.new ≤ 35 }
 {
-    let mut text = Text::new();
+    text.clear();
     text.push_str(first);
     text.push_str(&decimal(a));
     text.push_str(second);
     text.push_str(&decimal(b));
     text.push('\n');
-    text
 }
 
 // The line of an area and its factor.
@@ -57,15 +56,15 @@ fn entry_line(area: u32, factor: i32) -> ArrayString<23>
 }
 
 // The sheet of an accepted curve: a line for each area from the first point's on, in steps, up to the last point's.
-fn sheet(curve: &Curve<CurveFile<'_>>) -> Text
-    ensures { result.bytes ≡ head_line (code_of curve.now.shape) (count curve.now.points.bytes.now)
+fn sheet(curve: &Curve<CurveFile<'_>>, text: &mut Text)
+    ensures { text.new.bytes ≡ head_line (code_of curve.now.shape) (count curve.now.points.bytes.now)
         ++ sheet_lines (points_of curve.now.points.bytes.now) (code_of curve.now.shape) }
 {
     let Curve { points, shape } = *curve;
     let n = points.count();
     let first = points.area(0);
     let last = points.area(n - 1);
-    let mut text = words_line("shape ", shape.code(), " points ", n as u32);
+    words_line(text, "shape ", shape.code(), " points ", n as u32);
     let read = Curve {
         points,
         shape: rows::used_shape(&points, shape),
@@ -73,7 +72,6 @@ fn sheet(curve: &Curve<CurveFile<'_>>) -> Text
     for area in (first..=last).step_by(STEP as usize) {
         text.push_str(&entry_line(area, lookup::factor(&read, area)));
     }
-    text
 }
 
 // The rows of Open, and row 10 for a file of more bytes than 64 points take.
@@ -89,12 +87,21 @@ fn accept(bytes: &[u8]) -> Result<Curve<CurveFile<'_>>, Refusal>
     Curve::new(file, file.code())
 }
 
-// What is printed for the bytes of a file.
+// What is printed for the bytes of a file, in the place of what the text held. (A text is too large to be handed on.)
+pub fn write_text(bytes: &[u8], text: &mut Text)
+    ensures { text.new.bytes ≡ sheet_text bytes.now }
+{
+    match accept(bytes) {
+        Ok(curve) => sheet(&curve, text),
+        Err(Refusal { row, place }) => words_line(text, "refused ", row.number(), " at ", place),
+    }
+}
+
+// The same, as a text of its own.
 pub fn sheet_text(bytes: &[u8]) -> Text
     ensures { result.bytes ≡ sheet_text bytes.now }
 {
-    match accept(bytes) {
-        Ok(curve) => sheet(&curve),
-        Err(Refusal { row, place }) => words_line("refused ", row.number(), " at ", place),
-    }
+    let mut text = Text::new();
+    write_text(bytes, &mut text);
+    text
 }

@@ -1,14 +1,15 @@
 -- The decimal digits are those that std prints.
---   decimal_is, signed_is    std's text of a number is that of the definitions
+--   decimal_is, signed_is    std's text of a number is that of the definitions; below_0, by its sign and its size
 --   none_yet                 at most 10 digits, with nothing after the 10 entries of a buffer, are the number's text
 -- Assumes nothing.
 use Rattle.std.proofs.Common.{◌≡◌, sym, ◌∙◌, ap, cond, ltb, lt-ltb, rules, arith}
-use Rattle.std.proofs.Common.{ℕ, zero, suc, ◌+◌, ◌/◌, ◌%◌, ◌^◌, ◌≤◌, ◌<◌, ℤ, pos, negsuc}
+use Rattle.std.proofs.Common.{ℕ, zero, suc, ◌+◌, ◌/◌, ◌%◌, ◌^◌, ◌≤◌, ◌<◌, ℤ, pos, negsuc, nat_abs, ◌<ℤ◌}
 use Rattle.std.proofs.Common.{List, [], ◌∷◌, ◌++◌, append-nil, length, drop}
 use Rattle.std.proofs.lemmas.Fmt.{AppendsLastDigit, decimal_from_appends, length-decimal-le}
 use Rattle.std.proofs.lemmas.List.{drop_all}
 use Rattle.std.proofs.Math.Nat.{pow-succ'}
 use Rattle.std.specs.Fmt as std
+use lib.Dec.{ltb→lt}
 use lib.Signed.{mag}
 use Rattle.text.specs.Text.{ascii, digits_within, decimal, signed}
 
@@ -24,6 +25,12 @@ pub signed_is : (z : ℤ) → mag z < 2 ^ 63 → std.signed_decimal z ≡ signed
 unfolding signed ascii
 signed_is (pos n) small = decimal_is n (omega arith)
 signed_is (negsuc n) small = ap (λ ds. 45 ∷ ds) (decimal_is (suc n) (omega arith))
+
+-- a number below 0 is a minus sign and its size
+pub below_0 : (z : ℤ) → z <ℤ pos 0 → nat_abs z < 2 ^ 63 → ([] ++ 45 ∷ []) ++ std.decimal (nat_abs z) ≡ signed z
+unfolding signed ascii
+below_0 (pos n) low small = absurd (omega (arith, ltb→lt n 0 low.lt))
+below_0 (negsuc n) low small = ap (λ ds. 45 ∷ ds) (decimal_is (suc n) (omega arith))
 
 -- ---- a buffer of 10 digits
 

@@ -11,4 +11,4 @@ decided None came h = tt
 decided (Some bytes) came h = ap sheet_text h ∙ first_bytes_decide bytes
 
 pub returns : goal.returns
-returns g c = rw c.sheet_text.ensures (decided _ _ c.in_ok-n.ensures.bytes)
+returns g c = rw c.write_text.ensures (decided _ _ c.in_ok-n.ensures.bytes)

@@ -25,13 +25,13 @@ loop-area-init c =
     let e = c.args.curve.now.accepted in
     let end = rw c.count-n.ensures at c.area-last.ensures in
     record {
-      room = omega (arith, c.words_line-text.ensures.short, end, last_limit _ _ e);
+      room = omega (arith, c.words_line.ensures.short, end, last_limit _ _ e);
       lines =
           rw (
             end,
             c.area-first.ensures,
             lines_are _ _ e,
-            c.words_line-text.ensures.line,
+            c.words_line.ensures.line,
             c.code.ensures,
             c.count-n.ensures,
             size_of_points _,

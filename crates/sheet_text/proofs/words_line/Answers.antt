@@ -17,5 +17,5 @@ returns-clause-line c =
       c.deref.ensures.0,
       c.decimal.ensures,
       c.push_str.ensures.bytes,
-      c.new-text.ensures,
+      c.clear.ensures,
     )

@@ -2,7 +2,7 @@
 use Rattle.std.proofs.Common.{◌∙◌, ap}
 use Rattle.text.specs.Text.{ascii}
 use Rattle.sheet_text.specs.SheetText.{answer_text, sheet_text}
-use Rattle.sheet_text.proofs.sheet_text.Goals as goal
+use Rattle.sheet_text.proofs.write_text.Goals as goal
 
 pub returns-in-Ok : goal.returns-in-Ok
 unfolding answer_text sheet_text
