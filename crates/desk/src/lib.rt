@@ -13,8 +13,8 @@ use points::Points;
 use refusal::{Refusal, Row};
 use rows::Curve;
 
-// Copies all of src to the start of dst. Two records, the fewest of a curve, are one block. (By `last` a copy in two parts is proved
-// too, so an edit that leaves a part out is refused for that.)
+// Copies all of src to the start of dst. Two records, the fewest of a curve, are one block. (By `last` a copy in two parts is
+// proved too, so an edit that leaves a part out is refused for that.)
 #[tactic(auto, using(crate::proofs::Blocks::last))]
 fn copy(src: &[u8], dst: &mut [u8])
     requires { length src.now ≤ length dst.old }

@@ -72,7 +72,8 @@ module _ {room : ℕ} {bytes : List ℕ} {area : ℕ} {records found : List ℕ}
           let own = refused_first (curve_rows (points_of bytes) code) _ (sym e) in
           refuses d exit (read_is _ _ _ _ enough passed coded ∙ then_refused _ _ own)
 
-      pub by_area : {r : Result ℤ Refusal} {shape : ℕ} (used : ℕ) → gives shape ≡ (curve_rows (points_of bytes) code then gives used) →
+      pub by_area : {r : Result ℤ Refusal} {shape : ℕ} (used : ℕ) →
+          gives shape ≡ (curve_rows (points_of bytes) code then gives used) →
           (d : Refusal) → IsErrAnd r (λ e. e ≡ d) →
           refused (number_of d.row) d.place
           ≡ (row (outside (points_of bytes) area) 7 0 then gives (segment_read (points_of bytes) area)) →

@@ -102,8 +102,8 @@ fn fill_segment<P: Points>(
     out.len()
 }
 
-// The factor at each entry's area, segment by segment. `area` is that of the next entry: segments that it does not take are passed
-// over.
+// The factor at each entry's area, segment by segment. `area` is that of the next entry: segments that it does not take are
+// passed over.
 pub fn fill<P: Points>(curve: &Curve<P>, steps: Steps, out: &mut [i32])
     requires { AllInside (P.points curve.now.points) steps.start steps.step (length out.old) }
     ensures { out.new ≡ tabulate

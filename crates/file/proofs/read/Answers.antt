@@ -8,7 +8,8 @@ use Rattle.file.proofs.read.Goals as goal
 
 pub returns-in_err-check : goal.returns-in_err-check
 returns-in_err-check c =
-    lists_left _ _ _ _ _ _ _ (refused_exit _ _ _ c.from_residual.ensures.1) (refused_by_head _ _ _ _ c.in_err-check.ensures.answer)
+    lists_left _ _ _ _ _ _ _ (refused_exit _ _ _ c.from_residual.ensures.1)
+    (refused_by_head _ _ _ _ c.in_err-check.ensures.answer)
 
 pub returns-then-short_list : goal.returns-then-short_list
 returns-then-short_list c =
