@@ -29,8 +29,8 @@ fn not_a_number(bits: u64) -> f64
     f64_from_bits_with_nan(bits)
 }
 
-// Whether a number is finite. (std's `is_finite` takes it from itself, which raises the flag of invalid operations for an infinity,
-// and ends a program that traps it.)
+// Whether a number is finite. (std's `is_finite` takes it from itself: for an infinity that raises the flag of invalid
+// operations, and ends a program that traps it.)
 fn is_finite(x: f64) -> bool
     ensures { result ≡ float_is_finite x }
 {
