@@ -26,7 +26,7 @@ unfolding signed ascii
 signed_is (pos n) small = decimal_is n (omega arith)
 signed_is (negsuc n) small = ap (λ ds. 45 ∷ ds) (decimal_is (suc n) (omega arith))
 
--- a number below 0 is a minus sign and its size
+-- a number below 0 is a minus sign and its size (the edit plus_for_minus is held to it)
 pub below_0 : (z : ℤ) → z <ℤ pos 0 → nat_abs z < 2 ^ 63 → ([] ++ 45 ∷ []) ++ std.decimal (nat_abs z) ≡ signed z
 unfolding signed ascii
 below_0 (pos n) low small = absurd (omega (arith, ltb→lt n 0 low.lt))
