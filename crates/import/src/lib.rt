@@ -27,11 +27,10 @@ pub enum Imported {
 // Up to so many points a shorter list is made.
 const FEW: usize = 8;
 
-// What the list holds before. Not all zeros: for those the compiler calls `memset`, which a caller would have to bring.
-const UNSET: Point = Point {
+const ORIGIN: Point = Point {
     area: 0,
     value: 0,
-    slope: 1,
+    slope: 0,
 };
 
 // Rows 1 to 6 and 14; the points go into a list of our own and, if none refuses, from there into the lent lists. Not inlined:
@@ -90,12 +89,12 @@ fn take(
     Shape::try_from(code)?;
     // No heap: a list of as many points as a curve can have.
     if n <= FEW {
-        put(export, code, &mut [UNSET; FEW], areas, values, slopes)
+        put(export, code, &mut [ORIGIN; FEW], areas, values, slopes)
     } else {
         put(
             export,
             code,
-            &mut [UNSET; POINTS_MOST],
+            &mut [ORIGIN; POINTS_MOST],
             areas,
             values,
             slopes,
