@@ -102,26 +102,17 @@ fn fill_segment<P: Points>(
     out.len()
 }
 
-// The factor at each entry's area, segment by segment. `area` is that of the next entry: segments that it does not take are
-// passed over.
+// The factor at each entry's area, segment by segment, from the first that the next entry takes.
 pub fn fill<P: Points>(curve: &Curve<P>, steps: Steps, out: &mut [i32])
     requires { AllInside (P.points curve.now.points) steps.start steps.step (length out.old) }
     ensures { out.new ≡ tabulate
         (λ i. reading (P.points curve.now.points) (code_of curve.now.shape) (entry_area steps.start steps.step i))
         0 (length out.old) }
 {
-    if out.is_empty() {
-        return;
-    }
+    let mut k = 0;
     let mut index = 0;
-    let mut area = steps.start;
-    for k in 0..curve.points.count() - 1 {
-        if lookup::takes(&curve.points, k, area) {
-            index = fill_segment(curve, k, steps, index, out);
-            if index == out.len() {
-                return;
-            }
-            area = steps.area(index);
-        }
+    while index < out.len() {
+        k = lookup::find(&curve.points, k, steps.area(index));
+        index = fill_segment(curve, k, steps, index, out);
     }
 }
