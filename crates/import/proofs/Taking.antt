@@ -3,7 +3,7 @@
 --   refused_by_13, refused_by_11, refused_by_1, refused_by_2    which refuses; rows_left, after 13 and 11
 --   refused_by_points, all_pass     the rows of the points
 --   Given, given           all are passed, and the points are the export's; few, 64 at most
---   room                   there is room for the points
+--   own_room, room         there is room for the points, in our own lists and in the lent ones
 --   after_list             a list into which the points are written
 -- Assumes nothing.
 use Rattle.std.proofs.Common.{◌≡◌, sym, ap, ℕ, ◌≤◌, true, false, List, map, ◌++◌, length, drop}
@@ -89,7 +89,10 @@ unfolding export_rows
 few bytes code e =
     rw (← exported_length bytes) (count_of_row_1 _ (row_passed _ 1 0 _ e)).1
 
--- ---- the lent lists
+-- ---- the lists
+
+pub own_room : {n size : ℕ} → n ≤ size → Room n size size size
+own_room h = record { in_areas = h; in_values = h; in_slopes = h }
 
 -- the points of an export fit into lists that row 11 passes
 pub room : (bytes : List ℕ) (areas values slopes : ℕ) {ps : List Point} →

@@ -1,16 +1,16 @@
 // Points from the statistics package.
 #![tactic(auto)]
 
-ghost use Rattle.std.specs.Prelude.{◌≡◌, false, map, length, ◌≤◌};
+ghost use Rattle.std.specs.Prelude.{◌≡◌, false, map, length};
 ghost use Rattle.model.specs.Answer.{filled, gives, ◌then◌};
 ghost use Rattle.model.specs.Check.{bad_count};
+ghost use Rattle.points.specs.Inner.{Room};
 ghost use Rattle.file.specs.Open.{short_list};
 ghost use Rattle.triples.specs.Triples.{count, exported, export_rows};
 ghost use Rattle.refusal.specs.Refusal.{answer_of};
 ghost use Rattle.import.specs.Import.{points_of, import_answer};
 ghost use Rattle.import.specs.Calls.{imported_answer};
 
-use point::Point;
 use refusal::{Refusal, Row};
 use rows::POINTS_MOST;
 use shape::Shape;
@@ -24,27 +24,24 @@ pub enum Imported {
     Refused(Row, u32),
 }
 
-// Up to so many points a shorter list is made.
+// Up to so many points shorter lists are made.
 const FEW: usize = 8;
 
-const ORIGIN: Point = Point {
-    area: 0,
-    value: 0,
-    slope: 0,
-};
-
-// Rows 1 to 6 and 14; the points go into a list of our own and, if none refuses, from there into the lent lists. Not inlined:
+// Rows 1 to 6 and 14; the points go into lists of our own and, if none refuses, from there into the lent lists. Not inlined:
 // twice in place, the curve would go through memory.
 #[inline(never)]
 fn put(
     export: Triples,
     code: u32,
-    own: &mut [Point],
+    own_areas: &mut [u32],
+    own_values: &mut [u32],
+    own_slopes: &mut [i32],
     areas: &mut [u32],
     values: &mut [u32],
     slopes: &mut [i32],
 ) -> Result<u32, Refusal>
-    requires own { bad_count (count export.bytes.now) ≡ false → count export.bytes.now ≤ length own.old }
+    requires own { bad_count (count export.bytes.now) ≡ false
+        → Room (count export.bytes.now) (length own_areas.old) (length own_values.old) (length own_slopes.old) }
     requires lent { short_list (count export.bytes.now) (length areas.old) (length values.old) (length slopes.old) ≡ false }
     ensures answer { answer_of (λ n. n) result
         ≡ (export_rows (exported export.entry.bytes.now) code then gives (count export.entry.bytes.now)) }
@@ -55,7 +52,7 @@ fn put(
     ensures slopes { slopes.new
         ≡ filled (answer_of (λ n. n) result) (map (λ p. p.slope) (points_of export.entry.bytes.now)) slopes.old }
 {
-    let curve = export.curve(code, own)?;
+    let curve = export.curve(code, own_areas, own_values, own_slopes)?;
     points::fill(&curve.points, areas, values, slopes);
     Ok(export.count() as u32)
 }
@@ -87,14 +84,25 @@ fn take(
         return Err(Row::Count.at(0));
     }
     Shape::try_from(code)?;
-    // No heap: a list of as many points as a curve can have.
+    // No heap: lists of as many points as a curve can have. (One list of points would be cleared by a call of memset.)
     if n <= FEW {
-        put(export, code, &mut [ORIGIN; FEW], areas, values, slopes)
+        put(
+            export,
+            code,
+            &mut [0; FEW],
+            &mut [0; FEW],
+            &mut [0; FEW],
+            areas,
+            values,
+            slopes,
+        )
     } else {
         put(
             export,
             code,
-            &mut [ORIGIN; POINTS_MOST],
+            &mut [0; POINTS_MOST],
+            &mut [0; POINTS_MOST],
+            &mut [0; POINTS_MOST],
             areas,
             values,
             slopes,

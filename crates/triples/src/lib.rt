@@ -1,15 +1,17 @@
 // The statistics package's points: triples of binary64 figures.
 #![tactic(auto)]
 
-ghost use Rattle.std.specs.Prelude.{◌≡◌, false, map, ◌+◌, ◌<◌, ◌≤◌, length};
+ghost use Rattle.std.specs.Prelude.{◌≡◌, false, map, ◌+◌, ◌<◌, ◌≤◌, length, take};
 ghost use Rattle.model.specs.Answer.{gives, row, ◌then◌};
+ghost use Rattle.model.specs.Points.{points as points_of_lists};
 ghost use Rattle.model.specs.Check.{bad_count};
 ghost use Rattle.refusal.specs.Refusal.{answer_at, answer_of};
-ghost use Rattle.point.specs.Inner.{point_of};
+ghost use Rattle.points.specs.Inner.{Room};
 ghost use Rattle.triples.specs.Triples.{bad_length, figure_at, triple_at, count, taken, exported, point_from, export_rows};
 ghost use Rattle.triples.specs.Inner.{triple_of, taken_point, ranged, whole_points};
 
 use point::Point;
+use points::{Lists, Points};
 use refusal::{Refusal, Row};
 use rows::Curve;
 use shape::Shape;
@@ -61,6 +63,19 @@ impl Triple {
     }
 }
 
+// The first n entries of three lists.
+fn first<'a>(n: usize, areas: &'a [u32], values: &'a [u32], slopes: &'a [i32]) -> Lists<'a>
+    requires { Room n (length areas.now) (length values.now) (length slopes.now) }
+    ensures { points_of_lists result.areas.now result.values.now result.slopes.now
+        ≡ points_of_lists (take n areas.now) (take n values.now) (take n slopes.now) }
+{
+    Lists {
+        areas: &areas[..n],
+        values: &values[..n],
+        slopes: &slopes[..n],
+    }
+}
+
 // An export: points with no header.
 #[derive(Clone, Copy)]
 pub struct Triples<'a> {
@@ -99,29 +114,40 @@ impl<'a> Triples<'a> {
         }
     }
 
-    // The points before the first with row 14, which are written into the list.
-    fn decode<'p>(&self, points: &'p mut [Point]) -> &'p [Point]
-        requires { count self.now.bytes.now ≤ length points.old }
-        ensures { map point_of result.now ≡ whole_points (exported self.now.bytes.now) }
+    // The points before the first with row 14, which are written into the lists.
+    fn decode<'p>(
+        &self,
+        areas: &'p mut [u32],
+        values: &'p mut [u32],
+        slopes: &'p mut [i32],
+    ) -> Lists<'p>
+        requires { Room (count self.now.bytes.now) (length areas.old) (length values.old) (length slopes.old) }
+        ensures { points_of_lists result.areas.now result.values.now result.slopes.now
+            ≡ whole_points (exported self.now.bytes.now) }
     {
         let n = self.count();
         for i in 0..n {
             let Some(p) = self.triple(i).point() else {
-                return &points[..i];
+                return first(i, areas, values, slopes);
             };
-            points[i] = p;
+            areas[i] = p.area;
+            values[i] = p.value;
+            slopes[i] = p.slope;
         }
-        &points[..n]
+        first(n, areas, values, slopes)
     }
 
-    // Rows 1 to 6 and 14. The points are written into the list.
+    // Rows 1 to 6 and 14. The points are written into the lists.
     pub fn curve<'p>(
         &self,
         code: u32,
-        points: &'p mut [Point],
-    ) -> Result<Curve<&'p [Point]>, Refusal>
-        requires room { bad_count (count self.now.bytes.now) ≡ false → count self.now.bytes.now ≤ length points.old }
-        ensures { answer_of (λ curve. map point_of curve.points.now) result
+        areas: &'p mut [u32],
+        values: &'p mut [u32],
+        slopes: &'p mut [i32],
+    ) -> Result<Curve<Lists<'p>>, Refusal>
+        requires room { bad_count (count self.now.bytes.now) ≡ false
+            → Room (count self.now.bytes.now) (length areas.old) (length values.old) (length slopes.old) }
+        ensures { answer_of (λ c. points_of_lists c.points.areas.now c.points.values.now c.points.slopes.now) result
             ≡ (export_rows (exported self.now.bytes.now) code
             then gives (map point_from (exported self.now.bytes.now))) }
     {
@@ -129,14 +155,14 @@ impl<'a> Triples<'a> {
         if rows::bad_count(n) {
             return Err(Row::Count.at(0));
         }
-        let whole = self.decode(points);
-        // A shorter slice says where the first is that is not whole.
-        if whole.len() == n {
+        let whole = self.decode(areas, values, slopes);
+        // Shorter lists say where the first is that is not whole.
+        if whole.count() == n {
             return Curve::new(whole, code);
         }
         Shape::try_from(code)?;
         let earlier = rows::check_points(&whole);
         earlier?;
-        Err(Row::Whole.at(whole.len() as u32))
+        Err(Row::Whole.at(whole.count() as u32))
     }
 }

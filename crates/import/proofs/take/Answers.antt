@@ -4,7 +4,7 @@ use Rattle.model.specs.Answer.{filled}
 use Rattle.model.proofs.Rows.{count_of_row_1}
 use Rattle.refusal.proofs.Results.{refused_exit}
 use Rattle.file.proofs.Filled.{after_refusal}
-use Rattle.import.proofs.Taking.{passed, refused_by_13, refused_by_11, refused_by_1, refused_by_2, rows_left}
+use Rattle.import.proofs.Taking.{passed, refused_by_13, refused_by_11, refused_by_1, refused_by_2, rows_left, own_room}
 use Rattle.import.proofs.take.Goals as goal
 
 pub returns-in_err-export-clause-answer : goal.returns-in_err-export-clause-answer
@@ -77,14 +77,14 @@ returns-in_err-try_from-clause-slopes c = after_refusal _ (refused_exit _ _ _ c.
 pub put-requires : goal.put-requires
 put-requires c =
     record {
-      own = λ _. rw (← c.count-n.ensures) c.if-n-le-FEW.true;
+      own = λ _. own_room (rw (← c.count-n.ensures) c.if-n-le-FEW.true);
       lent = rw c.count-n.ensures at (sym c.short_list.ensures ∙ c.if-short_list.false);
     }
 
 pub put-requires-else-n-le-FEW : goal.put-requires-else-n-le-FEW
 put-requires-else-n-le-FEW c =
     record {
-      own = λ counted. (count_of_row_1 _ counted).1;
+      own = λ counted. own_room (count_of_row_1 _ counted).1;
       lent = rw c.count-n.ensures at (sym c.short_list.ensures ∙ c.if-short_list.false);
     }
 

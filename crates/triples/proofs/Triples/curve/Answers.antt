@@ -1,12 +1,9 @@
 -- Row 1; then the rows of all points, or those of the points before one that is not taken, and row 14.
-use Rattle.std.proofs.Common.{◌≡◌, ◌≤◌, ℕ, Bool, false, List, map, length, sym, ◌∙◌, ap, arith}
-use lib.ListN.{length-map}
-use Rattle.model.specs.Points.{points_most}
+use Rattle.std.proofs.Common.{◌≡◌, ◌≤◌, ℕ, Bool, false, List, length, sym, ◌∙◌, ap, arith}
+use Rattle.model.specs.Points.{points_most, points, Point}
 use Rattle.model.specs.Check.{bad_count}
 use Rattle.model.proofs.Rows.{count_of_row_1}
 use Rattle.refusal.proofs.Results.{refused_exit}
-use Rattle.point.specs.declared.Point.{Point}
-use Rattle.point.specs.Inner.{point_of}
 use Rattle.rows.proofs.Passing.{code_passed}
 use Rattle.triples.specs.Triples.{count, exported}
 use Rattle.triples.specs.Inner.{whole_points}
@@ -25,13 +22,10 @@ module _ (bytes : List ℕ) where
       bad_count (length (exported bytes)) ≡ bad
   counted e f g = rw (exported_length bytes) (row_1 e f g)
 
-  -- as many points as are taken
-  size : (l : List Point) → map point_of l ≡ whole_points (exported bytes) → length l ≡ whole_count (exported bytes)
-  size l e = sym (length-map l point_of) ∙ ap length e
-
-  few : (l : List Point) → map point_of l ≡ whole_points (exported bytes) → bad_count (length (exported bytes)) ≡ false →
-      length l ≤ points_most
-  few l e n = omega (arith, size l e, at_most_all (exported bytes), count_of_row_1 _ n)
+  -- no more points are taken than there are
+  few : {ps : List Point} → ps ≡ whole_points (exported bytes) → bad_count (length (exported bytes)) ≡ false →
+      length ps ≤ points_most
+  few e n = omega (arith, ap length e, at_most_all (exported bytes), count_of_row_1 _ n)
 
 pub returns-then-bad_count : goal.returns-then-bad_count
 returns-then-bad_count c =
@@ -41,12 +35,13 @@ pub decode-whole-requires : goal.decode-whole-requires
 decode-whole-requires c =
     c.requires.room (row_1 c.args.self.now.bytes.now c.count-n.ensures c.bad_count.ensures c.if-bad_count.false)
 
-pub returns-then-whole-n : goal.returns-then-whole-n
-returns-then-whole-n c =
+pub returns-then-count-n : goal.returns-then-count-n
+returns-then-count-n c =
     let bytes = c.args.self.now.bytes.now in
     let all : whole_count (exported bytes) ≡ length (exported bytes) =
-    omega (arith, size bytes _ c.decode-whole.ensures, exported_length bytes) in
-    rw c.decode-whole.ensures at (answer_through _ (λ p. map point_of p.0.now) c.new.result _ _ c.new.ensures)
+    omega (arith, ap length c.decode-whole.ensures, exported_length bytes) in
+    rw c.decode-whole.ensures at
+    (answer_through _ (λ p. points p.0.areas.now p.0.values.now p.0.slopes.now) c.new.result _ _ c.new.ensures)
     ∙ points_given _ _ all
 
 pub returns-in_err-try_from : goal.returns-in_err-try_from
@@ -57,29 +52,29 @@ returns-in_err-try_from c =
 pub check_points-earlier-requires : goal.check_points-earlier-requires
 check_points-earlier-requires c =
     let n = counted _ c.count-n.ensures c.bad_count.ensures c.if-bad_count.false in
-    rw length-map (few _ _ c.decode-whole.ensures n)
+    few _ c.decode-whole.ensures n
 
 pub returns-in_err-earlier : goal.returns-in_err-earlier
 returns-in_err-earlier c =
     let bytes = c.args.self.now.bytes.now in
     let n = counted bytes c.count-n.ensures c.bad_count.ensures c.if-bad_count.false in
     let k = code_passed c.in_ok-try_from.ensures in
-    let s = size bytes _ c.decode-whole.ensures in
+    let s = ap length c.decode-whole.ensures in
     refused_exit _ _ _ c.from_residual-in_err-earlier.ensures.1
     ∙ refused_before_14 _ _ _ n k.0 (omega (arith, s, exported_length bytes, at_most_all (exported bytes)))
     (rw c.decode-whole.ensures at c.in_err-earlier.ensures)
 
-pub overflow_cast-whole : goal.overflow_cast-whole
-overflow_cast-whole c =
-    let n = counted _ c.count-n.ensures c.bad_count.ensures c.if-bad_count.false in
-    record { fits = omega (arith, few _ _ c.decode-whole.ensures n) }
+pub overflow_cast-count : goal.overflow_cast-count
+overflow_cast-count c =
+    let n = counted c.args.self.now.bytes.now c.count-n.ensures c.bad_count.ensures c.if-bad_count.false in
+    record { fits = omega (arith, few _ c.decode-whole.ensures n) }
 
 pub returns : goal.returns
 returns c =
     let bytes = c.args.self.now.bytes.now in
     let n = counted bytes c.count-n.ensures c.bad_count.ensures c.if-bad_count.false in
     let k = code_passed c.in_ok-try_from.ensures in
-    let s = size bytes _ c.decode-whole.ensures in
-    rw (c.at-2.ensures, s)
+    let s = ap length c.decode-whole.ensures in
+    rw (c.at-2.ensures, c.count-2.ensures, s)
     (refused_by_14 _ _ _ n k.0 (omega (arith, s, exported_length bytes, at_most_all (exported bytes)))
     (sym (rw c.decode-whole.ensures at c.in_ok-earlier.ensures)))
