@@ -79,7 +79,7 @@ fn take(
     if file::short_list(n, areas.len(), values.len(), slopes.len()) {
         return Err(Row::Room.at(0));
     }
-    // Rows 1 and 2 before the list is made and the points are decoded.
+    // Rows 1 and 2 before the lists are made and the points are decoded.
     if rows::bad_count(n) {
         return Err(Row::Count.at(0));
     }
