@@ -52,7 +52,7 @@ fn put(
     ensures slopes { slopes.new
         ≡ filled (answer_of (λ n. n) result) (map (λ p. p.slope) (points_of export.entry.bytes.now)) slopes.old }
 {
-    let curve = export.curve(code, own_areas, own_values, own_slopes)?;
+    let curve = export.curve_in_lists(code, own_areas, own_values, own_slopes)?;
     points::fill(&curve.points, areas, values, slopes);
     Ok(export.count() as u32)
 }

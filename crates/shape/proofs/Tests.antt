@@ -1,5 +1,5 @@
 -- The shape of a segment by the tests of the code. A signed number is read back from its bits where it is tested.
---   code_of_shape   the code of a shape is one
+--   bad_code_unless  a code that is none of 1 to 4; code_of_shape, that of a shape is one
 --   climbing_shape  shape 1 where the value rises: no slope is below 0; climbing_test, as a test
 --   level_shape     where it stays: both slopes are 0; level_test, as a test
 --   descending_shape   where it falls: no
@@ -12,7 +12,8 @@
 use mathlib.Core.Path.{◌≡◌, refl, ◌∙◌, ap₂}
 use mathlib.Core.Bool.{Bool, true, false, cond, ◌&&◌, ◌||◌, or-false, and-false, and_comm}
 use mathlib.Core.List.{[], ◌∷◌}
-use Prim.Native.Nat.{ℕ, ◌<◌}
+use mathlib.Core.Logic.{inl, inr}
+use Prim.Native.Nat.{ℕ, ◌≤◌, ◌<◌}
 use native.Mathlib.Omega.{arith}
 use lib.Dec.{T, eqb}
 use lib.IntN.{ℤ, pos, neg_ℤ, ◌-ℤ◌, ◌*ℤ◌, *ℤ_comm, +ℤ_invr}
@@ -25,11 +26,12 @@ use Rattle.exact.proofs.Bits.{zero_fits, lt_bits, eq_bits}
 use Rattle.exact.proofs.Integer.{*_one}
 use Rattle.exact.proofs.Ring.{ring, terms}
 use Rattle.exact.proofs.Order as Z
-use Rattle.exact.proofs.Tests.{le_z_not_lt_z, same_test, T_true}
+use Rattle.exact.proofs.Tests.{true_or_false, le_z_not_lt_z, same_test, T_true}
 use Rattle.model.specs.Points.{Point, gradient, Segment, rising, convex, mirror, mirror_segment, rule_of}
 use Rattle.model.specs.Shape.{rises, bends, fits, has_shape, segment_test}
 use Rattle.model.specs.Check.{bad_code}
 use Rattle.model.specs.Inner.{Neighbours}
+use Rattle.model.proofs.Rows.{code_of_row_2}
 use Rattle.model.proofs.Curves.{climbs, flat, rise_kind}
 use Rattle.model.proofs.Segments.{gap, rise, e₀, g, e₁}
 use Rattle.point.proofs.Figures.{slope_fits, slope_read}
@@ -51,6 +53,12 @@ or_as_cond true x y h = rw (h refl) (or-false x)
 or_as_cond false x y h = refl
 
 -- ---- row 2
+
+pub bad_code_unless : (code : ℕ) → (1 ≤ code → code ≤ 4 → ⊥) → bad_code code ≡ true
+bad_code_unless code n = elim (true_or_false (bad_code code)) [
+  | inl e ↦ e
+  | inr e ↦ let k = code_of_row_2 code e in absurd (n k.0 k.1)
+]
 
 pub code_of_shape : (shape : code.Shape) → bad_code (code_of shape) ≡ false
 unfolding bad_code

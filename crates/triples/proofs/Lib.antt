@@ -3,4 +3,5 @@ mod Limits
 mod Taking
 mod Rows
 mod Decoding
+mod OneList
 pub mod Sizes

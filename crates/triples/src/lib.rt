@@ -6,6 +6,7 @@ ghost use Rattle.model.specs.Answer.{gives, row, ◌then◌};
 ghost use Rattle.model.specs.Points.{points as points_of_lists};
 ghost use Rattle.model.specs.Check.{bad_count};
 ghost use Rattle.refusal.specs.Refusal.{answer_at, answer_of};
+ghost use Rattle.point.specs.Inner.{point_of};
 ghost use Rattle.points.specs.Inner.{Room};
 ghost use Rattle.triples.specs.Triples.{bad_length, figure_at, triple_at, count, taken, exported, point_from, export_rows};
 ghost use Rattle.triples.specs.Inner.{triple_of, taken_point, ranged, whole_points};
@@ -13,7 +14,7 @@ ghost use Rattle.triples.specs.Inner.{triple_of, taken_point, ranged, whole_poin
 use point::Point;
 use points::{Lists, Points};
 use refusal::{Refusal, Row};
-use rows::Curve;
+use rows::{Curve, POINTS_MOST};
 use shape::Shape;
 
 // Bytes of each point.
@@ -74,6 +75,18 @@ fn first<'a>(n: usize, areas: &'a [u32], values: &'a [u32], slopes: &'a [i32]) -
         values: &values[..n],
         slopes: &slopes[..n],
     }
+}
+
+// Points, written into the first entries of a list.
+fn listed<'p, P: Points>(from: &P, points: &'p mut [Point]) -> &'p [Point]
+    requires { length (P.points from.now) ≤ length points.old }
+    ensures { map point_of result.now ≡ P.points from.now }
+{
+    let n = from.count();
+    for i in 0..n {
+        points[i] = from.point(i);
+    }
+    &points[..n]
 }
 
 // An export: points with no header.
@@ -138,7 +151,7 @@ impl<'a> Triples<'a> {
     }
 
     // Rows 1 to 6 and 14. The points are written into the lists.
-    pub fn curve<'p>(
+    pub fn curve_in_lists<'p>(
         &self,
         code: u32,
         areas: &'p mut [u32],
@@ -164,5 +177,87 @@ impl<'a> Triples<'a> {
         let earlier = rows::check_points(&whole);
         earlier?;
         Err(Row::Whole.at(whole.count() as u32))
+    }
+
+    // The same; the points are written into one list.
+    #[tactic(auto, using(crate::proofs::OneList::room_of_row_1))]
+    pub fn curve<'p>(
+        &self,
+        code: u32,
+        points: &'p mut [Point],
+    ) -> Result<Curve<&'p [Point]>, Refusal>
+        requires room { bad_count (count self.now.bytes.now) ≡ false → count self.now.bytes.now ≤ length points.old }
+        ensures { answer_of (λ curve. map point_of curve.points.now) result
+            ≡ (export_rows (exported self.now.bytes.now) code
+            then gives (map point_from (exported self.now.bytes.now))) }
+    {
+        // No heap: lists of as many points as a curve can have.
+        let mut areas = [0; POINTS_MOST];
+        let mut values = [0; POINTS_MOST];
+        let mut slopes = [0; POINTS_MOST];
+        let curve = self.curve_in_lists(code, &mut areas, &mut values, &mut slopes)?;
+        Ok(Curve {
+            points: listed(&curve.points, points),
+            shape: curve.shape,
+        })
+    }
+}
+
+#[cfg(test)]
+mod tests {
+    use super::*;
+
+    // 500, 10000, 0 and 600, 14000, 10000, as Python's struct.pack("<6d", ..) writes them.
+    const TWO_POINTS: [u8; 48] = [
+        0, 0, 0, 0, 0, 64, 127, 64, 0, 0, 0, 0, 0, 136, 195, 64, 0, 0, 0, 0, 0, 0, 0, 0, //
+        0, 0, 0, 0, 0, 192, 130, 64, 0, 0, 0, 0, 0, 88, 203, 64, 0, 0, 0, 0, 0, 136, 195, 64,
+    ];
+
+    const ORIGIN: Point = Point {
+        area: 0,
+        value: 0,
+        slope: 0,
+    };
+
+    #[test]
+    fn points_in_one_list(rt: HostRuntime) {
+        let mut points = [ORIGIN; 3];
+        let export = Triples::new(&TWO_POINTS).expect(&rt, "48 bytes");
+        assert_eq!(rt; export.count(), 2);
+        let curve = export
+            .curve(1, &mut points)
+            .expect(&rt, "an accepted curve");
+        assert_eq!(rt; curve.shape, Shape::Rising);
+        assert_eq!(rt; curve.points.len(), 2);
+        assert_eq!(rt;
+            curve.points[0],
+            Point {
+                area: 500,
+                value: 10000,
+                slope: 0
+            }
+        );
+        assert_eq!(rt;
+            curve.points[1],
+            Point {
+                area: 600,
+                value: 14000,
+                slope: 10000
+            }
+        );
+    }
+
+    #[test]
+    fn half_refused_by_14(rt: HostRuntime) {
+        let mut points = [ORIGIN; 2];
+        let mut bytes = TWO_POINTS;
+        // The second area, 600, becomes 0.5.
+        bytes[29] = 0;
+        bytes[30] = 224;
+        bytes[31] = 63;
+        let export = Triples::new(&bytes).expect(&rt, "48 bytes");
+        assert_eq!(rt; export.count(), 2);
+        let refusal = export.curve(1, &mut points).err();
+        assert_eq!(rt; refusal, Some(Row::Whole.at(1)));
     }
 }

@@ -5,8 +5,8 @@ use Rattle.file.proofs.Filled.{after_refusal}
 use Rattle.import.proofs.Taking.{refused_by_points, all_pass, given, few, room, after_list}
 use Rattle.import.proofs.put.Goals as goal
 
-pub curve-requires : goal.curve-requires
-curve-requires c = record { room = c.requires.own }
+pub curve_in_lists-requires : goal.curve_in_lists-requires
+curve_in_lists-requires c = record { room = c.requires.own }
 
 pub returns-in_err-curve-clause-answer : goal.returns-in_err-curve-clause-answer
 returns-in_err-curve-clause-answer c = refused_exit _ _ _ c.from_residual.ensures.1 ∙ refused_by_points _ _ c.in_err-curve.ensures
